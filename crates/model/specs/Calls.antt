@@ -1,0 +1,183 @@
+-- Every call as a function of all that it is lent, giving all that it returns and leaves. Each has its reasons to be refused
+-- in the order of document 01's table; a refused call leaves tables and buffers, and returns 0 for every other number.
+use mathlib.Core.Bool.{Bool, true, false, not, _||_, cond}
+use mathlib.Core.List.{List, [], _∷_, _++_}
+use Prim.Native.Nat.{ℕ}
+use lib.Dec.{eqb, ltb}
+use lib.IntN.{ℤ}
+use lib.ListN.{length, drop}
+use Rattle.model.specs.Lists.{headOr, nodes}
+use Rattle.model.specs.Graph.{Graph, emptyGraph}
+use Rattle.model.specs.Grouping.{kindOf}
+use Rattle.model.specs.Tables.{Tables, tablesOf, graphOf, groupIn, holds}
+use Rattle.model.specs.Refusals.{Reasons, firstOf, lengths, wrongSize}
+use Rattle.model.specs.Updates.{updateCount, wrongBatch, inThrees, batchGraph, answers}
+use Rattle.model.specs.Queries.{neighbours, kindNumber}
+use Rattle.model.specs.Release.{isVisible, visible, visibleGroups, superedgeCount, release}
+use Rattle.model.specs.Reading.{decode, isRelease}
+
+-- refused by the first reason that holds, else done
+abbrev pub judged : {A : Type 0} → Reasons → (ℕ → A) → A → A
+judged rs refused done = cond (eqb (firstOf rs) 0) done (refused (firstOf rs))
+
+-- a lent buffer with xs written at its start; what stands beyond keeps its value
+abbrev pub onto : {A : Type 0} → List A → List A → List A
+onto xs out = xs ++ drop (length xs) out
+
+-- open a graph without edges
+pub record Opened : Type 0 where
+  pub result : ℕ
+  pub tables : Tables
+
+unfoldable pub openReasons : ℕ → Tables → Reasons
+openReasons n t = (wrongSize n (lengths t), 11) ∷ []
+
+unfoldable pub openCall : ℕ → Tables → Opened
+openCall n t =
+    judged (openReasons n t)
+    (λ r. record { result = r; tables = t })
+    (record { result = 0; tables = tablesOf (emptyGraph n) })
+
+-- apply a batch (a sheet)
+pub record Applied : Type 0 where
+  pub result : ℕ
+  pub tables : Tables
+  pub answers : List ℤ
+
+unfoldable pub applyReasons : ℕ → Tables → List ℕ → List ℤ → Reasons
+applyReasons n t xs out =
+    (wrongSize n (lengths t) || wrongBatch xs, 11)
+    ∷ (not (holds n t), 12)
+    ∷ (ltb (length out) (updateCount xs), 18)
+    ∷ []
+
+unfoldable pub applyCall : ℕ → Tables → List ℕ → List ℤ → Applied
+applyCall n t xs out =
+    judged (applyReasons n t xs out)
+    (λ r. record { result = r; tables = t; answers = out })
+    (record { result = 0; tables = tablesOf (batchGraph (graphOf n t) (inThrees xs)); answers = onto (answers (graphOf n t) (inThrees xs)) out })
+
+-- neighbours of p
+pub record Listed : Type 0 where
+  pub result : ℕ
+  pub count : ℕ
+  pub out : List ℕ
+
+unfoldable pub neighboursReasons : ℕ → Tables → ℕ → List ℕ → Reasons
+neighboursReasons n t p out =
+    (wrongSize n (lengths t), 11)
+    ∷ (not (holds n t), 12)
+    ∷ (not (ltb p n), 14)
+    ∷ (ltb (length out) (length (neighbours (graphOf n t) p)), 18)
+    ∷ []
+
+unfoldable pub neighboursCall : ℕ → Tables → ℕ → List ℕ → Listed
+neighboursCall n t p out =
+    judged (neighboursReasons n t p out)
+    (λ r. record { result = r; count = 0; out = out })
+    (record { result = 0; count = length (neighbours (graphOf n t) p); out = onto (neighbours (graphOf n t) p) out })
+
+-- tied or not
+pub record Tied : Type 0 where
+  pub result : ℕ
+  pub yes : Bool
+
+unfoldable pub tiedReasons : ℕ → Tables → ℕ → ℕ → Reasons
+tiedReasons n t p q =
+    (wrongSize n (lengths t), 11)
+    ∷ (not (holds n t), 12)
+    ∷ (not (ltb p n) || not (ltb q n), 14)
+    ∷ (eqb p q, 15)
+    ∷ []
+
+unfoldable pub tiedCall : ℕ → Tables → ℕ → ℕ → Tied
+tiedCall n t p q =
+    judged (tiedReasons n t p q)
+    (λ r. record { result = r; yes = false })
+    (record { result = 0; yes = graphOf n t .edge p q })
+
+-- the group of p
+pub record Grouped : Type 0 where
+  pub result : ℕ
+  pub least : ℕ
+  pub kind : ℕ
+  pub size : ℕ
+
+unfoldable pub groupReasons : ℕ → Tables → ℕ → Reasons
+groupReasons n t p =
+    (wrongSize n (lengths t), 11)
+    ∷ (not (holds n t), 12)
+    ∷ (not (ltb p n), 14)
+    ∷ []
+
+unfoldable pub groupCall : ℕ → Tables → ℕ → Grouped
+groupCall n t p =
+    judged (groupReasons n t p)
+    (λ r. record { result = r; least = 0; kind = 0; size = 0 })
+    (record {
+      result = 0;
+      least = headOr p (groupIn (graphOf n t) p);
+      kind = kindNumber (kindOf (graphOf n t .edge) (groupIn (graphOf n t) p));
+      size = length (groupIn (graphOf n t) p);
+    })
+
+-- write a release: its visible nodes m, groups g, superedges s and length
+pub record Released : Type 0 where
+  pub result : ℕ
+  pub nodes : ℕ
+  pub groups : ℕ
+  pub superedges : ℕ
+  pub bytes : ℕ
+  pub out : List ℕ
+
+unfoldable pub releaseReasons : ℕ → Tables → List ℕ → Reasons
+releaseReasons n t out =
+    (wrongSize n (lengths t), 11)
+    ∷ (not (holds n t), 12)
+    ∷ (ltb (length out) (length (release (graphOf n t))), 18)
+    ∷ []
+
+-- what is written where the buffer is long enough
+unfoldable pub released : Graph → List ℕ → Released
+released g out = record {
+  result = 0;
+  nodes = length (visible g);
+  groups = length (visibleGroups g);
+  superedges = superedgeCount g;
+  bytes = length (release g);
+  out = onto (release g) out;
+}
+
+unfoldable pub releaseCall : ℕ → Tables → List ℕ → Released
+releaseCall n t out =
+    judged (releaseReasons n t out)
+    (λ r. record { result = r; nodes = 0; groups = 0; superedges = 0; bytes = 0; out = out })
+    (released (graphOf n t) out)
+
+-- read a release back into tables
+unfoldable pub readReasons : ℕ → Tables → List ℕ → Reasons
+readReasons n t file =
+    (wrongSize n (lengths t), 11)
+    ∷ (not (isRelease file), 19)
+    ∷ (not (eqb (decode file .nodeCount) n), 20)
+    ∷ []
+
+unfoldable pub readCall : ℕ → Tables → List ℕ → Opened
+readCall n t file =
+    judged (readReasons n t file)
+    (λ r. record { result = r; tables = t })
+    (record { result = 0; tables = tablesOf (decode file) })
+
+-- neighbours of p, asked of a file
+unfoldable pub fileNeighboursReasons : List ℕ → ℕ → List ℕ → Reasons
+fileNeighboursReasons file p out =
+    (not (isRelease file), 19)
+    ∷ (not (isVisible (decode file) p), 14)
+    ∷ (ltb (length out) (length (neighbours (decode file) p)), 18)
+    ∷ []
+
+unfoldable pub fileNeighboursCall : List ℕ → ℕ → List ℕ → Listed
+fileNeighboursCall file p out =
+    judged (fileNeighboursReasons file p out)
+    (λ r. record { result = r; count = 0; out = out })
+    (record { result = 0; count = length (neighbours (decode file) p); out = onto (neighbours (decode file) p) out })

@@ -1,0 +1,29 @@
+-- Document 01, "Numbers for a refused call or change": a call or update lists its reasons, each a test with its number, in
+-- the order in which they are tested. The first reason whose test holds is given; 0 means done.
+use mathlib.Core.Bool.{Bool, true, false, _&&_, _||_, cond, not}
+use mathlib.Core.List.{List, [], _∷_}
+use Prim.Native.Nat.{ℕ, _*_}
+use lib.Dec.{eqb, ltb}
+use lib.ListN.{length}
+use Rattle.model.specs.Graph.{maxNodes, rowWords, nodeNumbers}
+use Rattle.model.specs.Tables.{Tables}
+
+abbrev pub Reasons : Type 0
+Reasons = List (Bool × ℕ)
+
+unfoldable pub firstOf : Reasons → ℕ
+firstOf [] = 0
+firstOf (t ∷ ts) = cond (t .0) (t .1) (firstOf ts)
+
+-- tables by their lengths alone
+pub record Lengths : Type 0 where
+  pub edges : ℕ
+  pub nodes : ℕ
+  pub keys : ℕ
+
+unfoldable pub lengths : Tables → Lengths
+lengths t = record { edges = length (t .edges); nodes = length (t .nodes); keys = length (t .keys) }
+
+-- 11: n over 512, or a table of the wrong length
+unfoldable pub wrongSize : ℕ → Lengths → Bool
+wrongSize n l = ltb maxNodes n || (not (eqb (l .edges) (rowWords * n)) || (not (eqb (l .nodes) (nodeNumbers * n)) || not (eqb (l .keys) (2 * n))))

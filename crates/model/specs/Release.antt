@@ -1,0 +1,68 @@
+-- Document 01, "Release file": the visible part of a graph and its file, record by record.
+use mathlib.Core.Bool.{Bool, not, _&&_, cond}
+use mathlib.Core.List.{List, [], _∷_, _++_, map}
+use Prim.Native.Nat.{ℕ, suc, _/_, _%_}
+use lib.Dec.{ltb}
+use lib.ListN.{length}
+use Rattle.model.specs.Lists.{filter, concat, nodes}
+use Rattle.model.specs.Graph.{Graph}
+use Rattle.model.specs.Grouping.{algorithm1, adjacent, kindOf, Kind, singleton, independent, clique}
+
+-- visible (open) nodes, and the edges between visible nodes only
+unfoldable pub isVisible : Graph → ℕ → Bool
+isVisible g p = ltb p (g .nodeCount) && not (g .hidden p)
+
+unfoldable pub visible : Graph → List ℕ
+visible g = filter (isVisible g) (nodes (g .nodeCount))
+
+unfoldable pub visibleEdge : Graph → ℕ → ℕ → Bool
+visibleEdge g p q = isVisible g p && (isVisible g q && g .edge p q)
+
+-- groups are worked out on those, not taken from the whole graph
+unfoldable pub visibleGroups : Graph → List (List ℕ)
+visibleGroups g = algorithm1 (visible g) (visibleEdge g)
+
+-- numbers have 16 bits, low byte first
+unfoldable pub u16 : ℕ → List ℕ
+u16 x = x % 256 ∷ x / 256 ∷ []
+
+-- the records, each with its mark of two fixed bytes
+unfoldable pub headRecord : ℕ → ℕ → ℕ → List ℕ
+headRecord n m g = 0x48 ∷ 0x44 ∷ (u16 n ++ (u16 m ++ u16 g))
+
+unfoldable pub kindByte : Kind → ℕ
+kindByte singleton = 0x49
+kindByte independent = 0x49
+kindByte clique = 0x43
+
+unfoldable pub groupRecord : (ℕ → ℕ → Bool) → List ℕ → List ℕ
+groupRecord e g = 0x47 ∷ kindByte (kindOf e g) ∷ (u16 (length g) ++ concat (map u16 g))
+
+unfoldable pub superedgeRecord : ℕ × ℕ → List ℕ
+superedgeRecord ij = 0x53 ∷ 0x45 ∷ (u16 (ij .0) ++ u16 (ij .1))
+
+unfoldable pub endRecord : List ℕ
+endRecord = 0x45 ∷ 0x4E ∷ []
+
+-- the positions of group g, at i, with each group that it has a superedge to among hs, which stand from position j on
+unfoldable pub superedgesFrom : (ℕ → ℕ → Bool) → ℕ → List ℕ → ℕ → List (List ℕ) → List (ℕ × ℕ)
+superedgesFrom e i g j [] = []
+superedgesFrom e i g j (h ∷ hs) = cond (adjacent e g h) ((i, j) ∷ superedgesFrom e i g (suc j) hs) (superedgesFrom e i g (suc j) hs)
+
+-- superedges by first, then second position, of groups that stand from position i on
+unfoldable pub superedges : (ℕ → ℕ → Bool) → ℕ → List (List ℕ) → List (ℕ × ℕ)
+superedges e i [] = []
+superedges e i (g ∷ gs) = superedgesFrom e i g (suc i) gs ++ superedges e (suc i) gs
+
+unfoldable pub superedgeCount : Graph → ℕ
+superedgeCount g = length (superedges (visibleEdge g) 0 (visibleGroups g))
+
+-- the file of n nodes, of which vs are visible with the edges e and the groups gs
+unfoldable pub encode : ℕ → List ℕ → (ℕ → ℕ → Bool) → List (List ℕ) → List ℕ
+encode n vs e gs = headRecord n (length vs) (length gs) ++ (concat (map (groupRecord e) gs) ++ (concat (map superedgeRecord (superedges e 0 gs)) ++ endRecord))
+
+unfoldable pub release : Graph → List ℕ
+release g =
+    let vs : List ℕ = visible g in
+    let gs : List (List ℕ) = algorithm1 vs (visibleEdge g) in
+    encode (g .nodeCount) vs (visibleEdge g) gs
