@@ -176,10 +176,10 @@ changed u v s t r apart f g = record {
   size = g .size ∙ f .size;
   words = λ h. g .words (f .words h);
   bits =
-    λ a b l.
-    g .bits a b l
-    ∙ ap (λ (x : Bool). cond (eqb a v && eqb b u) (not x) x) (f .bits a b l)
-    ∙ two-flips (eqb a u && eqb b v) (eqb a v && eqb b u) (edgeBit s a b) (λ x y. apart (sym (eqb-true a u (and-fst (eqb a u) (eqb b v) x)) ∙ eqb-true a v (and-fst (eqb a v) (eqb b u) y)));
+      λ a b l.
+      g .bits a b l
+      ∙ ap (λ (x : Bool). cond (eqb a v && eqb b u) (not x) x) (f .bits a b l)
+      ∙ two-flips (eqb a u && eqb b v) (eqb a v && eqb b u) (edgeBit s a b) (λ x y. apart (sym (eqb-true a u (and-fst (eqb a u) (eqb b v) x)) ∙ eqb-true a v (and-fst (eqb a v) (eqb b u) y)));
 }
 
 -- the same, at a place and by a mask that the code has found

@@ -13,8 +13,11 @@ pub struct Graph {
 
 impl Graph {
     pub const NODES: usize = 512;
+
     pub const UPDATES: usize = 4096;
+
     pub const ROW_WORDS: usize = 8;
+
     pub const NODE_NUMBERS: usize = 4;
 }
 
