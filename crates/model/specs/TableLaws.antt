@@ -1,6 +1,6 @@
 -- Tables made of a graph are read as that graph.
 use mathlib.Core.Path.{_≡_, refl, sym, ap, _∙_, fun-ext}
-use mathlib.Core.Bool.{Bool, true, false, _&&_, cond}
+use mathlib.Core.Bool.{Bool, true, false, not, _&&_, cond, Bool·beq}
 use mathlib.Core.List.{List, [], _∷_, _++_, map}
 use mathlib.Core.Logic.{_⊎_, inl, inr}
 use Prim.Native.Nat.{ℕ, suc, zero, _+_, _*_, _/_, _%_, _^_, _≤_, _<_}
@@ -9,12 +9,12 @@ use native.Mathlib.Omega.{arith}
 use lib.Dec.{eqb, ltb}
 use lib.ListN.{length, getD, length-append, List·getD-append}
 use lib.Seq.{getD-append-add}
-use borrow.Author.Tests.{eq-eqb, ne-eqb, ltb-true, ltb-false}
-use Rattle.model.specs.Lists.{concat, from, nodes}
-use Rattle.model.specs.Graph.{Graph}
-use Rattle.model.specs.Tables.{bitAt, edgeBit, edgesOf, graphOf, keyPair, keysOf, nodeNumber, nodeOf, nodesOf, rowOf, tablesOf, word}
-use Rattle.model.specs.TestLaws.{decide}
-use Rattle.model.specs.ListLaws.{length-from}
+use borrow.Author.Tests.{eq-eqb, ne-eqb, ltb-true, ltb-false, not-true}
+use Rattle.model.specs.Lists.{all, concat, from, nodes, sameList}
+use Rattle.model.specs.Graph.{Graph, maxNodes}
+use Rattle.model.specs.Tables.{Tables, bitAt, edgeBit, edgesOf, graphOf, holds, keyPair, keysOf, nodeNumber, nodeOf, nodesOf, rowOf, simple, tablesOf, word}
+use Rattle.model.specs.TestLaws.{and-fst, and-snd, and-true, beq-eq, decide, eq-beq, iff-eq}
+use Rattle.model.specs.ListLaws.{all-elim, all-intro, length-from, nodes-in, same-eq, same-refl}
 
 double : (b : Bool) (k : ℕ) → cond b (2 ^ suc k) 0 ≡ 2 * cond b (2 ^ k) 0
 double true k = pow-succ' 2 k
@@ -157,3 +157,63 @@ length-nodes-of b = omega (arith, length-blocks (nodeOf b) 4 (length-node b) (no
 pub length-keys : (b : Graph) → length (keysOf b) ≡ 2 * b .nodeCount
 unfolding keysOf keyPair
 length-keys b = omega (arith, length-blocks (keyPair b) 2 (λ p. refl) (nodes (b .nodeCount)), length-nodes (b .nodeCount))
+
+-- the test of a simple graph
+pub simple-test : (g : Graph) → Proper g → simple g ≡ true
+unfolding simple
+simple-test g h = all-intro (nodes (g .nodeCount)) _ (λ p m. and-true (ap not (h .irreflexive p)) (all-intro (nodes (g .nodeCount)) _ (λ q k. eq-beq (g .edge p q) (g .edge q p) (h .symmetric p q))))
+
+module _ (g : Graph) (h : simple g ≡ true) where
+  simple-row : (p : ℕ) → p < g .nodeCount → (not (g .edge p p) && all (nodes (g .nodeCount)) (λ q. Bool·beq (g .edge p q) (g .edge q p))) ≡ true
+  unfolding simple
+  simple-row p l = all-elim (nodes (g .nodeCount)) _ h p (nodes-in (g .nodeCount) p l)
+
+  pub simple-loop : (p : ℕ) → p < g .nodeCount → g .edge p p ≡ false
+  simple-loop p l = not-true (g .edge p p) (and-fst (not (g .edge p p)) _ (simple-row p l))
+
+  pub simple-edge : (p q : ℕ) → p < g .nodeCount → q < g .nodeCount → g .edge p q ≡ g .edge q p
+  simple-edge p q l m = beq-eq (g .edge p q) (g .edge q p) (all-elim (nodes (g .nodeCount)) (λ q. Bool·beq (g .edge p q) (g .edge q p)) (and-snd (not (g .edge p p)) _ (simple-row p l)) q (nodes-in (g .nodeCount) q m))
+
+  -- a simple graph whose edges and marks lie inside is proper
+  pub simple-proper : g .nodeCount ≤ maxNodes → ((p q : ℕ) → g .edge p q ≡ true → (p < g .nodeCount) × (q < g .nodeCount)) → ((p : ℕ) → g .hidden p ≡ true → p < g .nodeCount) → Proper g
+  simple-proper small ends held = record {
+    small = small;
+    symmetric = λ p q. iff-eq (g .edge p q) (g .edge q p) (turn p q) (turn q p);
+    irreflexive = λ p. self p (decide (g .edge p p));
+    inside = λ p q e. ends p q e .0;
+    held = held;
+  }
+    where
+      turn : (p q : ℕ) → g .edge p q ≡ true → g .edge q p ≡ true
+      turn p q e = let i = ends p q e in sym (simple-edge p q (i .0) (i .1)) ∙ e
+
+      self : (p : ℕ) → (g .edge p p ≡ true) ⊎ (g .edge p p ≡ false) → g .edge p p ≡ false
+      self p (inl e) = simple-loop p (ends p p e .0)
+      self p (inr e) = e
+
+-- tables of a proper graph hold it
+pub proper-holds : (g : Graph) → Proper g → holds (g .nodeCount) (tablesOf g) ≡ true
+unfolding holds
+proper-holds g h = rw (read-back g h) (and-true (simple-test g h) (and-true (same-refl (tablesOf g .edges)) (and-true (same-refl (tablesOf g .nodes)) (same-refl (tablesOf g .keys)))))
+
+-- tables that hold a graph are that graph's, and it is proper
+module _ (n : ℕ) (t : Tables) (h : holds n t ≡ true) where
+  pub held-tables : t ≡ tablesOf (graphOf n t)
+  unfolding holds
+  held-tables =
+      let a = and-snd (simple (graphOf n t)) _ h in
+      let b = and-snd (sameList (t .edges) (tablesOf (graphOf n t) .edges)) _ a in
+      let e = same-eq (t .edges) (tablesOf (graphOf n t) .edges) (and-fst (sameList (t .edges) (tablesOf (graphOf n t) .edges)) _ a) in
+      let d = same-eq (t .nodes) (tablesOf (graphOf n t) .nodes) (and-fst (sameList (t .nodes) (tablesOf (graphOf n t) .nodes)) _ b) in
+      let k = same-eq (t .keys) (tablesOf (graphOf n t) .keys) (and-snd (sameList (t .nodes) (tablesOf (graphOf n t) .nodes)) _ b) in
+      λ i. record { edges = e i; nodes = d i; keys = k i }
+
+  pub held-proper : n ≤ maxNodes → Proper (graphOf n t)
+  unfolding holds
+  held-proper small = simple-proper (graphOf n t) (and-fst (simple (graphOf n t)) _ h) (unfold graphOf in small) ends held
+    where
+      ends : (p q : ℕ) → graphOf n t .edge p q ≡ true → (p < graphOf n t .nodeCount) × (q < graphOf n t .nodeCount)
+      ends p q e = unfold graphOf in (ltb-true p n (and-fst (ltb p n) _ e), ltb-true q n (and-fst (ltb q n) _ (and-snd (ltb p n) _ e)))
+
+      held : (p : ℕ) → graphOf n t .hidden p ≡ true → p < graphOf n t .nodeCount
+      held p e = unfold graphOf in (ltb-true p n (and-fst (ltb p n) _ e))
