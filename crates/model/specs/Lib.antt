@@ -17,3 +17,11 @@ pub mod TwinLaws
 pub mod ClassLaws
 pub mod SummaryLaws
 pub mod FewestLaws
+pub mod TableLaws
+pub mod ReleaseLaws
+pub mod BoundLaws
+pub mod UpdateLaws
+pub mod CallLaws
+pub mod HistoryLaws
+pub mod ReadingLaws
+pub mod ReadBackLaws
