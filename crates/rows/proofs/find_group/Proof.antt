@@ -1,39 +1,30 @@
+-- Trying rows and keys is asking who is similar.
 use native.Mathlib.Omega.{arith}
-use Rattle.rows.specs.SearchLaws.{ready-edges, ready-keys, row-length, search-joins}
 use borrow.Author.Needs.{needs}
+use Rattle.rows.specs.SearchLaws.{ready-edges, ready-keys, row-length, search-joins}
 use Rattle.rows.proofs.find_group.Statement.{statement}
 use Rattle.rows.proofs.find_group.Tie as tie
-use Rattle.rows.proofs.find_group.Reads as reads
-use Rattle.rows.proofs.find_group.Lts as lts
-use Rattle.rows.proofs.find_twin.Reads as find-twin-reads
 
--- src/lib.rt:241:13
 mul-a : tie.Need-mul-a
 mul-a c = search needs
 
--- src/lib.rt:242:54
 add-find-twin : tie.Need-add-find-twin
 add-find-twin c = search needs
 
--- src/lib.rt:242:44
 mul-find-twin : tie.Need-mul-find-twin
 mul-find-twin c = search needs
 
--- src/lib.rt:242:44
 sub-find-twin : tie.Need-sub-find-twin
 sub-find-twin c = search needs
 
--- src/lib.rt:242:44
 part-find-twin-start : tie.Need-part-find-twin-start
 part-find-twin-start c = search needs
 
--- src/lib.rt:242:44
 part-find-twin-end : tie.Need-part-find-twin-end
 part-find-twin-end c =
     let rows = ready-edges _ _ _ (c .before .before .before .pre .0) in
     search needs
 
--- src/lib.rt:242:5
 find-twin-requires : tie.Need-find-twin-requires
 find-twin-requires c κs =
     let start = c .before .before .before .before in
@@ -42,7 +33,6 @@ find-twin-requires c κs =
     let pairs = ready-keys _ _ _ (start .pre .0) in
     (omega arith, omega arith, omega arith, omega arith, omega arith, omega arith, row-length (start .args .edges .now) (start .args .u) (omega arith))
 
--- src/lib.rt:236:1
 returns : tie.Need-returns
 returns c =
     let start = c .before .before .before .before .before in

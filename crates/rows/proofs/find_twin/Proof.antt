@@ -1,3 +1,4 @@
+-- Outer invariant: no group before q is the one. Inner invariant: the words before i agree, and q is where it was.
 use mathlib.Core.Path.{_≡_, refl}
 use mathlib.Core.Bool.{false}
 use Prim.Native.Nat.{ℕ, _-_, _≤_, _<_}
@@ -10,11 +11,6 @@ use Rattle.rows.specs.Search.{ownBits, tried}
 use Rattle.rows.specs.SearchLaws.{first-found, first-none, tried-agrees, tried-differs, tried-not, word-met}
 use Rattle.rows.proofs.find_twin.Statement.{statement}
 use Rattle.rows.proofs.find_twin.Tie as tie
-use Rattle.rows.proofs.find_twin.Reads as reads
-use Rattle.rows.proofs.find_twin.Lts as lts
-use Rattle.rows.proofs.key_agrees.Reads as key-agrees-reads
-use Rattle.rows.proofs.may_join.Reads as may-join-reads
-use Rattle.rows.proofs.own_bits.Reads as own-bits-reads
 
 abbrev Inv-loop : tie.InvT-loop
 Inv-loop edges nodes keys m u w row q₀ closed a other i₀ q i = (q ≡ q₀) × (i ≤ 8) × ((k : ℕ) → k < i → bitXor (getD row k 0) (getD other k 0) ≡ ownBits closed u q₀ k)
@@ -28,75 +24,57 @@ Inv-groups edges nodes keys m u w row q₀ q = (q ≤ m) × ((k : ℕ) → k < q
 abbrev μ-groups : tie.MeasureT-groups
 μ-groups edges nodes keys m u w row q₀ q = m - q
 
--- src/lib.rt:215:5
 groups-holds : tie.Need-groups-holds Inv-loop μ-loop Inv-groups μ-groups
 groups-holds c = (search needs, below-none _)
 
--- src/lib.rt:216:12
 may-join-requires : tie.Need-may-join-requires Inv-loop μ-loop Inv-groups μ-groups
 may-join-requires c κs = search needs
 
--- src/lib.rt:217:27
 key-agrees-requires : tie.Need-key-agrees-requires Inv-loop μ-loop Inv-groups μ-groups
 key-agrees-requires c κs = search needs
 
--- src/lib.rt:218:21
 mul-a : tie.Need-mul-a Inv-loop μ-loop Inv-groups μ-groups
 mul-a c = search needs
 
--- src/lib.rt:219:35
 add-other : tie.Need-add-other Inv-loop μ-loop Inv-groups μ-groups
 add-other c = search needs
 
--- src/lib.rt:219:25
 mul-other : tie.Need-mul-other Inv-loop μ-loop Inv-groups μ-groups
 mul-other c = search needs
 
--- src/lib.rt:219:25
 sub-other : tie.Need-sub-other Inv-loop μ-loop Inv-groups μ-groups
 sub-other c = search needs
 
--- src/lib.rt:219:25
 part-other-start : tie.Need-part-other-start Inv-loop μ-loop Inv-groups μ-groups
 part-other-start c = search needs
 
--- src/lib.rt:219:25
 part-other-end : tie.Need-part-other-end Inv-loop μ-loop Inv-groups μ-groups
 part-other-end c = search needs
 
--- src/lib.rt:221:13
 loop-holds : tie.Need-loop-holds Inv-loop μ-loop Inv-groups μ-groups
 loop-holds c = (refl, search needs, below-none _)
 
--- src/lib.rt:222:20
 mul-if2 : tie.Need-mul-if2 Inv-loop μ-loop Inv-groups μ-groups
 mul-if2 c = search needs
 
--- src/lib.rt:222:20
 shared-slice-read-if2 : tie.Need-shared-slice-read-if2 Inv-loop μ-loop Inv-groups μ-groups
 shared-slice-read-if2 c = search needs
 
--- src/lib.rt:222:29
 mul-if2-2 : tie.Need-mul-if2-2 Inv-loop μ-loop Inv-groups μ-groups
 mul-if2-2 c = search needs
 
--- src/lib.rt:222:29
 shared-slice-read-if2-2 : tie.Need-shared-slice-read-if2-2 Inv-loop μ-loop Inv-groups μ-groups
 shared-slice-read-if2-2 c = search needs
 
--- src/lib.rt:222:41
 own-bits-requires : tie.Need-own-bits-requires Inv-loop μ-loop Inv-groups μ-groups
 own-bits-requires c κs = search needs
 
--- src/lib.rt:223:21
 add-q : tie.Need-add-q Inv-loop μ-loop Inv-groups μ-groups
 add-q c = search needs
 
--- src/lib.rt:215:5
 groups-less : tie.Need-groups-less Inv-loop μ-loop Inv-groups μ-groups
 groups-less c = search needs
 
--- src/lib.rt:215:5
 groups-again : tie.Need-groups-again Inv-loop μ-loop Inv-groups μ-groups
 groups-again c =
     let at-loop = c .before .before .before .before .before in
@@ -107,21 +85,17 @@ groups-again c =
           (tried-differs _ _ _ _ _ _ (at-groups .groups .q) (at-loop .loop .q) (at-loop .loop .inv .0) _ (at-keys .key-agrees .ensures) (at-loop .loop .i) _ (omega arith) (c .before .own-bits .ensures) (c .if2 .taken)),
     )
 
--- src/lib.rt:226:17
 add-i : tie.Need-add-i Inv-loop μ-loop Inv-groups μ-groups
 add-i c = search needs
 
--- src/lib.rt:221:13
 loop-less : tie.Need-loop-less Inv-loop μ-loop Inv-groups μ-groups
 loop-less c = search needs
 
--- src/lib.rt:221:13
 loop-again : tie.Need-loop-again Inv-loop μ-loop Inv-groups μ-groups
 loop-again c =
     let at-loop = c .before .before .before .before .before in
     (at-loop .loop .inv .0, omega arith, below-more _ _ (at-loop .loop .inv .2) (word-met _ _ _ _ _ _ _ (at-loop .loop .inv .0) (c .before .own-bits .ensures) (c .if2 .left)))
 
--- src/lib.rt:228:13
 returns : tie.Need-returns Inv-loop μ-loop Inv-groups μ-groups
 returns c =
     let at-loop = c .before in
@@ -130,19 +104,15 @@ returns c =
     first-found _ _ _ (omega arith) (λ k l. at-groups .groups .inv .1 k (omega arith))
     (tried-agrees _ _ _ _ _ _ (at-groups .groups .q) (at-loop .loop .q) (at-loop .loop .inv .0) _ (at-keys .key-agrees .ensures) _ (c .before .before .before .before .before .may-join .ensures) (c .before .before .before .before .if1 .taken) (λ k l. at-loop .loop .inv .2 k (omega arith)))
 
--- src/lib.rt:230:9
 add-q-2 : tie.Need-add-q-2 Inv-loop μ-loop Inv-groups μ-groups
 add-q-2 c = search needs
 
--- src/lib.rt:215:5
 groups-less-2 : tie.Need-groups-less-2 Inv-loop μ-loop Inv-groups μ-groups
 groups-less-2 c = search needs
 
--- src/lib.rt:215:5
 groups-again-2 : tie.Need-groups-again-2 Inv-loop μ-loop Inv-groups μ-groups
 groups-again-2 c = (search needs, below-more _ _ (c .before .before .before .groups .inv .1) (tried-not _ _ _ _ _ _ _ _ (c .before .may-join .ensures) (c .if1 .left)))
 
--- src/lib.rt:210:1
 returns-2 : tie.Need-returns-2 Inv-loop μ-loop Inv-groups μ-groups
 returns-2 c = first-none _ _ (λ k l. c .before .groups .inv .1 k (omega arith))
 

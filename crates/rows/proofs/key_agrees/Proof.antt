@@ -1,44 +1,34 @@
+-- The two keys that are compared are those of the definition.
 use mathlib.Core.Path.{refl}
-use Rattle.rows.specs.Search.{keyAgrees}
 use borrow.Author.Needs.{needs}
+use Rattle.rows.specs.Search.{keyAgrees}
 use Rattle.rows.proofs.key_agrees.Statement.{statement}
 use Rattle.rows.proofs.key_agrees.Tie as tie
-use Rattle.rows.proofs.key_agrees.Reads as reads
-use Rattle.rows.proofs.key_agrees.Lts as lts
 
--- src/lib.rt:158:10
 mul-result : tie.Need-mul-result
 mul-result c = search needs
 
--- src/lib.rt:158:10
 add-result : tie.Need-add-result
 add-result c = search needs
 
--- src/lib.rt:158:5
 mul-result-2 : tie.Need-mul-result-2
 mul-result-2 c = search needs
 
--- src/lib.rt:158:5
 shared-slice-read-result : tie.Need-shared-slice-read-result
 shared-slice-read-result c = search needs
 
--- src/lib.rt:158:29
 mul-result-3 : tie.Need-mul-result-3
 mul-result-3 c = search needs
 
--- src/lib.rt:158:29
 add-result-2 : tie.Need-add-result-2
 add-result-2 c = search needs
 
--- src/lib.rt:158:24
 mul-result-4 : tie.Need-mul-result-4
 mul-result-4 c = search needs
 
--- src/lib.rt:158:24
 shared-slice-read-result-2 : tie.Need-shared-slice-read-result-2
 shared-slice-read-result-2 c = search needs
 
--- src/lib.rt:154:1
 returns : tie.Need-returns
 unfolding keyAgrees
 returns c = refl

@@ -1,24 +1,18 @@
-use Rattle.rows.specs.SearchLaws.{keys-first, keys-second}
+-- The open keys agree, or else it is the closed ones that tell.
 use borrow.Author.Needs.{needs}
+use Rattle.rows.specs.SearchLaws.{keys-first, keys-second}
 use Rattle.rows.proofs.keys_agree.Statement.{statement}
 use Rattle.rows.proofs.keys_agree.Tie as tie
-use Rattle.rows.proofs.keys_agree.Reads as reads
-use Rattle.rows.proofs.keys_agree.Lts as lts
-use Rattle.rows.proofs.key_agrees.Reads as key-agrees-reads
 
--- src/lib.rt:166:8
 key-agrees-requires : tie.Need-key-agrees-requires
 key-agrees-requires c κs = search needs
 
--- src/lib.rt:167:9
 returns : tie.Need-returns
 returns c = keys-first _ _ _ _ (c .before .key-agrees .ensures) (c .if1 .taken)
 
--- src/lib.rt:169:5
 key-agrees-requires-2 : tie.Need-key-agrees-requires-2
 key-agrees-requires-2 c κs = search needs
 
--- src/lib.rt:162:1
 returns-2 : tie.Need-returns-2
 returns-2 c = keys-second _ _ _ _ _ (c .before .before .key-agrees .ensures) (c .before .if1 .left) (c .key-agrees2 .ensures)
 

@@ -1,45 +1,33 @@
-use Rattle.rows.specs.SearchLaws.{may-least, may-no-key, may-not-other, may-not-self}
+-- One test after the other, the keys first.
 use borrow.Author.Needs.{needs}
+use Rattle.rows.specs.SearchLaws.{may-least, may-no-key, may-not-other, may-not-self}
 use Rattle.rows.proofs.may_join.Statement.{statement}
 use Rattle.rows.proofs.may_join.Tie as tie
-use Rattle.rows.proofs.may_join.Reads as reads
-use Rattle.rows.proofs.may_join.Lts as lts
-use Rattle.rows.proofs.keys_agree.Reads as keys-agree-reads
-use Rattle.rows.proofs.wide.Reads as wide-reads
 
--- src/lib.rt:177:9
 keys-agree-requires : tie.Need-keys-agree-requires
 keys-agree-requires c κs = search needs
 
--- src/lib.rt:178:9
 returns : tie.Need-returns
 returns c = may-no-key _ _ _ _ _ _ (c .before .keys-agree .ensures) (c .if1 .taken)
 
--- src/lib.rt:181:9
 returns-2 : tie.Need-returns-2
 returns-2 c = may-not-self _ _ _ _ _ (c .if2 .taken)
 
--- src/lib.rt:184:9
 returns-3 : tie.Need-returns-3
 returns-3 c = may-not-other _ _ _ _ _ (c .if3 .taken)
 
--- src/lib.rt:186:16
 mul-wide : tie.Need-mul-wide
 mul-wide c = search needs
 
--- src/lib.rt:186:10
 mul-wide-2 : tie.Need-mul-wide-2
 mul-wide-2 c = search needs
 
--- src/lib.rt:186:10
 shared-slice-read-wide : tie.Need-shared-slice-read-wide
 shared-slice-read-wide c = search needs
 
--- src/lib.rt:186:5
 wide-requires : tie.Need-wide-requires
 wide-requires c κs = search needs
 
--- src/lib.rt:173:1
 returns-4 : tie.Need-returns-4
 returns-4 c = may-least _ _ _ _ _ _ _ (c .before .before .before .before .before .keys-agree .ensures) (c .before .before .before .before .if1 .left) (c .before .before .before .if2 .left) (c .before .before .if3 .left) (c .wide .ensures)
 
