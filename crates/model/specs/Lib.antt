@@ -25,3 +25,4 @@ pub mod CallLaws
 pub mod HistoryLaws
 pub mod ReadingLaws
 pub mod ReadBackLaws
+pub mod EdgeLaws
