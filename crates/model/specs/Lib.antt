@@ -26,3 +26,4 @@ pub mod HistoryLaws
 pub mod ReadingLaws
 pub mod ReadBackLaws
 pub mod EdgeLaws
+pub mod ProgramLaws
