@@ -9,7 +9,7 @@ use lib.Dec.{eqb}
 use lib.ListN.{length, length-append}
 use borrow.Author.Tests.{eqb-true, eqb-false}
 use Rattle.model.specs.Lists.{_∈_, filter, nodes}
-use Rattle.model.specs.Graph.{Graph, emptyGraph}
+use Rattle.model.specs.Graph.{Graph, Proper, emptyGraph}
 use Rattle.model.specs.Grouping.{adjacent, algorithm1, group, leaders, least, similar}
 use Rattle.model.specs.Updates.{Update, batchGraph, isPair, onEdge, refusal, updated}
 use Rattle.model.specs.Release.{isVisible, release, superedgeCount, superedges, superedgesFrom, visible, visibleEdge, visibleGroups}
@@ -18,7 +18,7 @@ use Rattle.model.specs.ListLaws.{Ascending, filter-cong, filter-elim, le
 use Rattle.model.specs.TwinLaws.{Simple}
 use Rattle.model.specs.ClassLaws.{leader-out, leaders-apart, leaders-ascending}
 use Rattle.model.specs.SummaryLaws.{adjacent-law, algorithm1-classes, equivalence, length-groups}
-use Rattle.model.specs.TableLaws.{Proper, length-nodes}
+use Rattle.model.specs.TableLaws.{length-nodes}
 use Rattle.model.specs.ReleaseLaws.{length-release, visible-ascending, visible-simple}
 
 -- the number of edges among the nodes of an ascending list

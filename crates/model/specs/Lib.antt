@@ -27,3 +27,5 @@ pub mod ReadingLaws
 pub mod ReadBackLaws
 pub mod EdgeLaws
 pub mod ProgramLaws
+pub mod Demands
+pub mod DemandLaws

@@ -11,7 +11,7 @@ use lib.ListN.{length, getD, length-append, List·getD-append}
 use lib.Seq.{getD-append-add}
 use borrow.Author.Tests.{eq-eqb, ne-eqb, ltb-true, ltb-false, not-true}
 use Rattle.model.specs.Lists.{all, concat, from, nodes, sameList}
-use Rattle.model.specs.Graph.{Graph, maxNodes}
+use Rattle.model.specs.Graph.{Graph, Proper, maxNodes}
 use Rattle.model.specs.Tables.{Tables, bitAt, edgeBit, edgesOf, graphOf, holds, keyPair, keysOf, nodeNumber, nodeOf, nodesOf, rowOf, simple, tablesOf, word}
 use Rattle.model.specs.TestLaws.{and-fst, and-snd, and-true, beq-eq, decide, eq-beq, iff-eq}
 use Rattle.model.specs.ListLaws.{all-elim, all-intro, length-from, nodes-in, same-eq, same-refl}
@@ -81,14 +81,6 @@ getD-map-at : (f : ℕ → ℕ) (l : List ℕ) (i : ℕ) → i < length l → ge
 getD-map-at f [] i h = absurd (omega arith)
 getD-map-at f (x ∷ xs) zero h = refl
 getD-map-at f (x ∷ xs) (suc i) h = getD-map-at f xs i (omega arith)
-
--- a graph within its nodes: edges without direction, nobody edge to itself, nothing outside 0 to n - 1
-pub record Proper (b : Graph) : Type 0 where
-  pub small : b .nodeCount ≤ 512
-  pub symmetric : (p q : ℕ) → b .edge p q ≡ b .edge q p
-  pub irreflexive : (p : ℕ) → b .edge p p ≡ false
-  pub inside : (p q : ℕ) → b .edge p q ≡ true → p < b .nodeCount
-  pub held : (p : ℕ) → b .hidden p ≡ true → p < b .nodeCount
 
 pub length-row : (b : Graph) (p : ℕ) → length (rowOf b p) ≡ 8
 unfolding rowOf nodes from

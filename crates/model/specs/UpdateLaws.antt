@@ -9,13 +9,12 @@ use lib.Dec.{eqb, ltb}
 use lib.ListN.{length}
 use borrow.Author.Tests.{eqb-true, eqb-false, ne-eqb, ltb-true, not-false}
 use Rattle.model.specs.Lists.{nodes}
-use Rattle.model.specs.Graph.{Graph, emptyGraph, maxNodes}
+use Rattle.model.specs.Graph.{Graph, Proper, emptyGraph, maxNodes}
 use Rattle.model.specs.Refusals.{Reasons, firstOf}
 use Rattle.model.specs.Updates.{Update, answers, batchGraph, groupCount, isPair, onEdge, refusal, updateReasons, updated}
 use Rattle.model.specs.TestLaws.{and-fst, and-snd, decide, differ, or-cases, or-none}
 use Rattle.model.specs.ListLaws.{nodes-ascending}
 use Rattle.model.specs.TwinLaws.{Simple}
-use Rattle.model.specs.TableLaws.{Proper}
 use Rattle.model.specs.BoundLaws.{at-most-two}
 
 -- reasons that do not hold, where nothing is refused
