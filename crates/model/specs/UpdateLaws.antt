@@ -3,7 +3,7 @@ use mathlib.Core.Path.{_≡_, refl, sym, ap, ap₂, _∙_}
 use mathlib.Core.Bool.{Bool, true, false, not, _&&_, _||_, cond, and-false, and-comm, or-comm}
 use mathlib.Core.List.{List, [], _∷_}
 use mathlib.Core.Logic.{_⊎_, inl, inr}
-use Prim.Native.Nat.{ℕ, suc, _+_, _≤_, _<_}
+use Prim.Native.Nat.{ℕ, suc, zero, _+_, _≤_, _<_}
 use native.Mathlib.Omega.{arith}
 use lib.Dec.{eqb, ltb}
 use lib.IntN.{subℕ, natAbs}
@@ -137,3 +137,32 @@ answer-accepted g c ok = rw (eq-eqb (refusal g c) 0 ok, answer)
 
 pub answer-near : (g : Graph) (c : Update) → Proper g → refusal g c ≡ 0 → natAbs (answer g c) ≤ 2
 answer-near g c h ok = rw (answer-accepted g c ok) (near (groupCount (updated g c)) (groupCount g) (answer-range g c h ok .0) (answer-range g c h ok .1))
+
+-- the same update once more is refused: 16 where it is there already, 17 where it is not
+first-three : (t₁ t₂ t₃ t₄ t₅ s₄ s₅ : Bool) → firstOf ((t₁, 13) ∷ (t₂, 14) ∷ (t₃, 15) ∷ (t₄, 16) ∷ (t₅, 17) ∷ []) ≡ 0
+    → firstOf ((t₁, 13) ∷ (t₂, 14) ∷ (t₃, 15) ∷ (s₄, 16) ∷ (s₅, 17) ∷ []) ≡ cond s₄ 16 (cond s₅ 17 0)
+unfolding firstOf
+first-three true t₂ t₃ t₄ t₅ s₄ s₅ z = absurd (omega arith)
+first-three false true t₃ t₄ t₅ s₄ s₅ z = absurd (omega arith)
+first-three false false true t₄ t₅ s₄ s₅ z = absurd (omega arith)
+first-three false false false t₄ t₅ s₄ s₅ z = refl
+
+pub again : (g : Graph) (c : Update) → refusal g c ≡ 0 → refusal (updated g c) c ≡ cond (eqb (c .kind) 1 || eqb (c .kind) 3) 16 17
+unfolding refusal updateReasons updated
+again g c ok = first-three _ _ _ _ _ _ _ ok ∙ rw (eq-eqb (c .u) (c .u) refl, eq-eqb (c .v) (c .v) refl) (step (c .kind) (not-false _ (first-none _ 13 _ refl ok .0)))
+  where
+    -- the edge and the mark after an update of kind k
+    e : ℕ → Bool
+    e k = cond ((eqb k 1 || eqb k 2) && true) (eqb k 1) (g .edge (c .u) (c .v))
+
+    m : ℕ → Bool
+    m k = cond (not (eqb k 1 || eqb k 2) && true) (eqb k 3) (g .hidden (c .u))
+
+    step : (k : ℕ) → (ltb 0 k && ltb k 5) ≡ true
+        → _≡_ {A = ℕ} (cond ((eqb k 1 && e k) || (eqb k 3 && m k)) 16 (cond ((eqb k 2 && not (e k)) || (eqb k 4 && not (m k))) 17 0)) (cond (eqb k 1 || eqb k 3) 16 17)
+    step zero h = differ h refl
+    step (suc zero) h = refl
+    step (suc (suc zero)) h = refl
+    step (suc (suc (suc zero))) h = refl
+    step (suc (suc (suc (suc zero)))) h = refl
+    step (suc (suc (suc (suc (suc k))))) h = absurd (omega (arith, ltb-true (suc (suc (suc (suc (suc k))))) 5 (and-snd (ltb 0 (suc (suc (suc (suc (suc k)))))) _ h)))
