@@ -63,30 +63,30 @@ module _ (g : Graph) (c : Update) (h : Proper g) (ok : refusal g c ≡ 0) where
   unfolding updated
   proper-updated = record {
     small = h .small;
-    symmetric = λ p q. ap₂ (λ (x t : Bool). cond (onEdge c && x) (eqb (c .kind) 1) t) (pair-sym p q) (h .symmetric p q);
+    symmetric = λ p q. rw (pair-sym p q, h .symmetric p q, updated);
     irreflexive = λ p. self p (decide (onEdge c && isPair (c .u) (c .v) p p));
     inside = λ p q t. edge p q (decide (onEdge c && isPair (c .u) (c .v) p q)) t;
     held = λ p t. mark p (decide (not (onEdge c) && eqb p (c .u))) t;
   }
     where
       self : (p : ℕ) → ((onEdge c && isPair (c .u) (c .v) p p) ≡ true) ⊎ ((onEdge c && isPair (c .u) (c .v) p p) ≡ false)
-          → cond (onEdge c && isPair (c .u) (c .v) p p) (eqb (c .kind) 1) (g .edge p p) ≡ false
+          → updated g c .edge p p ≡ false
       self p (inl x) = absurd (no-self p x)
-      self p (inr x) = rw x (h .irreflexive p)
+      self p (inr x) = rw (x, updated) (h .irreflexive p)
 
       ends : (p q : ℕ) → onEdge c ≡ true → ((eqb p (c .u) && eqb q (c .v)) ≡ true) ⊎ ((eqb p (c .v) && eqb q (c .u)) ≡ true) → p < g .nodeCount
       ends p q k (inl x) = omega (arith, u-inside, eqb-true p (c .u) (and-fst (eqb p (c .u)) _ x))
       ends p q k (inr x) = omega (arith, v-inside k, eqb-true p (c .v) (and-fst (eqb p (c .v)) _ x))
 
       edge : (p q : ℕ) → ((onEdge c && isPair (c .u) (c .v) p q) ≡ true) ⊎ ((onEdge c && isPair (c .u) (c .v) p q) ≡ false)
-          → cond (onEdge c && isPair (c .u) (c .v) p q) (eqb (c .kind) 1) (g .edge p q) ≡ true → p < g .nodeCount
+          → updated g c .edge p q ≡ true → p < g .nodeCount
       edge p q (inl x) t = ends p q (and-fst (onEdge c) _ x) (or-cases (eqb p (c .u) && eqb q (c .v)) (eqb p (c .v) && eqb q (c .u)) (and-snd (onEdge c) _ x))
-      edge p q (inr x) t = h .inside p q (rw x at t)
+      edge p q (inr x) t = h .inside p q (rw (x, updated) at t)
 
       mark : (p : ℕ) → ((not (onEdge c) && eqb p (c .u)) ≡ true) ⊎ ((not (onEdge c) && eqb p (c .u)) ≡ false)
-          → cond (not (onEdge c) && eqb p (c .u)) (eqb (c .kind) 3) (g .hidden p) ≡ true → p < g .nodeCount
+          → updated g c .hidden p ≡ true → p < g .nodeCount
       mark p (inl x) t = omega (arith, u-inside, eqb-true p (c .u) (and-snd (not (onEdge c)) _ x))
-      mark p (inr x) t = h .held p (rw x at t)
+      mark p (inr x) t = h .held p (rw (x, updated) at t)
 
   pub rows-kept : (p r : ℕ) → (p ≡ c .u → ⊥) → (p ≡ c .v → ⊥) → updated g c .edge p r ≡ g .edge p r
   unfolding updated
