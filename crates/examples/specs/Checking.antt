@@ -17,10 +17,10 @@ use Rattle.model.specs.Queries.{neighbours, kindNumber}
 use Rattle.model.specs.Release.{isVisible, visible, visibleEdge, visibleGroups, u16, headRecord, kindByte, groupRecord, superedgeRecord, endRecord, superedgesFrom, superedges, superedgeCount, encode, release}
 use Rattle.model.specs.Reading.{u16At, u16s, groupsAt, afterGroups, superedgesAt, hasPair, summaryBy, summaryIn, graphBy, decode, isRelease}
 use Rattle.model.specs.Calls.{openReasons, openCall, applyReasons, applyCall, neighboursReasons, neighboursCall, tiedReasons, tiedCall, groupReasons, groupCall, releaseReasons, released, releaseCall, readReasons, readCall, fileNeighboursReasons, fileNeighboursCall}
-use Rattle.model.specs.Program.{before, pieces, isNone, valueOf, isNumber, edgeLine, markLine, lineOf, withUpdate, withLine, linesFrom, isCount, firstLine, inputOf, digits, decimal, signed, changeLine, changeLines, openLine, spaced, groupLine, superedgeLine, releaseLines, printed, program}
+use Rattle.model.specs.Program.{text, before, pieces, isNone, valueOf, isNumber, edgeLine, markLine, lineOf, withUpdate, withLine, linesFrom, isCount, firstLine, inputOf, digits, decimal, signed, changeLine, changeLines, openLine, spaced, groupLine, superedgeLine, releaseLines, printed, program}
 use Rattle.model.specs.TestLaws.{differ, and-fst, and-snd, beq-eq}
 use Rattle.model.specs.ListLaws.{same-eq}
-use Rattle.examples.specs.Examples.{Claim, bytes, number, groups, kinds, answers, test, Holds, AllHold, pair, path3, triangle, path4, threeByThree, deleted03, hidden3, hidden3deleted03, equalKeys, selfTied, text, examples}
+use Rattle.examples.specs.Examples.{Claim, bytes, number, groups, kinds, answers, test, Holds, AllHold, pair, path3, triangle, path4, threeByThree, deleted03, hidden3, hidden3deleted03, equalKeys, selfTied, examples}
 
 -- lists that are equal by a test of their members
 sameBy : {A : Type 0} → (A → A → Bool) → List A → List A → Bool

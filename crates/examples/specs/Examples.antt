@@ -4,8 +4,6 @@ use mathlib.Core.Path.{_≡_}
 use mathlib.Core.Bool.{Bool, true, false, _&&_}
 use mathlib.Core.List.{List, [], _∷_, _++_, map}
 use Prim.Native.Nat.{ℕ, _+_, _*_}
-use Prim.Native.Char.{code}
-use Prim.Native.String.{String, [] as ended, _∷_ as _then_}
 use lib.Dec.{eqb}
 use lib.IntN.{ℤ, pos, negsuc}
 use lib.ListN.{length, getD, replicate}
@@ -16,7 +14,7 @@ use Rattle.model.specs.Tables.{Tables, tablesOf, keysOf, nodesOf, groupsIn}
 use Rattle.model.specs.Updates.{Update, batchGraph, updateCount}
 use Rattle.model.specs.Release.{visibleEdge, visibleGroups, superedgeCount, release}
 use Rattle.model.specs.Calls.{openCall, applyCall, neighboursCall, tiedCall, groupCall, releaseCall, readCall, fileNeighboursCall}
-use Rattle.model.specs.Program.{program}
+use Rattle.model.specs.Program.{text, program}
 
 -- an equation between two of the things that the document speaks of: bytes of a file or a text, a number, groups, kinds of
 -- groups, answers, a yes or no
@@ -116,11 +114,6 @@ answersOn n t xs = applyCall n t xs (replicate (updateCount xs) (pos 7)) .answer
 unfoldable pub selfTied : Tables
 selfTied = tablesOf (record { nodeCount = 1; edge = λ p q. eqb p 0 && eqb q 0; hidden = λ p. false })
 
--- the bytes of a text
-unfoldable pub text : String → List ℕ
-text ended = []
-text (c then cs) = code c ∷ text cs
-
 unfoldable pub examples : List Claim
 examples =
     -- 1. n 0
@@ -176,30 +169,30 @@ examples =
     ∷ groups (officeGroups equalKeys) ((0 ∷ 11 ∷ []) ∷ (1 ∷ 2 ∷ 3 ∷ 4 ∷ 5 ∷ 6 ∷ 7 ∷ 10 ∷ 12 ∷ 13 ∷ 14 ∷ 15 ∷ 16 ∷ 17 ∷ 18 ∷ 19 ∷ []) ∷ (8 ∷ 9 ∷ []) ∷ (20 ∷ []) ∷ (21 ∷ []) ∷ [])
     ∷ number (length (visibleGroups equalKeys)) 5
     ∷ number (size equalKeys) 86
-    -- 11. n 513
+    -- number 11: n 513
     ∷ number (openCall 513 (lent 513) .result) 11
-    -- 12. n 1, person 0 tied to 0
+    -- number 12: n 1, person 0 tied to 0
     ∷ number (applyCall 1 selfTied [] [] .result) 12
     ∷ number (neighboursCall 1 selfTied 0 (0 ∷ []) .result) 12
     ∷ number (tiedCall 1 selfTied 0 0 .result) 12
     ∷ number (groupCall 1 selfTied 0 .result) 12
     ∷ number (releaseCall 1 selfTied (replicate 16 0) .result) 12
-    -- 13. 5 0 1
+    -- number 13: 5 0 1
     ∷ answers (answersOn 3 (opened 3) (5 ∷ 0 ∷ 1 ∷ [])) (pos 13 ∷ [])
-    -- 14. n 3: 1 0 3
+    -- number 14: n 3: 1 0 3
     ∷ answers (answersOn 3 (opened 3) (1 ∷ 0 ∷ 3 ∷ [])) (pos 14 ∷ [])
-    -- 15. 1 2 2
+    -- number 15: 1 2 2
     ∷ answers (answersOn 3 (opened 3) (1 ∷ 2 ∷ 2 ∷ [])) (pos 15 ∷ [])
-    -- 16. 1 0 1 twice
+    -- number 16: 1 0 1 twice
     ∷ answers (answersOn 3 (opened 3) (1 ∷ 0 ∷ 1 ∷ 1 ∷ 0 ∷ 1 ∷ [])) (pos 1 ∷ pos 16 ∷ [])
-    -- 17. 4 0 0 in a new bundle
+    -- number 17: 4 0 0 in a new bundle
     ∷ answers (answersOn 3 (opened 3) (4 ∷ 0 ∷ 0 ∷ [])) (pos 17 ∷ [])
-    -- 18. release of n 0 into 9 bytes
+    -- number 18: release of n 0 into 9 bytes
     ∷ number (releaseCall 0 (opened 0) (replicate 9 0) .result) 18
-    -- 19. empty file
+    -- number 19: empty file
     ∷ number (readCall 0 (lent 0) [] .result) 19
     ∷ number (fileNeighboursCall [] 0 [] .result) 19
-    -- 20. n 0 file, tables for n 1
+    -- number 20: n 0 file, tables for n 1
     ∷ number (readCall 1 (lent 1) (release (emptyGraph 0)) .result) 20
     -- the program
     ∷ bytes (program (text "3\nt 0 1\nt 1 2\nw 0\n")) (text "change 1: 1\nchange 2: 0\nchange 3: 0\nopen 2 groups 1 joins 0\nC 1 2\n")
