@@ -17,3 +17,7 @@ pub mod TwinLaws
 pub mod ClassLaws
 pub mod SummaryLaws
 pub mod FewestLaws
+pub mod TableLaws
+pub mod ReleaseLaws
+pub mod BoundLaws
+pub mod UpdateLaws

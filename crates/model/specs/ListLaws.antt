@@ -148,7 +148,7 @@ unfolding nodes
 nodes-ascending n = from-ascending 0 n
 
 -- pigeonhole: f takes the different members of l to different numbers below k
-abbrev without : ℕ → List ℕ → List ℕ
+abbrev pub without : ℕ → List ℕ → List ℕ
 without x l = filter (λ y. not (eqb x y)) l
 
 shorter-le : (x : ℕ) (l : List ℕ) → length (without x l) ≤ length l

@@ -1,0 +1,163 @@
+-- The length of a release, and what it does not depend on.
+use mathlib.Core.Path.{_≡_, refl, sym, ap, _∙_, fun-ext}
+use mathlib.Core.Bool.{Bool, true, false, not, _&&_, cond, and-false}
+use mathlib.Core.List.{List, [], _∷_, _++_, map, List·Memᴰ·head, List·Memᴰ·tail}
+use mathlib.Core.Logic.{_⊎_, inl, inr}
+use Prim.Native.Nat.{ℕ, suc, _+_, _*_}
+use native.Mathlib.Omega.{arith}
+use lib.Dec.{eqb, ltb}
+use lib.ListN.{length, length-append}
+use borrow.Author.Tests.{eqb-true, eq-eqb, ne-eqb, ltb-true}
+use Rattle.model.specs.Lists.{_∈_, concat, filter, nodes}
+use Rattle.model.specs.Graph.{Graph}
+use Rattle.model.specs.Grouping.{algorithm1, group, leaders, least, similar}
+use Rattle.model.specs.Release.{encode, endRecord, groupRecord, headRecord, isVisible, release, superedgeCount, superedgeRecord, superedges, u16, visible, visibleEdge, visibleGroups}
+use Rattle.model.specs.History.{Alike}
+use Rattle.model.specs.TestLaws.{decide, iff-eq}
+use Rattle.model.specs.ListLaws.{Ascending, filter-ascending, filter-cong, nodes-ascending}
+use Rattle.model.specs.TwinLaws.{Simple, similar-sym}
+use Rattle.model.specs.ClassLaws.{Equivalence, leader-out, leaders-ascending, least-eq, least-leads, least-rel}
+use Rattle.model.specs.SummaryLaws.{algorithm1-classes, equivalence}
+use Rattle.model.specs.TableLaws.{Proper}
+
+-- graphs alike in what is visible have one release
+module _ (a b : Graph) (h : Alike a b) where
+  alike-node : (p : ℕ) → isVisible a p ≡ isVisible b p
+  unfolding isVisible
+  alike-node p = rw (← h .nodeCount) (step (decide (ltb p (a .nodeCount))))
+    where
+      step : (ltb p (a .nodeCount) ≡ true) ⊎ (ltb p (a .nodeCount) ≡ false) → (ltb p (a .nodeCount) && not (a .hidden p)) ≡ (ltb p (a .nodeCount) && not (b .hidden p))
+      step (inl t) = rw (h .hidden p (ltb-true p (a .nodeCount) t))
+      step (inr t) = rw t
+
+  alike-edge : (p q : ℕ) → visibleEdge a p q ≡ visibleEdge b p q
+  unfolding visibleEdge
+  alike-edge p q = rw (← alike-node p, ← alike-node q) (step (isVisible a p) refl (isVisible a q) refl)
+    where
+      step : (x : Bool) → isVisible a p ≡ x → (y : Bool) → isVisible a q ≡ y → (x && (y && a .edge p q)) ≡ (x && (y && b .edge p q))
+      step true s true t = h .edge p q s t
+      step true s false t = refl
+      step false s y t = refl
+
+  pub alike-visible : visible a ≡ visible b
+  unfolding visible
+  alike-visible = rw (fun-ext alike-node, h .nodeCount)
+
+  pub alike-edges : visibleEdge a ≡ visibleEdge b
+  alike-edges = fun-ext (λ p. fun-ext (alike-edge p))
+
+  pub non-interference : release a ≡ release b
+  unfolding release
+  non-interference = rw (alike-visible, alike-edges, h .nodeCount)
+
+-- the length of the records
+pub length-u16s : (l : List ℕ) → length (concat (map u16 l)) ≡ 2 * length l
+unfolding concat u16
+length-u16s [] = refl
+length-u16s (x ∷ xs) = omega (arith, length-u16s xs)
+
+pub length-group-record : (e : ℕ → ℕ → Bool) (g : List ℕ) → length (groupRecord e g) ≡ 4 + 2 * length g
+unfolding groupRecord u16
+length-group-record e g = omega (arith, length-u16s g)
+
+pub length-group-records : (e : ℕ → ℕ → Bool) (gs : List (List ℕ)) → length (concat (map (groupRecord e) gs)) ≡ 4 * length gs + 2 * length (concat gs)
+unfolding concat
+length-group-records e [] = refl
+length-group-records e (g ∷ gs) = omega (arith, length-append (groupRecord e g) (concat (map (groupRecord e) gs)), length-group-record e g, length-group-records e gs, length-append g (concat gs))
+
+pub length-superedge-records : (js : List (ℕ × ℕ)) → length (concat (map superedgeRecord js)) ≡ 6 * length js
+unfolding concat superedgeRecord u16
+length-superedge-records [] = refl
+length-superedge-records (j ∷ js) = omega (arith, length-superedge-records js)
+
+pub length-encode : (n : ℕ) (vs : List ℕ) (e : ℕ → ℕ → Bool) (gs : List (List ℕ)) → length (encode n vs e gs) ≡ 10 + 4 * length gs + 2 * length (concat gs) + 6 * length (superedges e 0 gs)
+unfolding encode headRecord u16 endRecord
+length-encode n vs e gs =
+    omega (
+      arith,
+      length-append (concat (map (groupRecord e) gs)) (concat (map superedgeRecord (superedges e 0 gs)) ++ endRecord),
+      length-append (concat (map superedgeRecord (superedges e 0 gs))) endRecord,
+      length-group-records e gs,
+      length-superedge-records (superedges e 0 gs),
+    )
+
+-- the groups hold each node once, so their sizes add up to the number of nodes
+module _ (r : ℕ → ℕ → Bool) where
+  abbrev parts : List ℕ → List ℕ → List ℕ
+  parts vs ls = concat (map (λ l. filter (r l) vs) ls)
+
+  parts-nil : (ls : List ℕ) → length (parts [] ls) ≡ 0
+  unfolding concat filter
+  parts-nil [] = refl
+  parts-nil (l ∷ ls) = parts-nil ls
+
+  parts-cons : (v : ℕ) (vs ls : List ℕ) → length (parts (v ∷ vs) ls) ≡ length (filter (λ l. r l v) ls) + length (parts vs ls)
+  unfolding concat filter
+  parts-cons v vs [] = refl
+  parts-cons v vs (l ∷ ls) = step (r l v) (parts-cons v vs ls)
+    where
+      step : (b : Bool) → length (parts (v ∷ vs) ls) ≡ length (filter (λ l. r l v) ls) + length (parts vs ls)
+          → length (cond b (v ∷ filter (r l) vs) (filter (r l) vs) ++ parts (v ∷ vs) ls) ≡ length (cond b (l ∷ filter (λ l. r l v) ls) (filter (λ l. r l v) ls)) + length (filter (r l) vs ++ parts vs ls)
+      step true h = omega (arith, length-append (filter (r l) vs) (parts (v ∷ vs) ls), length-append (filter (r l) vs) (parts vs ls))
+      step false h = omega (arith, length-append (filter (r l) vs) (parts (v ∷ vs) ls), length-append (filter (r l) vs) (parts vs ls))
+
+  pub parts-length : (vs ls : List ℕ) → ((v : ℕ) → v ∈ vs → length (filter (λ l. r l v) ls) ≡ 1) → length (parts vs ls) ≡ length vs
+  parts-length [] ls h = parts-nil ls
+  parts-length (v ∷ vs) ls h = omega (arith, parts-cons v vs ls, h v (List·Memᴰ·head refl), parts-length vs ls (λ x m. h x (List·Memᴰ·tail m)))
+
+none-of : (x : ℕ) (l : List ℕ) → (x ∈ l → ⊥) → length (filter (eqb x) l) ≡ 0
+unfolding filter
+none-of x [] h = refl
+none-of x (y ∷ ys) h = rw (ne-eqb x y (λ q. h (List·Memᴰ·head q))) (none-of x ys (λ m. h (List·Memᴰ·tail m)))
+
+one-of : (x : ℕ) (l : List ℕ) → Ascending l → x ∈ l → length (filter (eqb x) l) ≡ 1
+unfolding filter
+one-of x (y ∷ ys) a (List·Memᴰ·head q) = rw (eq-eqb x y q) (ap suc (none-of x ys (λ m. omega (arith, a .0 x m))))
+one-of x (y ∷ ys) a (List·Memᴰ·tail m) = rw (ne-eqb x y (λ q. omega (arith, a .0 x m))) (one-of x ys (a .1) m)
+
+module _ (vs : List ℕ) (e : ℕ → ℕ → Bool) (g : Simple vs e) (asc : Ascending vs) where
+  abbrev eq : Equivalence vs (similar vs e)
+  eq = equivalence vs e g asc
+
+  pub length-concat-groups : length (concat (algorithm1 vs e)) ≡ length vs
+  unfolding group
+  length-concat-groups = rw (algorithm1-classes vs e g asc) (parts-length (similar vs e) vs (leaders vs (similar vs e)) one-leader)
+    where
+      one-leader : (v : ℕ) → v ∈ vs → length (filter (λ l. similar vs e l v) (leaders vs (similar vs e))) ≡ 1
+      one-leader v m =
+          ap length (filter-cong (λ l. similar vs e l v) (eqb (least vs (similar vs e) v)) (leaders vs (similar vs e)) (λ l k. iff-eq _ _ (there l k) (back l)))
+          ∙ one-of (least vs (similar vs e) v) (leaders vs (similar vs e)) (leaders-ascending vs (similar vs e) eq asc) (least-leads vs (similar vs e) eq asc v m)
+        where
+          there : (l : ℕ) → l ∈ leaders vs (similar vs e) → similar vs e l v ≡ true → eqb (least vs (similar vs e) v) l ≡ true
+          there l k h = let t = leader-out vs (similar vs e) eq asc l k in eq-eqb _ l (sym (least-eq vs (similar vs e) eq asc l v (t .0) m h) ∙ t .1)
+
+          back : (l : ℕ) → eqb (least vs (similar vs e) v) l ≡ true → similar vs e l v ≡ true
+          back l h = rw (← eqb-true (least vs (similar vs e) v) l h) (similar-sym vs e v _ (least-rel vs (similar vs e) eq asc v m))
+
+  pub length-law : (n : ℕ) → length (encode n vs e (algorithm1 vs e)) ≡ 10 + 4 * length (algorithm1 vs e) + 2 * length vs + 6 * length (superedges e 0 (algorithm1 vs e))
+  length-law n = omega (arith, length-encode n vs e (algorithm1 vs e), length-concat-groups)
+
+-- the visible part of a proper graph is a simple graph
+pub visible-ascending : (g : Graph) → Ascending (visible g)
+unfolding visible
+visible-ascending g = filter-ascending (isVisible g) (nodes (g .nodeCount)) (nodes-ascending (g .nodeCount))
+
+pub visible-simple : (g : Graph) → Proper g → Simple (visible g) (visibleEdge g)
+unfolding visibleEdge
+visible-simple g h = record {
+  symmetric = λ p q mp mq. turn (isVisible g p) (isVisible g q) (g .edge p q) (g .edge q p) (h .symmetric p q);
+  irreflexive = λ p m. rw (h .irreflexive p) (none (isVisible g p));
+}
+  where
+    turn : (x y s t : Bool) → s ≡ t → (x && (y && s)) ≡ (y && (x && t))
+    turn true y s t e = ap (λ (z : Bool). y && z) e
+    turn false y s t e = sym (and-false y)
+
+    none : (x : Bool) → (x && (x && false)) ≡ false
+    none true = refl
+    none false = refl
+
+-- m, g and s of a release and its length
+pub length-release : (g : Graph) → Proper g → length (release g) ≡ 10 + 4 * length (visibleGroups g) + 2 * length (visible g) + 6 * superedgeCount g
+unfolding release visibleGroups superedgeCount
+length-release g h = length-law (visible g) (visibleEdge g) (visible-simple g h) (visible-ascending g) (g .nodeCount)
