@@ -14,7 +14,7 @@ use Rattle.rings.specs.Ring.{Parts, Best, Out, Table}
 use Rattle.rings.specs.RingLaws.{up-circle, out-parts, below′, followed, both}
 use Rattle.rings.specs.Steps.{Taken, Placed, Parted, stayed, left}
 
-abbrev bit : Bool → ℕ
+abbrev pub bit : Bool → ℕ
 bit true = 1
 bit false = 0
 

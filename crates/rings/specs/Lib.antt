@@ -6,3 +6,5 @@ pub mod MoveLaws
 pub mod CountLaws
 pub mod UpdateLaws
 pub mod BuildLaws
+pub mod NodesLaws
+pub mod GraphLaws
