@@ -92,7 +92,7 @@ module _ {n : ℕ} (sim : ℕ → ℕ → Bool) (k : Parts n (Of n sim)) where
 
   module _ {m : ℕ} {t t₁ : List ℕ} (a : Built n m sim t t₁) (hm : m < n) where
     pub built-sound : Sound n t₁
-    built-sound = sound (upto-parts k m) (a .small) (a .size) (a .table)
+    built-sound = sound (upto-parts k m) (a .table) (a .small) (a .size)
 
     pub built-more : {z : ℕ} {t₂ : List ℕ} → Back n m m m z (sim m) t₁ t₂ → Built n (m + 1) sim t t₂
     built-more b =

@@ -12,6 +12,7 @@ use lib.Dec.{eqb}
 use Rattle.model.specs.Tables.{nodeNumber}
 use Rattle.rings.specs.Ring.{Parts, Best, Out, Table}
 use Rattle.rings.specs.RingLaws.{up-circle, out-parts, below′, followed, both}
+use Rattle.rings.specs.MoveLaws.{one-least}
 use Rattle.rings.specs.Steps.{Taken, Placed, Parted, stayed, left}
 
 abbrev pub bit : Bool → ℕ
@@ -42,13 +43,6 @@ count-more (suc k) {f} {g} x h a b e = go (ℕ-discrete x k) (λ i. count-more k
     go (no i) z = rw (e k (omega arith) (λ j. i (sym j)), z i) (omega arith)
 
 module _ {n : ℕ} {R : ℕ → ℕ → Type 0} (k : Parts n R) {t : List ℕ} (a : Table n R t) where
-  -- fellows have one least member
-  pub one-least : {p q : ℕ} → R p q → nodeNumber t p 0 ≡ nodeNumber t q 0
-  one-least {p} {q} x =
-      let lp = a .least p (below′ k x) in
-      let lq = a .least q (k .below x) in
-      le-antisymm (lp .near _ (k .on x (lq .mem))) (lq .near _ (k .on (k .back x) (lp .mem)))
-
   module _ {u : ℕ} (hu : u < n) {t′ : List ℕ} (x : Taken n u t t′) where
     -- u was alone
     pub count-alone : nodeNumber t u 1 ≡ u → count n (leads t′) ≡ count n (leads t)
@@ -77,7 +71,7 @@ module _ {n : ℕ} {R : ℕ → ℕ → Type 0} (k : Parts n R) {t : List ℕ} (
 
         first : Dec (nodeNumber t u 0 ≡ u) → count n (leads t′) ≡ count n (leads t) + 1
         first (yes e) =
-            let lb : nodeNumber t (nodeNumber t u 1) 0 ≡ u = sym (one-least xb) ∙ e in
+            let lb : nodeNumber t (nodeNumber t u 1) 0 ≡ u = sym (one-least k a xb) ∙ e in
             count-more n (nodeNumber t u 1) hb (ne-eqb _ _ (λ i. nb (sym i ∙ lb))) (eq-eqb _ _ (x .least-hit _ hb nb e lb))
             (λ p hp ne. go p hp ne (ℕ-discrete p u) (ℕ-discrete (nodeNumber t p 0) u))
           where
@@ -87,7 +81,7 @@ module _ {n : ℕ} {R : ℕ → ℕ → Type 0} (k : Parts n R) {t : List ℕ} (
             go p hp ne (no i) (no j) = ap (λ v. eqb v p) (sym (x .least-off p hp i j))
         first (no e) =
             count-more n u hu (ne-eqb _ _ e) (eq-eqb _ _ (x .least-u))
-            (λ p hp ne. ap (λ v. eqb v p) (sym (x .least-off p hp ne (λ i. e (sym (one-least (subst (λ v. R p v) i (a .least p hp .mem))) ∙ i)))))
+            (λ p hp ne. ap (λ v. eqb v p) (sym (x .least-off p hp ne (λ i. e (sym (one-least k a (subst (λ v. R p v) i (a .least p hp .mem))) ∙ i)))))
 
     pub count-taken : {b r : ℕ} → b ≡ nodeNumber t u 1 → Parted b u r → count n (leads t′) ≡ count n (leads t) + r
     count-taken f (stayed e i) = count-alone (sym f ∙ e) ∙ omega arith

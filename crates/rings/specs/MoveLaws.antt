@@ -13,8 +13,33 @@ use Rattle.rings.specs.Ring.{up, Parts, Best, Out, Ring, Table}
 use Rattle.rings.specs.RingLaws.{Circle, up-circle, flip, out-parts, below′, inverse, followed, ring-out, ring-in, after-in, Way, over, round, way, both, move}
 use Rattle.rings.specs.Steps.{Sound, Taken, Before, lower, wrapped, Placed}
 
-pub sound : {n : ℕ} {R : ℕ → ℕ → Type 0} → Parts n R → {t : List ℕ} → n ≤ maxNodes → length t ≡ nodeNumbers * n → Table n R t → Sound n t
-sound k h l a = record { small = h; size = l; next = λ p hp. k .below (a .next p hp .mem); prev = λ p hp. k .below (a .prev p hp .mem) }
+module _ {n : ℕ} {R : ℕ → ℕ → Type 0} (k : Parts n R) {t : List ℕ} (a : Table n R t) where
+  -- fellows have one least member
+  pub one-least : {p q : ℕ} → R p q → nodeNumber t p 0 ≡ nodeNumber t q 0
+  one-least {p} {q} x =
+      let lp = a .least p (below′ k x) in
+      let lq = a .least q (k .below x) in
+      le-antisymm (lp .near _ (k .on x (lq .mem))) (lq .near _ (k .on (k .back x) (lp .mem)))
+
+  shares : (p r : ℕ) → p < n → r < n → nodeNumber t r 0 ≡ nodeNumber t p 0 → R p r
+  shares p r hp hr e = k .on (subst (λ v. R p v) (sym e) (a .least p hp .mem)) (k .back (a .least r hr .mem))
+
+  pub sound : n ≤ maxNodes → length t ≡ nodeNumbers * n → Sound n t
+  sound h l =
+      record {
+        small = h;
+        size = l;
+        next = λ p hp. k .below (a .next p hp .mem);
+        prev = λ p hp. k .below (a .prev p hp .mem);
+        under = λ p hp. a .least p hp .near p (k .own hp);
+        fellow = λ p hp. sym (one-least (a .next p hp .mem));
+        skips = λ p r hp hr e i. skip i hr (a .next p hp .near r (shares p r hp hr e)) (way n p (nodeNumber t p 1)) (way n p r);
+      }
+    where
+      skip : {p r b : ℕ} → p < r → r < n → up n p b ≤ up n p r → Way n p b (up n p b) → Way n p r (up n p r) → (p < b) × (b ≤ r)
+      skip i hr h (over j e) (over j′ e′) = (omega arith, omega arith)
+      skip i hr h (round j e) (over j′ e′) = absurd (omega arith)
+      skip i hr h w (round j′ e′) = absurd (omega arith)
 
 module _ {n : ℕ} {R : ℕ → ℕ → Type 0} (k : Parts n R) {u : ℕ} (hu : u < n) {t t′ : List ℕ} where
   -- taken out of the table of R, u is alone

@@ -1,9 +1,10 @@
 -- What each step of an update does to the node table, column by column.
 use mathlib.Core.Path.{_≡_}
 use mathlib.Core.Logic.{_≢_, _⊎_}
-use mathlib.Core.Bool.{Bool, true}
+use mathlib.Core.Bool.{Bool, true, cond}
 use mathlib.Core.List.{List}
 use Prim.Native.Nat.{ℕ, _+_, _*_, _≤_, _<_}
+use lib.Dec.{ltb}
 use lib.ListN.{length, set}
 use Rattle.model.specs.Graph.{maxNodes, nodeNumbers}
 use Rattle.model.specs.Tables.{nodeNumber}
@@ -14,6 +15,13 @@ pub record Sound (n : ℕ) (t : List ℕ) : Type 0 where
   pub size : length t ≡ nodeNumbers * n
   pub next : (p : ℕ) → p < n → nodeNumber t p 1 < n
   pub prev : (p : ℕ) → p < n → nodeNumber t p 2 < n
+  pub under : (p : ℕ) → p < n → nodeNumber t p 0 ≤ p
+  pub fellow : (p : ℕ) → p < n → nodeNumber t (nodeNumber t p 1) 0 ≡ nodeNumber t p 0
+  pub skips : (p r : ℕ) → p < n → r < n → nodeNumber t r 0 ≡ nodeNumber t p 0 → p < r → (p < nodeNumber t p 1) × (nodeNumber t p 1 ≤ r)
+
+-- the next greater member of p's group, n if there is none
+unfoldable pub rising : ℕ → List ℕ → ℕ → ℕ
+rising n t p = cond (ltb p (nodeNumber t p 1)) (nodeNumber t p 1) n
 
 -- b follows a
 pub record Linked (a b : ℕ) (t t′ : List ℕ) : Type 0 where
@@ -51,9 +59,9 @@ pub record Taken (n u : ℕ) (t t′ : List ℕ) : Type 0 where
   pub size : length t′ ≡ length t
 
 -- whom u's fellows have for their least member once u is gone: b, if u was it
-pub record Heir (l u b y : ℕ) : Type 0 where
-  pub new : l ≡ u → y ≡ b
-  pub one-of : (y ≡ b) ⊎ (y ≡ u)
+pub data Heir (l u b y : ℕ) : Type 0 where
+  heir : l ≡ u → y ≡ b → Heir l u b y
+  none : l ≢ u → y ≡ u → Heir l u b y
 
 -- r is 1 if u had a fellow, b after it, else 0
 pub data Parted (b u r : ℕ) : Type 0 where

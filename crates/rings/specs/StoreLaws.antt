@@ -1,15 +1,19 @@
 -- What the stores of each step come to.
 use mathlib.Core.Path.{_≡_, refl, sym, subst, _∙_}
-use mathlib.Core.Logic.{_≢_}
+use mathlib.Core.Logic.{_≢_, _⊎_, inl, inr}
+use mathlib.Core.Bool.{true, false}
 use mathlib.Core.List.{List}
 use Prim.Native.Nat.{ℕ, _+_, _*_, _≤_, _<_}
 use native.Mathlib.Omega.{arith}
-use native.Mathlib.Decide.{ℕ-discrete}
+use native.Mathlib.Decide.{ℕ-discrete, decLt}
+use lib.Dec.{ltb}
+use borrow.Author.Tests.{ltb-true, ltb-false, lt-ltb, le-ltb}
 use lib.ListN.{length, getD, set, length-set}
 use lib.Seq.{getD-set-same, getD-set-other}
 use Rattle.model.specs.Graph.{nodeNumbers}
 use Rattle.model.specs.Tables.{nodeNumber}
-use Rattle.rings.specs.Steps.{Before, lower, wrapped, Taken, Put, Sound, Heir, Linked, Renamed, Stored}
+use Rattle.model.specs.TestLaws.{decide}
+use Rattle.rings.specs.Steps.{Before, lower, wrapped, Taken, Put, Sound, Heir, heir, none, Linked, Renamed, Stored, rising}
 
 module _ {q j v : ℕ} {t t′ : List ℕ} (e : Stored q j v t t′) where
   pub at : nodeNumbers * q + j < length t → nodeNumber t′ q j ≡ v
@@ -44,62 +48,95 @@ module _ {n a b : ℕ} {t t₁ t₂ : List ℕ} (l : length t ≡ nodeNumbers * 
 pub renamed-same : (n x y : ℕ) (t : List ℕ) → x ≡ y → Renamed n x y t t
 renamed-same n x y t e = record { hit = λ p h f. f ∙ e; off = λ p h f. refl; rest = λ p k h h′. refl; size = refl }
 
--- the loop of `rename`: the nodes below i are done
+-- r is the next greater member of p's group, or n if there is none
+pub record Rises (n : ℕ) (t : List ℕ) (p r : ℕ) : Type 0 where
+  pub above : p < r
+  pub within : r ≤ n
+  pub member : r < n → nodeNumber t r 0 ≡ nodeNumber t p 0
+  pub between : (q : ℕ) → q < n → p < q → q < r → nodeNumber t q 0 ≢ nodeNumber t p 0
+
+pub rises : {n p r : ℕ} {t : List ℕ} → Sound n t → p < n → r ≡ rising n t p → Rises n t p r
+unfolding rising
+rises {n} {p} {r} {t} s hp e = step (decide (ltb p (nodeNumber t p 1)))
+  where
+    step : (ltb p (nodeNumber t p 1) ≡ true) ⊎ (ltb p (nodeNumber t p 1) ≡ false) → Rises n t p r
+    step (inl b) =
+        let h = ltb-true p (nodeNumber t p 1) b in
+        let i : r ≡ nodeNumber t p 1 = rw b at e in
+        record {
+          above = omega arith;
+          within = omega (arith, s .next p hp);
+          member = λ j. rw i (s .fellow p hp);
+          between = λ q hq j j′ f. omega (arith, s .skips p q hp hq f j .1);
+        }
+    step (inr b) =
+        let h = ltb-false p (nodeNumber t p 1) b in
+        let i : r ≡ n = rw b at e in
+        record {
+          above = omega arith;
+          within = omega arith;
+          member = λ j. absurd (omega arith);
+          between = λ q hq j j′ f. omega (arith, s .skips p q hp hq f j .0);
+        }
+
+pub rising-next : (n p b : ℕ) (t : List ℕ) → b ≡ nodeNumber t p 1 → p < b → b ≡ rising n t p
+unfolding rising
+rising-next n p b t e h = rw (← e, lt-ltb p b h) refl
+
+pub rising-none : (n p b : ℕ) (t : List ℕ) → b ≡ nodeNumber t p 1 → b ≤ p → n ≡ rising n t p
+unfolding rising
+rising-none n p b t e h = rw (← e, le-ltb p b h) refl
+
+rising-same : (n p : ℕ) (t t′ : List ℕ) → nodeNumber t′ p 1 ≡ nodeNumber t p 1 → rising n t′ p ≡ rising n t p
+unfolding rising
+rising-same n p t t′ e = rw e refl
+
+-- the loop of `rename`: the nodes below i are done, and i is one of x's, unless all are done
 pub record Renaming (n i x y : ℕ) (t t′ : List ℕ) : Type 0 where
   pub done : Renamed i x y t t′
   pub ahead : (p : ℕ) → i ≤ p → nodeNumber t′ p 0 ≡ nodeNumber t p 0
+  pub here : i < n → nodeNumber t i 0 ≡ x
   pub within : i ≤ n
 
-pub renaming-none : (n x y : ℕ) (t : List ℕ) → Renaming n 0 x y t t
-renaming-none n x y t =
+pub renaming-none : {n x : ℕ} (y : ℕ) {t : List ℕ} → Sound n t → x < n → nodeNumber t x 0 ≡ x → Renaming n x x y t t
+renaming-none {n} {x} y {t} s hx e =
     record {
-      done = record { hit = λ p h e. absurd (omega arith); off = λ p h e. refl; rest = λ p k h h′. refl; size = refl };
+      done = record { hit = λ p h f. absurd (omega (arith, s .under p (omega arith))); off = λ p h f. refl; rest = λ p k h h′. refl; size = refl };
       ahead = λ p h. refl;
+      here = λ h. e;
       within = omega arith;
     }
 
-module _ {n i x y : ℕ} {t t₁ : List ℕ} (l : length t ≡ nodeNumbers * n) (r : Renaming n i x y t t₁) (h : i < n) where
-  pub renaming-hit : {t₂ : List ℕ} → nodeNumber t₁ i 0 ≡ x → Stored i 0 y t₁ t₂ → Renaming n (i + 1) x y t t₂
-  renaming-hit {t₂} c e =
+module _ {n i r x y : ℕ} {t t₁ t₂ : List ℕ} (s : Sound n t) (a : Renaming n i x y t t₁) (h : i < n) (e : Stored i 0 y t₁ t₂) (f : r ≡ rising n t₂ i) where
+  onward : Rises n t i r
+  onward = rises s h (f ∙ rising-same n i t t₂ (beside e i 1 (omega arith) (omega arith) (omega arith) ∙ a .done .rest i 1 (omega arith) (omega arith)))
+
+  pub renaming-less : i < r
+  renaming-less = onward .above
+
+  pub renaming-more : Renaming n r x y t t₂
+  renaming-more =
       record {
         done = record {
-          hit = λ p hp f. hit p hp f (ℕ-discrete p i);
-          off = λ p hp f. miss p hp f (ℕ-discrete p i);
-          rest = λ p k h₁ h₂. beside e p k h₂ (omega arith) (omega arith) ∙ r .done .rest p k h₁ h₂;
-          size = size e ∙ r .done .size;
+          hit = λ p hp g. hit p hp g (ℕ-discrete p i) (decLt p i);
+          off = λ p hp g. miss p hp g (ℕ-discrete p i) (decLt p i);
+          rest = λ p k h₁ h₂. beside e p k h₂ (omega arith) (omega arith) ∙ a .done .rest p k h₁ h₂;
+          size = size e ∙ a .done .size;
         };
-        ahead = λ p hp. off e p 0 (omega arith) (omega arith) (omega arith) ∙ r .ahead p (omega arith);
-        within = omega arith;
+        ahead = λ p hp. off e p 0 (omega arith) (omega arith) (omega (arith, onward .above)) ∙ a .ahead p (omega (arith, onward .above));
+        here = λ hr. onward .member hr ∙ a .here h;
+        within = onward .within;
       }
     where
-      hit : (p : ℕ) → p < i + 1 → nodeNumber t p 0 ≡ x → Dec (p ≡ i) → nodeNumber t₂ p 0 ≡ y
-      hit p hp f (yes d) = rw d (at e (omega (arith, r .done .size)))
-      hit p hp f (no d) = off e p 0 (omega arith) (omega arith) d ∙ r .done .hit p (omega arith) f
+      hit : (p : ℕ) → p < r → nodeNumber t p 0 ≡ x → Dec (p ≡ i) → Dec (p < i) → nodeNumber t₂ p 0 ≡ y
+      hit p hp g (yes d) d′ = rw d (at e (omega (arith, a .done .size, s .size)))
+      hit p hp g (no d) (yes d′) = off e p 0 (omega arith) (omega arith) d ∙ a .done .hit p d′ g
+      hit p hp g (no d) (no d′) = absurd (onward .between p (omega (arith, onward .within)) (omega arith) hp (g ∙ sym (a .here h)))
 
-      miss : (p : ℕ) → p < i + 1 → nodeNumber t p 0 ≢ x → Dec (p ≡ i) → nodeNumber t₂ p 0 ≡ nodeNumber t p 0
-      miss p hp f (yes d) = absurd (f (rw d (sym (r .ahead i (omega arith)) ∙ c)))
-      miss p hp f (no d) = off e p 0 (omega arith) (omega arith) d ∙ r .done .off p (omega arith) f
-
-  pub renaming-miss : nodeNumber t₁ i 0 ≢ x → Renaming n (i + 1) x y t t₁
-  renaming-miss c =
-      record {
-        done = record {
-          hit = λ p hp f. hit p hp f (ℕ-discrete p i);
-          off = λ p hp f. miss p hp f (ℕ-discrete p i);
-          rest = r .done .rest;
-          size = r .done .size;
-        };
-        ahead = λ p hp. r .ahead p (omega arith);
-        within = omega arith;
-      }
-    where
-      hit : (p : ℕ) → p < i + 1 → nodeNumber t p 0 ≡ x → Dec (p ≡ i) → nodeNumber t₁ p 0 ≡ y
-      hit p hp f (yes d) = absurd (c (r .ahead i (omega arith) ∙ (rw (← d) f)))
-      hit p hp f (no d) = r .done .hit p (omega arith) f
-
-      miss : (p : ℕ) → p < i + 1 → nodeNumber t p 0 ≢ x → Dec (p ≡ i) → nodeNumber t₁ p 0 ≡ nodeNumber t p 0
-      miss p hp f (yes d) = r .ahead p (omega arith)
-      miss p hp f (no d) = r .done .off p (omega arith) f
+      miss : (p : ℕ) → p < r → nodeNumber t p 0 ≢ x → Dec (p ≡ i) → Dec (p < i) → nodeNumber t₂ p 0 ≡ nodeNumber t p 0
+      miss p hp g (yes d) d′ = absurd (g (rw d (a .here h)))
+      miss p hp g (no d) (yes d′) = off e p 0 (omega arith) (omega arith) d ∙ a .done .off p d′ g
+      miss p hp g (no d) (no d′) = off e p 0 (omega arith) (omega arith) d ∙ a .ahead p (omega arith)
 
 pub renamed : {n i x y : ℕ} {t t′ : List ℕ} → Renaming n i x y t t′ → n ≤ i → Renamed n x y t t′
 renamed {n} {i} {x} {y} {t} {t′} r h =
@@ -107,26 +144,41 @@ renamed {n} {i} {x} {y} {t} {t′} r h =
     let e : i ≡ n = omega arith in
     subst (λ j. Renamed j x y t t′) e (r .done)
 
--- `before`'s loop: one node more
-module _ (t : List ℕ) {p g : ℕ} where
-  pub before-hit : nodeNumber t p 0 ≡ g → Before (p + 1) g p t
-  before-hit e = lower (omega arith) e (λ r h h′. absurd (omega arith))
+-- the loop of `last_before`: a is a member before u of the group of g, and b the next
+pub record Passing (n u g a b : ℕ) (t : List ℕ) : Type 0 where
+  pub lower : a < u
+  pub member : nodeNumber t a 0 ≡ g
+  pub next : Rises n t a b
 
-  none-more : (b : ℕ) → ((r : ℕ) → b < r → r < p → nodeNumber t r 0 ≢ g) → nodeNumber t p 0 ≢ g → (r : ℕ) → b < r → r < p + 1 → Dec (r ≡ p) → nodeNumber t r 0 ≢ g
-  none-more b f ne r h h′ (yes d) = λ i. ne (rw (← d) i)
-  none-more b f ne r h h′ (no d) = f r h (omega arith)
+module _ {n u g : ℕ} {t : List ℕ} (s : Sound n t) (hu : u < n) where
+  pub passing-start : {b : ℕ} → g < u → nodeNumber t g 0 ≡ g → b ≡ rising n t g → Passing n u g g b t
+  passing-start h e f = record { lower = h; member = e; next = rises s (omega arith) f }
 
-  none-yet : ((r : ℕ) → r < p → nodeNumber t r 0 ≢ g) → nodeNumber t p 0 ≢ g → (r : ℕ) → r < p + 1 → Dec (r ≡ p) → nodeNumber t r 0 ≢ g
-  none-yet f ne r h (yes d) = λ i. ne (rw (← d) i)
-  none-yet f ne r h (no d) = f r (omega arith)
+  pub passing-more : {a b r : ℕ} → Passing n u g a b t → b < u → r ≡ rising n t b → Passing n u g b r t
+  passing-more x h f = record { lower = h; member = x .next .member (omega arith) ∙ x .member; next = rises s (omega arith) f }
 
-  pub before-miss : {a : ℕ} → Before p g a t → nodeNumber t p 0 ≢ g → Before (p + 1) g a t
-  before-miss {a} (lower h e f) ne = lower (omega arith) e (λ r i j. none-more a f ne r i j (ℕ-discrete r p))
-  before-miss {a} (wrapped e f) ne = wrapped e (λ r i. none-yet f ne r i (ℕ-discrete r p))
+  pub passed : {a b : ℕ} → Passing n u g a b t → u ≤ b → Before u g a t
+  passed x h = lower (x .lower) (x .member) (λ r i j f. x .next .between r (omega arith) i (omega arith) (f ∙ sym (x .member)))
+
+  pub wraps : {a : ℕ} → u < g → a ≡ nodeNumber t g 2 → Before u g a t
+  wraps h e = wrapped e (λ r i f. omega (arith, s .under r (omega arith)))
 
 pub before-below : {n u g a : ℕ} {t : List ℕ} → Sound n t → u < n → g < n → Before u g a t → a < n
 before-below s hu hg (lower h e f) = omega arith
 before-below {g = g} s hu hg (wrapped e f) = omega (arith, s .prev g hg)
+
+inherits : {l u b y : ℕ} → Heir l u b y → l ≡ u → y ≡ b
+inherits (heir e f) i = f
+inherits (none e f) i = absurd (e i)
+
+-- who has an heir leads, and its heir is a node
+pub heir-leads : {l u b y : ℕ} → Heir l u b y → u ≢ y → l ≡ u
+heir-leads (heir e f) i = e
+heir-leads (none e f) i = absurd (i (sym f))
+
+pub heir-below : {n l u b y : ℕ} → Heir l u b y → u < n → b < n → y < n
+heir-below (heir e f) hu hb = omega arith
+heir-below (none e f) hu hb = omega arith
 
 -- the steps of `take_out`
 module _ {n u a b y : ℕ} {t t₁ t₂ t₃ t₄ : List ℕ} (l : length t ≡ nodeNumbers * n) (hu : u < n) (ea : a ≡ nodeNumber t u 2) (eb : b ≡ nodeNumber t u 1) (ey : Heir (nodeNumber t u 0) u b y)
@@ -145,7 +197,7 @@ module _ {n u a b y : ℕ} {t t₁ t₂ t₃ t₄ : List ℕ} (l : length t ≡ 
       let l′ = same-size in
       record {
         least-u = at e (omega arith);
-        least-hit = λ p hp ne i f. off e p 0 (omega arith) (omega arith) ne ∙ l₃ .least p ∙ l₂ .least p ∙ r .hit p hp f ∙ ey .new i ∙ eb;
+        least-hit = λ p hp ne i f. off e p 0 (omega arith) (omega arith) ne ∙ l₃ .least p ∙ l₂ .least p ∙ r .hit p hp f ∙ inherits ey i ∙ eb;
         least-off = λ p hp ne f. off e p 0 (omega arith) (omega arith) ne ∙ l₃ .least p ∙ l₂ .least p ∙ r .off p hp f;
         next-u = beside e u 1 (omega arith) (omega arith) (omega arith) ∙ l₃ .next-at;
         next-hit = λ p hp ne f. beside e p 1 (omega arith) (omega arith) (omega arith) ∙ l₃ .next-off p ne ∙ next-is p (f ∙ sym ea) ∙ eb;

@@ -115,14 +115,14 @@ shift {n} sim sim′ k′ {u} {v} hu hv agree p q x f g f′ g′ = go (ℕ-disc
 
 module _ {n u v : ℕ} {sim sim′ : ℕ → ℕ → Bool} {t : List ℕ} (a : Shift n u v sim sim′ t) where
   pub sound₀ : Sound n t
-  sound₀ = sound (a .parts) (a .small) (a .size) (a .table)
+  sound₀ = sound (a .parts) (a .table) (a .small) (a .size)
 
   module _ {t₁ : List ℕ} (x₁ : Taken n u t t₁) where
     table₁ : Table n (Out u (Of n sim)) t₁
     table₁ = taken (a .parts) (a .hu) (a .table) x₁
 
     pub sound₁ : Sound n t₁
-    sound₁ = sound (out-parts (a .parts) u) (a .small) (x₁ .size ∙ a .size) table₁
+    sound₁ = sound (out-parts (a .parts) u) table₁ (a .small) (x₁ .size ∙ a .size)
 
     module _ {t₂ : List ℕ} (x₂ : Taken n v t₁ t₂) where
       over : (p q : ℕ) → Out v (Out u (Of n sim)) p q → Out u (Out v (Of n sim′)) p q
@@ -135,7 +135,7 @@ module _ {n u v : ℕ} {sim sim′ : ℕ → ℕ → Bool} {t : List ℕ} (a : S
       table₂ = same over rev (taken (out-parts (a .parts) u) (a .hv) table₁ x₂)
 
       pub sound₂ : Sound n t₂
-      sound₂ = sound (out-parts (out-parts (a .parts′) v) u) (a .small) (x₂ .size ∙ x₁ .size ∙ a .size) table₂
+      sound₂ = sound (out-parts (out-parts (a .parts′) v) u) table₂ (a .small) (x₂ .size ∙ x₁ .size ∙ a .size)
 
       module _ {z₃ : ℕ} {t₃ : List ℕ} (x₃ : Back n n u v z₃ (sim′ u) t₂ t₃) where
         table₃ : Table n (Out v (Of n sim′)) t₃
@@ -146,7 +146,7 @@ module _ {n u v : ℕ} {sim sim′ : ℕ → ℕ → Bool} {t : List ℕ} (a : S
             x₃
 
         pub sound₃ : Sound n t₃
-        sound₃ = sound (out-parts (a .parts′) v) (a .small) (back-size x₃ ∙ x₂ .size ∙ x₁ .size ∙ a .size) table₃
+        sound₃ = sound (out-parts (a .parts′) v) table₃ (a .small) (back-size x₃ ∙ x₂ .size ∙ x₁ .size ∙ a .size)
 
         module _ {z₄ : ℕ} {t₄ : List ℕ} (x₄ : Back n n v v z₄ (sim′ v) t₃ t₄) where
           pub moved : Table n (Of n sim′) t₄
