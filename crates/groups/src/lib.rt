@@ -6,17 +6,17 @@ ghost use lib.ListN.{length};
 ghost use Rattle.model.specs.Graph.{maxNodes, nodeNumbers};
 ghost use Rattle.model.specs.Tables.{nodeNumber};
 ghost use Rattle.rings.specs.Steps.{
-    Before,
-    Heir,
-    Linked,
-    Lone,
-    Parted,
-    Placed,
-    Renamed,
-    Sound,
-    Stored,
-    Taken,
-    rising,
+  Before,
+  Heir,
+  Linked,
+  Lone,
+  Parted,
+  Placed,
+  Renamed,
+  Sound,
+  Stored,
+  Taken,
+  rising,
 };
 
 const NODE_NUMBERS: usize = 4;

@@ -1,50 +1,76 @@
+-- `groups::put_in` meets its contract.
 use borrow.Author.Needs.{needs}
+use Prim.Native.Nat.{_<_}
+use native.Mathlib.Omega.{arith}
+use Rattle.rings.specs.StoreLaws.{put-by, before-below, size}
 use Rattle.groups.proofs.put_in.Statement.{statement}
 use Rattle.groups.proofs.put_in.Tie as tie
 use Rattle.groups.proofs.put_in.Reads as reads
 use Rattle.groups.proofs.put_in.Lts as lts
 use Rattle.groups.proofs.last_before.Reads as last-before-reads
+use Rattle.groups.proofs.number.Reads as number-reads
 use Rattle.groups.proofs.lesser.Reads as lesser-reads
 use Rattle.groups.proofs.link.Reads as link-reads
-use Rattle.groups.proofs.number.Reads as number-reads
 use Rattle.groups.proofs.rename.Reads as rename-reads
 use Rattle.groups.proofs.store.Reads as store-reads
 
--- src/lib.rt:141:9
+-- the place found is a node
+a-below : (c : tie.After-last-before) → c .last-before .result < c .before .before .before .args .n
+a-below c =
+    let p = c .before .before .before .pre in
+    before-below (p .0) (p .1) (p .2) (c .last-before .ensures)
+
 last-before-requires : tie.Need-last-before-requires
 last-before-requires c κs = search needs
 
--- src/lib.rt:142:9
 number-requires : tie.Need-number-requires
-number-requires c κs = ?
+number-requires c κs = omega (arith, a-below (c .before))
 
--- src/lib.rt:143:9
 lesser-requires : tie.Need-lesser-requires
 lesser-requires c κs = search needs
 
--- src/lib.rt:144:5
 rename-requires : tie.Need-rename-requires
 rename-requires c κs = search needs
 
--- src/lib.rt:145:5
 store-requires : tie.Need-store-requires
 store-requires c κs = search needs
 
--- src/lib.rt:146:5
 link-requires : tie.Need-link-requires
-link-requires c κs = ?
+link-requires c κs =
+    let h = c .before .before .before .before .before .before .before .before .before .before .before .before in
+    omega (arith, a-below h)
 
--- src/lib.rt:147:5
 link-requires-2 : tie.Need-link-requires-2
-link-requires-2 c κs = ?
+link-requires-2 c κs =
+    let l = c .before .before .before in
+    let e = l .before .before .before .before in
+    let r = e .before .before .before .before in
+    let a = r .before .before .before .before .before in
+    let s = a .before .before .before in
+    omega (arith, s .pre .0 .next (a .last-before .result) (a-below a), s .pre .0 .size, r .rename .ensures .size, size (e .store .ensures), l .link .ensures .size)
 
--- src/lib.rt:137:1
 same-length : tie.Need-same-length
 same-length c = search needs
 
--- src/lib.rt:137:1
 returns : tie.Need-returns
-returns c = ?
+returns c =
+    let l₄ = c .before .before in
+    let l₃ = l₄ .before .before .before .before in
+    let e = l₃ .before .before .before .before in
+    let r = e .before .before .before .before in
+    let h = r .before .before in
+    let f = h .before in
+    let a = f .before .before in
+    let s = a .before .before .before in
+    record {
+      a = a .last-before .result;
+      h = h .lesser .result;
+      place = a .last-before .ensures;
+      under-g = h .lesser .ensures .1;
+      under-u = h .lesser .ensures .0;
+      either = h .lesser .ensures .2;
+      put = put-by (s .pre .0 .size) (s .pre .1) (f .number .ensures) (r .rename .ensures) (e .store .ensures) (l₃ .link .ensures) (l₄ .link2 .ensures);
+    }
 
 pub put-in-spec : {M : Type 1} → statement M
 put-in-spec =
