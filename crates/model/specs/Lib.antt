@@ -21,3 +21,11 @@ pub mod TableLaws
 pub mod ReleaseLaws
 pub mod BoundLaws
 pub mod UpdateLaws
+pub mod CallLaws
+pub mod HistoryLaws
+pub mod ReadingLaws
+pub mod ReadBackLaws
+pub mod EdgeLaws
+pub mod ProgramLaws
+pub mod Demands
+pub mod DemandLaws

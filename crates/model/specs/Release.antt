@@ -4,9 +4,9 @@ use mathlib.Core.List.{List, [], _∷_, _++_, map}
 use Prim.Native.Nat.{ℕ, suc, _/_, _%_}
 use lib.Dec.{ltb}
 use lib.ListN.{length}
-use Rattle.model.specs.Lists.{filter, concat, nodes}
+use Rattle.model.specs.Lists.{concat, filter, nodes}
 use Rattle.model.specs.Graph.{Graph}
-use Rattle.model.specs.Grouping.{algorithm1, adjacent, kindOf, Kind, singleton, independent, clique}
+use Rattle.model.specs.Grouping.{Kind, adjacent, algorithm1, clique, independent, kindOf, singleton}
 
 -- visible (open) nodes, and the edges between visible nodes only
 unfoldable pub isVisible : Graph → ℕ → Bool
@@ -17,6 +17,10 @@ visible g = filter (isVisible g) (nodes (g .nodeCount))
 
 unfoldable pub visibleEdge : Graph → ℕ → ℕ → Bool
 visibleEdge g p q = isVisible g p && (isVisible g q && g .edge p q)
+
+-- the graph without its hidden nodes' edges
+unfoldable pub visiblePart : Graph → Graph
+visiblePart g = record { nodeCount = g .nodeCount; edge = visibleEdge g; hidden = λ p. ltb p (g .nodeCount) && g .hidden p }
 
 -- groups are worked out on those, not taken from the whole graph
 unfoldable pub visibleGroups : Graph → List (List ℕ)

@@ -6,16 +6,16 @@ use mathlib.Core.Logic.{_⊎_, inl, inr}
 use Prim.Native.Nat.{ℕ, suc, _+_, _≤_, _<_}
 use native.Mathlib.Omega.{arith}
 use lib.Dec.{eqb, ltb}
+use lib.IntN.{subℕ, natAbs}
 use lib.ListN.{length}
-use borrow.Author.Tests.{eqb-true, eqb-false, ne-eqb, ltb-true, not-false}
+use borrow.Author.Tests.{eqb-true, eqb-false, eq-eqb, ne-eqb, ltb-true, ltb-false, not-false}
 use Rattle.model.specs.Lists.{nodes}
-use Rattle.model.specs.Graph.{Graph, emptyGraph, maxNodes}
+use Rattle.model.specs.Graph.{Graph, Proper, emptyGraph, maxNodes}
 use Rattle.model.specs.Refusals.{Reasons, firstOf}
-use Rattle.model.specs.Updates.{Update, answers, batchGraph, groupCount, isPair, onEdge, refusal, updateReasons, updated}
+use Rattle.model.specs.Updates.{Update, answer, answers, batchGraph, groupCount, isPair, onEdge, refusal, updateReasons, updated}
 use Rattle.model.specs.TestLaws.{and-fst, and-snd, decide, differ, or-cases, or-none}
 use Rattle.model.specs.ListLaws.{nodes-ascending}
-use Rattle.model.specs.TwinLaws.{Simple}
-use Rattle.model.specs.TableLaws.{Proper}
+use Rattle.model.specs.TableLaws.{proper-simple}
 use Rattle.model.specs.BoundLaws.{at-most-two}
 
 -- reasons that do not hold, where nothing is refused
@@ -27,9 +27,6 @@ first-none false r ts z h = (refl, h)
 pub proper-empty : (n : ℕ) → n ≤ maxNodes → Proper (emptyGraph n)
 unfolding emptyGraph
 proper-empty n h = record { small = h; symmetric = λ p q. refl; irreflexive = λ p. refl; inside = λ p q t. differ t refl; held = λ p t. differ t refl }
-
-pub proper-simple : (g : Graph) → Proper g → Simple (nodes (g .nodeCount)) (g .edge)
-proper-simple g h = record { symmetric = λ p q m k. h .symmetric p q; irreflexive = λ p m. h .irreflexive p }
 
 -- an accepted update
 module _ (g : Graph) (c : Update) (h : Proper g) (ok : refusal g c ≡ 0) where
@@ -125,3 +122,18 @@ length-answers (c ∷ cs) g = step (decide (eqb (refusal g c) 0)) (length-answer
     step : (eqb (refusal g c) 0 ≡ true) ⊎ (eqb (refusal g c) 0 ≡ false) → ((d : Graph) → length (answers d cs) ≡ length cs) → length (answers g (c ∷ cs)) ≡ suc (length cs)
     step (inl t) below = rw (t, answers) (ap suc (below (updated g c)))
     step (inr t) below = rw (t, answers) (ap suc (below g))
+
+-- an accepted update answers from -2 to 2
+near : (a b : ℕ) → a ≤ 2 + b → b ≤ 2 + a → natAbs (subℕ a b) ≤ 2
+near a b h k = step (decide (ltb a b))
+  where
+    step : (ltb a b ≡ true) ⊎ (ltb a b ≡ false) → natAbs (subℕ a b) ≤ 2
+    step (inl t) = rw t (omega (arith, ltb-true a b t))
+    step (inr t) = rw t (omega (arith, ltb-false a b t))
+
+pub answer-accepted : (g : Graph) (c : Update) → refusal g c ≡ 0 → answer g c ≡ subℕ (groupCount (updated g c)) (groupCount g)
+unfolding answer
+answer-accepted g c ok = rw (eq-eqb (refusal g c) 0 ok, answer)
+
+pub answer-near : (g : Graph) (c : Update) → Proper g → refusal g c ≡ 0 → natAbs (answer g c) ≤ 2
+answer-near g c h ok = rw (answer-accepted g c ok) (near (groupCount (updated g c)) (groupCount g) (answer-range g c h ok .0) (answer-range g c h ok .1))
