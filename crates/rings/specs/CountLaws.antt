@@ -1,17 +1,16 @@
 -- How many groups a table holds, and by how much the steps change that.
 use mathlib.Core.Path.{_≡_, refl, sym, subst, _∙_, ap}
-use mathlib.Core.Logic.{_≢_, _⊎_, inl, inr, ⊎-elim}
+use mathlib.Core.Logic.{_≢_, _⊎_, ⊎-elim}
 use mathlib.Core.Bool.{Bool, true, false}
 use mathlib.Core.List.{List}
-use Prim.Native.Nat.{ℕ, zero, suc, _+_, _≤_, _<_}
+use Prim.Native.Nat.{ℕ, zero, suc, _+_, _<_}
 use native.Mathlib.Omega.{arith}
-use native.Mathlib.Nat.{le-antisymm}
 use native.Mathlib.Decide.{ℕ-discrete}
 use borrow.Author.Tests.{eq-eqb, ne-eqb}
 use lib.Dec.{eqb}
 use Rattle.model.specs.Tables.{nodeNumber}
-use Rattle.rings.specs.Ring.{Parts, Best, Out, Table}
-use Rattle.rings.specs.RingLaws.{up-circle, out-parts, below′, followed, both}
+use Rattle.rings.specs.Ring.{Parts, Out, Table}
+use Rattle.rings.specs.RingLaws.{up-circle, below′, followed}
 use Rattle.rings.specs.MoveLaws.{one-least}
 use Rattle.rings.specs.Steps.{Taken, Placed, Parted, stayed, left}
 

@@ -2,31 +2,31 @@
 use mathlib.Core.Path.{_≡_, refl, sym, subst, _∙_, ap}
 use mathlib.Core.Logic.{_≢_, _⊎_, inl, inr, ⊎-elim}
 use mathlib.Core.Bool.{Bool, true, false, not, _&&_, cond}
-use mathlib.Core.List.{List, [], _∷_}
-use Prim.Native.Nat.{ℕ, suc, zero, _+_, _-_, _*_, _≤_, _<_}
+use mathlib.Core.List.{List, _∷_}
+use Prim.Native.Nat.{ℕ, suc, zero, _+_, _-_, _≤_, _<_}
 use native.Mathlib.Omega.{arith}
 use native.Mathlib.Nat.{le-antisymm}
 use lib.Dec.{eqb, ltb}
 use lib.ListN.{length}
-use lib.IntN.{ℤ, pos, negsuc, subℕ}
-use borrow.Author.Tests.{eq-eqb, ltb-true, ltb-false, lt-ltb, le-ltb}
+use lib.IntN.{subℕ}
+use borrow.Author.Tests.{ltb-true, ltb-false, lt-ltb, le-ltb}
 use Rattle.model.specs.Lists.{filter, from, nodes}
-use Rattle.model.specs.Graph.{Graph, nodeNumbers}
-use Rattle.model.specs.Grouping.{group, leaders, least, similar}
-use Rattle.model.specs.Tables.{groupIn, nodeNumber, nodeOf, nodesOf}
+use Rattle.model.specs.Graph.{Graph, Proper}
+use Rattle.model.specs.Grouping.{leaders, least, similar}
+use Rattle.model.specs.Tables.{nodeNumber, nodesOf}
 use Rattle.model.specs.Updates.{Update, answer, groupCount, onEdge, refusal, updated}
 use Rattle.model.specs.TestLaws.{decide}
-use Rattle.model.specs.ListLaws.{filter-cong, nodes-ascending, nodes-out}
+use Rattle.model.specs.ListLaws.{nodes-ascending}
 use Rattle.model.specs.SummaryLaws.{length-groups}
-use Rattle.model.specs.TableLaws.{Proper, length-nodes-of, mark-at}
+use Rattle.model.specs.TableLaws.{least-at, length-nodes-of, mark-at, proper-simple}
 use Rattle.model.specs.BoundLaws.{similar-cong}
-use Rattle.model.specs.UpdateLaws.{apart, proper-simple, proper-updated, rows-kept, u-inside, v-inside}
+use Rattle.model.specs.UpdateLaws.{answer-accepted, apart, proper-updated, rows-kept, u-inside, v-inside}
 use Rattle.rings.specs.Ring.{Table, Of}
 use Rattle.rings.specs.Steps.{Back, Lone, Parted, Taken}
 use Rattle.rings.specs.CountLaws.{bit, count, count-same, leads}
 use Rattle.rings.specs.UpdateLaws.{Shift, counted, moved, moved-rest, moved-size}
 use Rattle.rings.specs.BuildLaws.{Built, built}
-use Rattle.rings.specs.NodesLaws.{graph-parts, is-nodes, node-at, of-nodes}
+use Rattle.rings.specs.NodesLaws.{graph-parts, is-nodes, of-nodes}
 
 count-from : (f : ℕ → Bool) (a k : ℕ) → length (filter f (from a k)) + count a f ≡ count (a + k) f
 unfolding filter from
@@ -54,10 +54,9 @@ count-nodes f n = let z = none in let c = count-from f 0 n in let e : 0 + n ≡ 
 -- a table of the graph's groups leads with as many nodes as there are groups
 module _ (g : Graph) (h : Proper g) where
   least-of : {t : List ℕ} → Table (g .nodeCount) (Of (g .nodeCount) (similar (nodes (g .nodeCount)) (g .edge))) t → (p : ℕ) → p < g .nodeCount → nodeNumber t p 0 ≡ least (nodes (g .nodeCount)) (similar (nodes (g .nodeCount)) (g .edge)) p
-  unfolding nodeOf groupIn least
   least-of a p hp =
       let b = of-nodes g h in
-      le-antisymm (a .least p hp .near _ (b .least p hp .mem)) (b .least p hp .near _ (a .least p hp .mem)) ∙ node-at g p 0 hp (omega arith)
+      le-antisymm (a .least p hp .near _ (b .least p hp .mem)) (b .least p hp .near _ (a .least p hp .mem)) ∙ least-at g p hp
 
   pub count-groups : {t : List ℕ} → Table (g .nodeCount) (Of (g .nodeCount) (similar (nodes (g .nodeCount)) (g .edge))) t → count (g .nodeCount) (leads t) ≡ groupCount g
   unfolding groupCount leaders
@@ -83,10 +82,6 @@ same-difference a b c d e = step (decide (ltb c d))
 -- u and v are the ends of the update's edge, in either order
 abbrev pub Ends : Update → ℕ → ℕ → Type 0
 Ends c u v = ((u ≡ c .u) × (v ≡ c .v)) ⊎ ((u ≡ c .v) × (v ≡ c .u))
-
-answered : (g : Graph) (c : Update) → eqb (refusal g c) 0 ≡ true → subℕ (groupCount (updated g c)) (groupCount g) ≡ answer g c
-unfolding answer
-answered g c e = rw (e, answer)
 
 -- an accepted update of an edge of g, whose node table is t
 pub record EdgeUpdate (g : Graph) (c : Update) (u v : ℕ) (t : List ℕ) : Type 0 where
@@ -142,10 +137,7 @@ module _ {g : Graph} {c : Update} {u v : ℕ} {t : List ℕ} (a : EdgeUpdate g c
         let b = count-groups g (a .proper) old in
         let d = count-groups (updated g c) new (moved update-shift x₁ x₂ x₃ x₄) in
         let s = counted update-shift x₁ x₂ x₃ x₄ refl p₁ refl p₂ in
-        sym (same-difference (groupCount (updated g c)) (groupCount g) (z₁ + z₂) (z₃ + z₄) (omega arith)) ∙ said
-      where
-        said : subℕ (groupCount (updated g c)) (groupCount g) ≡ answer g c
-        said = answered g c (eq-eqb (refusal g c) 0 (a .accepted))
+        sym (same-difference (groupCount (updated g c)) (groupCount g) (z₁ + z₂) (z₃ + z₄) (omega arith)) ∙ sym (answer-accepted g c (a .accepted))
 
 -- the table built from nothing
 pub build-nodes : (g : Graph) → Proper g → {m : ℕ} {t t₁ t′ : List ℕ} → Lone (g .nodeCount) t t₁ → Built (g .nodeCount) m (similar (nodes (g .nodeCount)) (g .edge)) t₁ t′ → g .nodeCount ≤ m

@@ -1,16 +1,16 @@
 -- A node taken out of the table, and put in: which groups the table holds then.
-use mathlib.Core.Path.{_≡_, refl, sym, subst, _∙_, ap}
-use mathlib.Core.Logic.{_≢_, _⊎_, inl, inr, ⊎-elim}
+use mathlib.Core.Path.{_≡_, refl, sym, subst, _∙_}
+use mathlib.Core.Logic.{_≢_, _⊎_, ⊎-elim}
 use mathlib.Core.List.{List}
-use Prim.Native.Nat.{ℕ, _+_, _*_, _-_, _≤_, _<_}
+use Prim.Native.Nat.{ℕ, _*_, _-_, _≤_, _<_}
 use native.Mathlib.Omega.{arith}
 use native.Mathlib.Nat.{le-antisymm}
 use native.Mathlib.Decide.{ℕ-discrete, decLt}
 use lib.ListN.{length}
 use Rattle.model.specs.Graph.{maxNodes, nodeNumbers}
 use Rattle.model.specs.Tables.{nodeNumber}
-use Rattle.rings.specs.Ring.{up, Parts, Best, Out, Ring, Table}
-use Rattle.rings.specs.RingLaws.{Circle, up-circle, flip, out-parts, below′, inverse, followed, ring-out, ring-in, after-in, Way, over, round, way, both, move}
+use Rattle.rings.specs.Ring.{up, Parts, Best, Out, Table}
+use Rattle.rings.specs.RingLaws.{up-circle, flip, out-parts, below′, inverse, followed, ring-out, ring-in, after-in, Way, over, round, way, both, move}
 use Rattle.rings.specs.Steps.{Sound, Taken, Before, lower, wrapped, Placed}
 
 module _ {n : ℕ} {R : ℕ → ℕ → Type 0} (k : Parts n R) {t : List ℕ} (a : Table n R t) where

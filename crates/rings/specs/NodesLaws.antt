@@ -1,29 +1,24 @@
 -- The node table that the model demands of a graph is the one table that holds the graph's groups, with its marks.
 use mathlib.Core.Path.{_≡_, refl, sym, subst, _∙_, ap}
-use mathlib.Core.Logic.{_≢_, _⊎_, inl, inr, ⊎-elim}
-use mathlib.Core.Bool.{Bool, true, false, cond}
+use mathlib.Core.Logic.{_⊎_, inl, inr, ⊎-elim}
+use mathlib.Core.Bool.{Bool, cond}
 use mathlib.Core.List.{List, [], _∷_, List·Memᴰ·head, List·Memᴰ·tail, List·Memᴰ·cases-cons, List·Memᴰ·not-nil}
 use Prim.Native.Nat.{ℕ, suc, zero, _+_, _*_, _/_, _%_, _≤_, _<_}
 use native.Mathlib.Omega.{arith}
 use native.Mathlib.Nat.{le-antisymm}
-use lib.Dec.{eqb, ltb}
+use lib.Dec.{ltb}
 use lib.ListN.{length, getD}
 use lib.Seq.{ext-getD}
-use borrow.Author.Tests.{ltb-true, ltb-false, lt-ltb}
-use Rattle.model.specs.Lists.{_∈_, filter, from, headOr, lastOr, nodes}
-use Rattle.model.specs.Graph.{Graph, nodeNumbers}
-use Rattle.model.specs.Grouping.{algorithm1, group, leaders, least, similar}
+use borrow.Author.Tests.{ltb-true, lt-ltb}
+use Rattle.model.specs.Lists.{_∈_, filter, headOr, lastOr, nodes}
+use Rattle.model.specs.Graph.{Graph, Proper, nodeNumbers}
+use Rattle.model.specs.Grouping.{group, least, similar}
 use Rattle.model.specs.Tables.{groupIn, nextIn, nodeNumber, nodeOf, nodesOf, prevIn}
-use Rattle.model.specs.Updates.{groupCount}
-use Rattle.model.specs.TestLaws.{decide}
 use Rattle.model.specs.ListLaws.{Ascending, filter-ascending, filter-elim, filter-intro, headOr-in, headOr-le, nodes-ascending, nodes-in, nodes-out}
 use Rattle.model.specs.TwinLaws.{Simple, similar-refl, similar-sym, similar-trans}
-use Rattle.model.specs.SummaryLaws.{length-groups}
-use Rattle.model.specs.TableLaws.{Proper, getD-blocks, getD-nodes, length-nodes, length-nodes-of, mark-at}
-use Rattle.model.specs.UpdateLaws.{proper-simple}
-use Rattle.rings.specs.Ring.{up, Parts, Best, Ring, Table, Of}
+use Rattle.model.specs.TableLaws.{getD-blocks, getD-nodes, length-nodes, length-nodes-of, mark-at, proper-simple}
+use Rattle.rings.specs.Ring.{up, Parts, Best, Table, Of}
 use Rattle.rings.specs.RingLaws.{Circle, up-circle, flip, Way, over, round, way}
-use Rattle.rings.specs.CountLaws.{bit, count, count-same, leads}
 
 lastOr-in : (d : ℕ) (l : List ℕ) (p : ℕ) → p ∈ l → lastOr d l ∈ l
 lastOr-in d [] p m = absurd (List·Memᴰ·not-nil m)

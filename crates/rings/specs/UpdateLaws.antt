@@ -1,7 +1,7 @@
 -- An update as a whole: two nodes are taken out, the relation changes at them alone, and they are put back one after the other.
-use mathlib.Core.Path.{_≡_, refl, sym, subst, _∙_, ap}
-use mathlib.Core.Logic.{_≢_, _⊎_, inl, inr, ⊎-elim}
-use mathlib.Core.Bool.{Bool, true, false}
+use mathlib.Core.Path.{_≡_, sym, subst, _∙_, ap}
+use mathlib.Core.Logic.{_≢_}
+use mathlib.Core.Bool.{Bool, true}
 use mathlib.Core.List.{List}
 use Prim.Native.Nat.{ℕ, _+_, _*_, _≤_, _<_}
 use native.Mathlib.Omega.{arith}
@@ -10,9 +10,9 @@ use native.Mathlib.Decide.{ℕ-discrete}
 use lib.ListN.{length}
 use Rattle.model.specs.Graph.{maxNodes, nodeNumbers}
 use Rattle.model.specs.Tables.{nodeNumber}
-use Rattle.rings.specs.Ring.{Parts, Best, Out, Ring, Table, Of}
+use Rattle.rings.specs.Ring.{Parts, Out, Ring, Table, Of}
 use Rattle.rings.specs.RingLaws.{out-parts}
-use Rattle.rings.specs.Steps.{Sound, Taken, Parted, stayed, left, Placed, Fit, Back, joined, alone}
+use Rattle.rings.specs.Steps.{Sound, Taken, Parted, stayed, left, Fit, Back, joined, alone}
 use Rattle.rings.specs.MoveLaws.{sound, taken, placed}
 use Rattle.rings.specs.CountLaws.{count, leads, count-taken, count-joined}
 
