@@ -37,14 +37,6 @@ inserts : (insert : Bool) → eqb (cond insert 1 2) 1 ≡ insert
 inserts true = refl
 inserts false = refl
 
--- the lesser and the greater of u and v are the edge's ends
-pub ends : (insert : Bool) (u v : ℕ) {a b : ℕ} → a ≡ min u v → b ≡ max u v → Ends (edgeUpdate insert u v) a b
-ends insert u v {a} {b} e f = step (decide (ltb u v))
-  where
-    step : (ltb u v ≡ true) ⊎ (ltb u v ≡ false) → ((a ≡ u) × (b ≡ v)) ⊎ ((a ≡ v) × (b ≡ u))
-    step (inl t) = let h = ltb-true u v t in inl (omega arith, omega arith)
-    step (inr t) = let h = ltb-false u v t in inr (omega arith, omega arith)
-
 module _ {n u v : ℕ} {insert : Bool} {t : Tables} (a : Asked n u v insert t) where
   abbrev g : Graph
   g = graphOf n t
@@ -64,23 +56,37 @@ module _ {n u v : ℕ} {insert : Bool} {t : Tables} (a : Asked n u v insert t) w
   asked-sizes =
       (a .proper .small, ap (λ (s : Tables). length (s .edges)) (a .same) ∙ length-edges g, ap (λ (s : Tables). length (s .nodes)) (a .same) ∙ length-nodes-of g, ap (λ (s : Tables). length (s .keys)) (a .same) ∙ length-keys g)
 
-  asked-update : {x y : ℕ} → Ends (edgeUpdate insert u v) x y → EdgeUpdate (graphOf n t) (edgeUpdate insert u v) x y (t .nodes)
-  asked-update e = record { proper = a .proper; accepted = a .accepted; edge = edge-kind insert u v; ends = e; table = unfold tablesOf in ap (λ (s : Tables). s .nodes) (a .same) }
+  pub asked-lesser : {x : ℕ} → x ≡ min u v → x < n
+  asked-lesser e = let h = asked-ends in omega (arith, h .0, h .1)
 
-  module _ {x y : ℕ} (e : Ends (edgeUpdate insert u v) x y) where
+  pub asked-greater : {x : ℕ} → x ≡ max u v → x < n
+  asked-greater e = let h = asked-ends in omega (arith, h .0, h .1)
+
+  -- the lesser and the greater of u and v are the edge's ends
+  ends : {x y : ℕ} → x ≡ min u v → y ≡ max u v → Ends (edgeUpdate insert u v) x y
+  ends {x} {y} e f = step (decide (ltb u v))
+    where
+      step : (ltb u v ≡ true) ⊎ (ltb u v ≡ false) → ((x ≡ u) × (y ≡ v)) ⊎ ((x ≡ v) × (y ≡ u))
+      step (inl t) = let h = ltb-true u v t in inl (omega arith, omega arith)
+      step (inr t) = let h = ltb-false u v t in inr (omega arith, omega arith)
+
+  asked-update : {x y : ℕ} → x ≡ min u v → y ≡ max u v → EdgeUpdate (graphOf n t) (edgeUpdate insert u v) x y (t .nodes)
+  asked-update e f = record { proper = a .proper; accepted = a .accepted; edge = edge-kind insert u v; ends = ends e f; table = unfold tablesOf in ap (λ (s : Tables). s .nodes) (a .same) }
+
+  module _ {x y : ℕ} (lx : x ≡ min u v) (my : y ≡ max u v) where
     pub asked₀ : Sound n (t .nodes)
     unfolding graphOf
-    asked₀ = sound₀ (update-shift (asked-update e))
+    asked₀ = sound₀ (update-shift (asked-update lx my))
 
     module _ {t₁ : List ℕ} (x₁ : Taken n x (t .nodes) t₁) where
       pub asked₁ : Sound n t₁
       unfolding graphOf
-      asked₁ = sound₁ (update-shift (asked-update e)) x₁
+      asked₁ = sound₁ (update-shift (asked-update lx my)) x₁
 
       module _ {t₂ : List ℕ} (x₂ : Taken n y t₁ t₂) where
         pub asked₂ : Sound n t₂
         unfolding graphOf
-        asked₂ = sound₂ (update-shift (asked-update e)) x₁ x₂
+        asked₂ = sound₂ (update-shift (asked-update lx my)) x₁ x₂
 
         module _ {es ks : List ℕ} (d : Changed u v (t .edges) es) (k : KeysChanged insert u v (t .keys) ks) where
           edges-after : es ≡ edgesOf (updated (graphOf n t) (edgeUpdate insert u v))
@@ -107,7 +113,7 @@ module _ {n u v : ℕ} {insert : Bool} {t : Tables} (a : Asked n u v insert t) w
 
             pub asked₃ : Sound n t₃
             unfolding graphOf
-            asked₃ = sound₃ (update-shift (asked-update e)) x₁ x₂ back₃
+            asked₃ = sound₃ (update-shift (asked-update lx my)) x₁ x₂ back₃
 
             module _ {z₄ : ℕ} {t₄ : List ℕ} (x₄ : Back n n y y z₄ (similarIn n es y) t₃ t₄) where
               back₄ : Back n n y y z₄ (similar (nodes n) (updated (graphOf n t) (edgeUpdate insert u v) .edge) y) t₃ t₄
@@ -117,13 +123,13 @@ module _ {n u v : ℕ} {insert : Bool} {t : Tables} (a : Asked n u v insert t) w
               unfolding graphOf tablesOf
               asked-tables =
                   let e₁ = edges-after in
-                  let e₂ = update-nodes (asked-update e) x₁ x₂ back₃ back₄ in
+                  let e₂ = update-nodes (asked-update lx my) x₁ x₂ back₃ back₄ in
                   let e₃ = keys-after in
                   λ i. record { edges = e₁ i; nodes = e₂ i; keys = e₃ i }
 
               pub asked-answer : {z₁ z₂ : ℕ} → Parted (nodeNumber (t .nodes) x 1) x z₁ → Parted (nodeNumber t₁ y 1) y z₂ → subℕ (z₁ + z₂) (z₃ + z₄) ≡ answer (graphOf n t) (edgeUpdate insert u v)
               unfolding graphOf
-              asked-answer p₁ p₂ = update-answer (asked-update e) x₁ x₂ back₃ back₄ p₁ p₂
+              asked-answer p₁ p₂ = update-answer (asked-update lx my) x₁ x₂ back₃ back₄ p₁ p₂
 
 -- the table built from nothing
 module _ {n : ℕ} {t : Tables} (a : Bare n t) where

@@ -1,11 +1,16 @@
 // The node table kept in place: for each node the least member of its group, the next greater member, the previous one, the mark.
 ghost use mathlib.Core.Path.{_≡_};
 ghost use mathlib.Core.Logic.{_≢_, _⊎_};
-ghost use Prim.Native.Nat.{_+_, _*_, _≤_, _<_};
+ghost use Prim.Native.Nat.{_+_, _*_, _≤_, _<_, min, max};
 ghost use lib.ListN.{length};
+ghost use lib.IntN.{subℕ};
 ghost use Rattle.model.specs.Graph.{maxNodes, nodeNumbers};
-ghost use Rattle.model.specs.Tables.{nodeNumber};
+ghost use Rattle.model.specs.Tables.{graphOf, nodeNumber, nodesOf, tablesOf};
+ghost use Rattle.model.specs.Updates.{answer, updated};
+ghost use Rattle.rows.specs.Rows.{lent};
+ghost use Rattle.rows.specs.Search.{Ready};
 ghost use Rattle.rings.specs.Steps.{
+  Back,
   Before,
   Heir,
   Linked,
@@ -18,8 +23,8 @@ ghost use Rattle.rings.specs.Steps.{
   Taken,
   rising,
 };
-
-const NODE_NUMBERS: usize = 4;
+ghost use Rattle.groups.specs.Groups.{Asked, Bare, edgeUpdate, similarIn};
+use rows::Graph;
 
 const LEAST: usize = 0;
 
@@ -38,14 +43,14 @@ fn number(nodes: &[u16], p: usize, k: usize) -> usize
     requires { ⌜ nodeNumbers * p + k < length (now nodes) ⌝ }
     ensures { λ r. ⌜ r ≡ nodeNumber (now (nodes .entry)) p k ⌝ }
 {
-    wide(nodes[NODE_NUMBERS * p + k])
+    wide(nodes[Graph::NODE_NUMBERS * p + k])
 }
 
 fn store(nodes: &mut [u16], p: usize, k: usize, v: usize)
     requires { ⌜ (nodeNumbers * p + k < length (now nodes)) × (v < 65536) ⌝ }
     ensures { λ _. ⌜ Stored p k v (now (nodes .entry)) (now (nodes .exit)) ⌝ }
 {
-    nodes[NODE_NUMBERS * p + k] = v as u16;
+    nodes[Graph::NODE_NUMBERS * p + k] = v as u16;
 }
 
 // b follows a.
@@ -128,9 +133,15 @@ pub fn take_out(nodes: &mut [u16], n: usize, u: usize) -> usize
 }
 
 fn lesser(x: usize, y: usize) -> usize
-    ensures { λ r. ⌜ (r ≤ x) × (r ≤ y) × ((r ≡ y) ⊎ (r ≡ x)) ⌝ }
+    ensures { λ r. ⌜ r ≡ min x y ⌝ }
 {
     if x < y { x } else { y }
+}
+
+fn greater(x: usize, y: usize) -> usize
+    ensures { λ r. ⌜ r ≡ max x y ⌝ }
+{
+    if x < y { y } else { x }
 }
 
 // u, which is alone, joins the group that g leads.
@@ -156,4 +167,68 @@ fn part_all(nodes: &mut [u16], n: usize)
         store(nodes, p, LEAST, p);
         link(nodes, n, p, p);
     }
+}
+
+// u, which is alone, joins its group, if one is led by a node below m other than w. 1 if it does, else 0.
+pub fn put_back(
+    edges: &[u64],
+    nodes: &mut [u16],
+    keys: &[u32],
+    n: usize,
+    m: usize,
+    u: usize,
+    w: usize,
+) -> usize
+    requires { ⌜ Sound n (now nodes) × Ready n (now edges) (now keys) × (m ≤ n) × (u < n) × (w < n) ⌝ }
+    ensures { λ r. ⌜ Back n m u w r (similarIn n (now (edges .entry)) u) (now (nodes .entry)) (now (nodes .exit)) ⌝ }
+{
+    let g = rows::find_group(edges, nodes, keys, n, m, u, w);
+    if g < m {
+        put_in(nodes, n, u, g);
+        return 1;
+    }
+    0
+}
+
+// The groups made from nothing: whatever stood there, and the marks kept.
+pub fn build(edges: &[u64], nodes: &mut [u16], keys: &[u32], n: usize)
+    requires { ⌜ Bare n (lent (now edges) (now nodes) (now keys)) ⌝ }
+    ensures { λ _. ⌜ now (nodes .exit) ≡ nodesOf (graphOf n (lent (now (edges .entry)) (now (nodes .entry)) (now (keys .entry)))) ⌝ }
+{
+    part_all(nodes, n);
+    for u in 0..n {
+        let _ = put_back(edges, nodes, keys, n, u, u, u);
+    }
+}
+
+fn difference(x: usize, y: usize) -> i16
+    requires { ⌜ (x ≤ 2) × (y ≤ 2) ⌝ }
+    ensures { λ r. ⌜ r ≡ subℕ x y ⌝ }
+{
+    x as i16 - y as i16
+}
+
+// The edge between u and v inserted or deleted in the three tables: both nodes are taken out, edges and keys changed, and the
+// lesser is put back before the greater. How many groups more there are.
+pub fn update_edge(
+    edges: &mut [u64],
+    nodes: &mut [u16],
+    keys: &mut [u32],
+    n: usize,
+    u: usize,
+    v: usize,
+    insert: bool,
+) -> i16
+    requires { ⌜ Asked n u v insert (lent (now edges) (now nodes) (now keys)) ⌝ }
+    ensures { λ r. ⌜ (lent (now (edges .exit)) (now (nodes .exit)) (now (keys .exit)) ≡ tablesOf (updated (graphOf n (lent (now (edges .entry)) (now (nodes .entry)) (now (keys .entry)))) (edgeUpdate insert u v))) × (r ≡ answer (graphOf n (lent (now (edges .entry)) (now (nodes .entry)) (now (keys .entry)))) (edgeUpdate insert u v)) ⌝ }
+{
+    let a = lesser(u, v);
+    let b = greater(u, v);
+    let a_left = take_out(nodes, n, a);
+    let b_left = take_out(nodes, n, b);
+    rows::change_edge(edges, u, v);
+    rows::change_keys(keys, u, v, insert);
+    let a_joined = put_back(edges, nodes, keys, n, n, a, b);
+    let b_joined = put_back(edges, nodes, keys, n, n, b, b);
+    difference(a_left + b_left, a_joined + b_joined)
 }

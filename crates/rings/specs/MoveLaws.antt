@@ -1,8 +1,8 @@
 -- A node taken out of the table, and put in: which groups the table holds then.
 use mathlib.Core.Path.{_≡_, refl, sym, subst, _∙_}
-use mathlib.Core.Logic.{_≢_, _⊎_, ⊎-elim}
+use mathlib.Core.Logic.{_≢_, _⊎_, inl, inr, ⊎-elim}
 use mathlib.Core.List.{List}
-use Prim.Native.Nat.{ℕ, _*_, _-_, _≤_, _<_}
+use Prim.Native.Nat.{ℕ, _*_, _-_, _≤_, _<_, min}
 use native.Mathlib.Omega.{arith}
 use native.Mathlib.Nat.{le-antisymm}
 use native.Mathlib.Decide.{ℕ-discrete, decLt}
@@ -80,6 +80,13 @@ module _ {n : ℕ} {R : ℕ → ℕ → Type 0} (k : Parts n R) {u : ℕ} (hu : 
       least p hp (no ne) (no nl) =
           move (Out u R) (λ p q. q) (λ p. nodeNumber t′ p 0) refl (x .least-off p hp ne nl)
           (record { mem = both R ne nl (a .least p hp .mem); near = λ r y. a .least p hp .near r (y .0) })
+
+pub one-of : (x y : ℕ) {h : ℕ} → h ≡ min x y → (h ≡ y) ⊎ (h ≡ x)
+one-of x y {h} e = step (decLt x y)
+  where
+    step : Dec (x < y) → (h ≡ y) ⊎ (h ≡ x)
+    step (yes i) = inr (omega arith)
+    step (no i) = inl (omega arith)
 
 module _ {n : ℕ} {R : ℕ → ℕ → Type 0} (k : Parts n R) {u g : ℕ} (x : R u g) (ng : g ≢ u) {t : List ℕ} (a : Table n (Out u R) t) (lg : nodeNumber t g 0 ≡ g) where
   hu : u < n
@@ -160,7 +167,7 @@ module _ {n : ℕ} {R : ℕ → ℕ → Type 0} (k : Parts n R) {u g : ℕ} (x :
       least-of : (p : ℕ) → R u p → Best (R p) (λ q. q) (z .h)
       least-of p v =
           record {
-            mem = ⊎-elim (λ e. subst (λ i. R p i) (sym e) (k .on (k .back v) x)) (λ e. subst (λ i. R p i) (sym e) (k .back v)) (z .either);
+            mem = ⊎-elim (λ e. subst (λ i. R p i) (sym e) (k .on (k .back v) x)) (λ e. subst (λ i. R p i) (sym e) (k .back v)) (one-of u g (z .lesser));
             near = λ r w. low r (k .on v w) (ℕ-discrete r u);
           }
 

@@ -1,9 +1,9 @@
 -- What each step of an update does to the node table, column by column.
 use mathlib.Core.Path.{_≡_}
-use mathlib.Core.Logic.{_≢_, _⊎_}
+use mathlib.Core.Logic.{_≢_}
 use mathlib.Core.Bool.{Bool, true, cond}
 use mathlib.Core.List.{List}
-use Prim.Native.Nat.{ℕ, _+_, _*_, _≤_, _<_}
+use Prim.Native.Nat.{ℕ, _+_, _*_, _≤_, _<_, min}
 use lib.Dec.{ltb}
 use lib.ListN.{length, set}
 use Rattle.model.specs.Graph.{maxNodes, nodeNumbers}
@@ -91,9 +91,7 @@ pub record Placed (n u g : ℕ) (t t′ : List ℕ) : Type 0 where
   pub a : ℕ
   pub h : ℕ
   pub place : Before u g a t
-  pub under-g : h ≤ g
-  pub under-u : h ≤ u
-  pub either : (h ≡ g) ⊎ (h ≡ u)
+  pub lesser : h ≡ min u g
   pub put : Put n u g a h t t′
 
 -- p is the least member of a group that u can join; w is passed over

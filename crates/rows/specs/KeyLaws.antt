@@ -17,8 +17,7 @@ use Rattle.model.specs.Tables.{keyPair, keysOf}
 use Rattle.model.specs.Updates.{Update, isPair, onEdge, refusal, updated}
 use Rattle.model.specs.TestLaws.{decide}
 use Rattle.model.specs.ListLaws.{Ascending, nodes-ascending, nodes-in}
-use Rattle.model.specs.Graph.{Proper}
-use Rattle.model.specs.TableLaws.{getD-blocks, getD-nodes, length-keys, length-nodes}
+use Rattle.model.specs.TableLaws.{Proper, getD-blocks, getD-nodes, length-keys, length-nodes}
 use Rattle.model.specs.UpdateLaws.{apart, rows-kept, u-inside, updated-count, v-inside}
 use Rattle.rows.specs.Rows.{KeysChanged, KeysMoved, movedKey}
 use Rattle.rows.specs.EdgeLaws.{edge-before, updated-edge}

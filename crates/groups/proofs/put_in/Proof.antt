@@ -66,9 +66,7 @@ returns c =
       a = a .last-before .result;
       h = h .lesser .result;
       place = a .last-before .ensures;
-      under-g = h .lesser .ensures .1;
-      under-u = h .lesser .ensures .0;
-      either = h .lesser .ensures .2;
+      lesser = h .lesser .ensures;
       put = put-by (s .pre .0 .size) (s .pre .1) (f .number .ensures) (r .rename .ensures) (e .store .ensures) (l₃ .link .ensures) (l₄ .link2 .ensures);
     }
 
