@@ -8,7 +8,7 @@ use native.Mathlib.Omega.{arith}
 use lib.Dec.{eqb, ltb}
 use lib.ListN.{length}
 use lib.IntN.{subℕ}
-use borrow.Author.Tests.{eqb-true, eqb-false, eq-eqb, ltb-true, ltb-false, lt-ltb}
+use borrow.Author.Tests.{eqb-true, eqb-false, ltb-true, ltb-false, lt-ltb}
 use Rattle.model.specs.Lists.{nodes}
 use Rattle.model.specs.Graph.{Graph, Proper, maxNodes, nodeNumbers, rowWords}
 use Rattle.model.specs.Grouping.{similar}
@@ -19,6 +19,7 @@ use Rattle.model.specs.TableLaws.{length-edges, length-keys, length-nodes-of}
 use Rattle.model.specs.UpdateLaws.{apart, proper-updated, u-inside, v-inside}
 use Rattle.rows.specs.Rows.{Changed, KeysChanged, lent}
 use Rattle.rows.specs.Search.{Ready, edgesIn}
+use Rattle.rows.specs.SearchLaws.{edges-in, ready}
 use Rattle.rows.specs.EdgeLaws.{edges-updated}
 use Rattle.rows.specs.KeyLaws.{keys-updated}
 use Rattle.rings.specs.Steps.{Back, Lone, Parted, Sound, Taken}
@@ -27,7 +28,6 @@ use Rattle.rings.specs.BuildLaws.{Built, built-more, built-none, built-sound}
 use Rattle.rings.specs.NodesLaws.{graph-parts}
 use Rattle.rings.specs.GraphLaws.{EdgeUpdate, Ends, build-nodes, update-answer, update-nodes, update-shift}
 use Rattle.groups.specs.Groups.{Asked, Bare, edgeUpdate, similarIn}
-use Rattle.groups.specs.GroupLaws.{edges-read, ready}
 
 edge-kind : (insert : Bool) (u v : ℕ) → onEdge (edgeUpdate insert u v) ≡ true
 edge-kind true u v = refl
@@ -105,7 +105,7 @@ module _ {n u v : ℕ} {insert : Bool} {t : Tables} (a : Asked n u v insert t) w
 
           alike : (p : ℕ) → similarIn n es p ≡ similar (nodes n) (updated (graphOf n t) (edgeUpdate insert u v) .edge) p
           unfolding graphOf updated
-          alike p = ap (λ (s : List ℕ). similar (nodes n) (edgesIn n s) p) edges-after ∙ ap (λ (f : ℕ → ℕ → Bool). similar (nodes n) f p) (edges-read (updated g c) new)
+          alike p = ap (λ (s : List ℕ). similar (nodes n) (edgesIn n s) p) edges-after ∙ ap (λ (f : ℕ → ℕ → Bool). similar (nodes n) f p) (edges-in (updated g c) new)
 
           module _ {z₃ : ℕ} {t₃ : List ℕ} (x₃ : Back n n x y z₃ (similarIn n es x) t₂ t₃) where
             back₃ : Back n n x y z₃ (similar (nodes n) (updated (graphOf n t) (edgeUpdate insert u v) .edge) x) t₂ t₃

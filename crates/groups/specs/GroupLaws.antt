@@ -1,33 +1,19 @@
--- The search for a group finds the one to join, and the tables before, within and after an update.
+-- The search for a group finds the one to join, or there is none.
 use mathlib.Core.Path.{_≡_, refl, sym, subst, _∙_, ap}
-use mathlib.Core.Logic.{_≢_, _⊎_, inl, inr, ⊎-elim}
-use mathlib.Core.Bool.{Bool, true, false, not, _&&_, cond}
+use mathlib.Core.Logic.{_⊎_, inl, inr}
+use mathlib.Core.Bool.{Bool, true, false, not, cond}
 use mathlib.Core.List.{List}
-use Prim.Native.Nat.{ℕ, suc, zero, _+_, _*_, _≤_, _<_, min, max}
+use Prim.Native.Nat.{ℕ, suc, zero, _+_, _≤_, _<_}
 use native.Mathlib.Omega.{arith}
 use native.Mathlib.Decide.{ℕ-discrete}
-use lib.Dec.{eqb, ltb}
-use lib.ListN.{length}
-use lib.IntN.{subℕ}
-use borrow.Author.Tests.{eqb-true, eqb-false, eq-eqb, ne-eqb, not-true, ltb-true, ltb-false}
-use Rattle.model.specs.Lists.{nodes}
-use Rattle.model.specs.Graph.{Graph, Proper, maxNodes, nodeNumbers, rowWords}
-use Rattle.model.specs.Grouping.{similar}
-use Rattle.model.specs.Tables.{Tables, edgesOf, graphOf, keyPair, keysOf, nodeNumber, nodesOf, rowOf, tablesOf}
-use Rattle.model.specs.Updates.{answer, onEdge, refusal, updated}
-use Rattle.model.specs.TestLaws.{and-fst, and-snd, and-true, decide, differ}
-use Rattle.model.specs.TableLaws.{length-edges, length-keys, length-nodes-of, mark-at, read-back}
-use Rattle.model.specs.UpdateLaws.{apart, proper-updated, u-inside, v-inside}
-use Rattle.rows.specs.Rows.{Changed, KeysChanged, lent}
-use Rattle.rows.specs.Search.{Ready, edgesIn, firstFrom, graphIn, joins}
-use Rattle.rows.specs.EdgeLaws.{edges-updated}
-use Rattle.rows.specs.KeyLaws.{keys-updated}
-use Rattle.rings.specs.Steps.{Back, Fit, Lone, Parted, Sound, Taken}
-use Rattle.rings.specs.UpdateLaws.{Found, at, nowhere, sound₀, sound₁, sound₂, sound₃}
-use Rattle.rings.specs.BuildLaws.{Built, built-more, built-none, built-sound}
-use Rattle.rings.specs.NodesLaws.{graph-parts}
-use Rattle.rings.specs.GraphLaws.{EdgeUpdate, Ends, build-nodes, update-answer, update-nodes, update-shift}
-use Rattle.groups.specs.Groups.{Asked, Bare, edgeUpdate, similarIn}
+use lib.Dec.{eqb}
+use borrow.Author.Tests.{eqb-true, eqb-false, eq-eqb, ne-eqb, not-true}
+use Rattle.model.specs.Tables.{nodeNumber}
+use Rattle.model.specs.TestLaws.{and-fst, and-snd, and-true, differ}
+use Rattle.rows.specs.Search.{firstFrom, joins}
+use Rattle.rings.specs.Steps.{Fit}
+use Rattle.rings.specs.UpdateLaws.{Found, at, nowhere}
+use Rattle.groups.specs.Groups.{similarIn}
 
 -- the first number that passes, or none does
 first-cases : (P : ℕ → Bool) (q k : ℕ) → ((firstFrom P q k < q + k) × (P (firstFrom P q k) ≡ true)) ⊎ ((firstFrom P q k ≡ q + k) × ((p : ℕ) → q ≤ p → p < q + k → P p ≡ false))
@@ -75,24 +61,3 @@ module _ (n m u w : ℕ) (edges t : List ℕ) where
       step : ((f < 0 + m) × (joins n edges t u w f ≡ true)) ⊎ ((f ≡ 0 + m) × ((p : ℕ) → 0 ≤ p → p < 0 + m → joins n edges t u w p ≡ false)) → Found m u w (similarIn n edges u) t f
       step (inl x) = at (omega (arith, x .0)) (fit f (x .1))
       step (inr x) = nowhere (omega (arith, x .0)) (λ p h. unfit p (x .1 p (omega arith) (omega arith)))
-
--- the edges of a graph are read off its edge table
-module _ (g : Graph) (h : Proper g) where
-  pub edges-read : edgesIn (g .nodeCount) (edgesOf g) ≡ g .edge
-  unfolding graphOf tablesOf edgesIn
-  edges-read = ap (λ (x : Graph). x .edge) (read-back g h)
-
-  pub ready : Ready (g .nodeCount) (edgesOf g) (keysOf g)
-  ready =
-      record {
-        small = h .small;
-        loops = λ p. rw edges-read (h .irreflexive p);
-        edges-of = sym (ap (λ (e : ℕ → ℕ → Bool). edgesOf (record { nodeCount = g .nodeCount; edge = e; hidden = λ p. false })) edges-read ∙ edges-same);
-        keys-of = sym (ap (λ (e : ℕ → ℕ → Bool). keysOf (record { nodeCount = g .nodeCount; edge = e; hidden = λ p. false })) edges-read ∙ keys-same);
-      }
-    where
-      edges-same : edgesOf (record { nodeCount = g .nodeCount; edge = g .edge; hidden = λ p. false }) ≡ edgesOf g
-      edges-same = unfold edgesOf rowOf in refl
-
-      keys-same : keysOf (record { nodeCount = g .nodeCount; edge = g .edge; hidden = λ p. false }) ≡ keysOf g
-      keys-same = unfold keysOf keyPair in refl

@@ -7,10 +7,6 @@ use Rattle.groups.specs.Groups.{similarIn}
 use Rattle.groups.specs.ChangeLaws.{bare-done, bare-more, bare-ready, bare-small, bare-sound, bare-start}
 use Rattle.groups.proofs.build.Statement.{statement}
 use Rattle.groups.proofs.build.Tie as tie
-use Rattle.groups.proofs.build.Reads as reads
-use Rattle.groups.proofs.build.Lts as lts
-use Rattle.groups.proofs.part_all.Reads as part-all-reads
-use Rattle.groups.proofs.put_back.Reads as put-back-reads
 
 abbrev Inv-loop : tie.InvT-loop
 Inv-loop edges nodes₀ keys n u₀ nodes u = Built n u (similarIn n edges) nodes₀ nodes

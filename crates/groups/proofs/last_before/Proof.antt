@@ -1,14 +1,9 @@
 -- `groups::last_before` meets its contract. The invariant: a is a member before u, and b the next greater one.
-use mathlib.Core.Path.{sym}
-use Prim.Native.Nat.{_-_, _≤_}
+use Prim.Native.Nat.{_-_}
 use native.Mathlib.Omega.{arith}
 use Rattle.rings.specs.StoreLaws.{Passing, passed, passing-more, passing-start, wraps}
 use Rattle.groups.proofs.last_before.Statement.{statement}
 use Rattle.groups.proofs.last_before.Tie as tie
-use Rattle.groups.proofs.last_before.Reads as reads
-use Rattle.groups.proofs.last_before.Lts as lts
-use Rattle.groups.proofs.next_greater.Reads as next-greater-reads
-use Rattle.groups.proofs.number.Reads as number-reads
 
 abbrev Inv-loop : tie.InvT-loop
 Inv-loop nodes n u g a₀ b₀ a b = Passing n u g a b nodes

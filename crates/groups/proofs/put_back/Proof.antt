@@ -2,14 +2,11 @@
 use borrow.Author.Needs.{needs}
 use mathlib.Core.Path.{refl}
 use native.Mathlib.Omega.{arith}
-use Rattle.rings.specs.Steps.{Fit, alone, joined}
+use Rattle.rings.specs.Steps.{alone, joined}
 use Rattle.rings.specs.UpdateLaws.{found-at, found-none}
 use Rattle.groups.specs.GroupLaws.{found}
 use Rattle.groups.proofs.put_back.Statement.{statement}
 use Rattle.groups.proofs.put_back.Tie as tie
-use Rattle.groups.proofs.put_back.Reads as reads
-use Rattle.groups.proofs.put_back.Lts as lts
-use Rattle.groups.proofs.put_in.Reads as put-in-reads
 
 find-group-requires : tie.Need-find-group-requires
 find-group-requires c κs = search needs

@@ -5,14 +5,6 @@ use native.Mathlib.Omega.{arith}
 use Rattle.rings.specs.StoreLaws.{put-by, before-below, size}
 use Rattle.groups.proofs.put_in.Statement.{statement}
 use Rattle.groups.proofs.put_in.Tie as tie
-use Rattle.groups.proofs.put_in.Reads as reads
-use Rattle.groups.proofs.put_in.Lts as lts
-use Rattle.groups.proofs.last_before.Reads as last-before-reads
-use Rattle.groups.proofs.number.Reads as number-reads
-use Rattle.groups.proofs.lesser.Reads as lesser-reads
-use Rattle.groups.proofs.link.Reads as link-reads
-use Rattle.groups.proofs.rename.Reads as rename-reads
-use Rattle.groups.proofs.store.Reads as store-reads
 
 -- the place found is a node
 a-below : (c : tie.After-last-before) → c .last-before .result < c .before .before .before .args .n

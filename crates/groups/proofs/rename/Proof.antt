@@ -5,10 +5,6 @@ use native.Mathlib.Omega.{arith}
 use Rattle.rings.specs.StoreLaws.{Renaming, renamed, renamed-same, renaming-less, renaming-more, renaming-none, size}
 use Rattle.groups.proofs.rename.Statement.{statement}
 use Rattle.groups.proofs.rename.Tie as tie
-use Rattle.groups.proofs.rename.Reads as reads
-use Rattle.groups.proofs.rename.Lts as lts
-use Rattle.groups.proofs.next_greater.Reads as next-greater-reads
-use Rattle.groups.proofs.store.Reads as store-reads
 
 abbrev Inv-loop : tie.InvT-loop
 Inv-loop nodes₀ n x y p₀ nodes p = Renaming n p x y nodes₀ nodes

@@ -6,14 +6,6 @@ use Rattle.rings.specs.Steps.{Parted, Heir}
 use Rattle.rings.specs.StoreLaws.{heir-below, heir-leads, taken-by}
 use Rattle.groups.proofs.take_out.Statement.{statement}
 use Rattle.groups.proofs.take_out.Tie as tie
-use Rattle.groups.proofs.take_out.Reads as reads
-use Rattle.groups.proofs.take_out.Lts as lts
-use Rattle.groups.proofs.number.Reads as number-reads
-use Rattle.groups.proofs.heir.Reads as heir-reads
-use Rattle.groups.proofs.link.Reads as link-reads
-use Rattle.groups.proofs.parted.Reads as parted-reads
-use Rattle.groups.proofs.rename.Reads as rename-reads
-use Rattle.groups.proofs.store.Reads as store-reads
 
 number-requires : tie.Need-number-requires
 number-requires c κs = search needs

@@ -7,10 +7,6 @@ use Rattle.rings.specs.UpdateLaws.{back-small, parted-small}
 use Rattle.groups.specs.ChangeLaws.{asked-answer, asked-ends, asked-greater, asked-lesser, asked-ready, asked-sizes, asked-tables, asked₀, asked₁, asked₂, asked₃}
 use Rattle.groups.proofs.update_edge.Statement.{statement}
 use Rattle.groups.proofs.update_edge.Tie as tie
-use Rattle.groups.proofs.update_edge.Reads as reads
-use Rattle.groups.proofs.update_edge.Lts as lts
-use Rattle.groups.proofs.put_back.Reads as put-back-reads
-use Rattle.groups.proofs.take_out.Reads as take-out-reads
 
 lesser-requires : tie.Need-lesser-requires
 lesser-requires c κs = search needs
