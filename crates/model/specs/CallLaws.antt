@@ -23,7 +23,5 @@ module _ {A : Type 0} (rs : Reasons) (refused : ℕ → A) (done : A) where
       step (inl t) = rw t (d ∙ sym (eqb-true (firstOf rs) 0 t))
       step (inr t) = rw t (k (firstOf rs))
 
--- what a refused call leaves: where `kept` of a refusal is x, so is `kept` of the call that is not done
-pub refused-keeps : {A B : Type 0} (rs : Reasons) (refused : ℕ → A) (done : A) (result : A → ℕ) → result done ≡ 0 → ((r : ℕ) → result (refused r) ≡ r)
-    → (kept : A → B) (x : B) → ((r : ℕ) → kept (refused r) ≡ x) → (result (judged rs refused done) ≡ 0 → ⊥) → kept (judged rs refused done) ≡ x
-refused-keeps rs refused done result d k kept x same h = ap kept (judged-refused rs refused done (λ z. h (judged-result rs refused done result d k ∙ z))) ∙ same (firstOf rs)
+  pub refused-whole : (result : A → ℕ) → result done ≡ 0 → ((r : ℕ) → result (refused r) ≡ r) → (result (judged rs refused done) ≡ 0 → ⊥) → judged rs refused done ≡ refused (result (judged rs refused done))
+  refused-whole result d k h = let e = judged-result result d k in judged-refused (λ z. h (e ∙ z)) ∙ ap refused (sym e)

@@ -29,13 +29,15 @@ pub record Opened : Type 0 where
   pub result : ℕ
   pub tables : Tables
 
+abbrev pub openRefused : Tables → ℕ → Opened
+openRefused t r = record { result = r; tables = t }
+
 unfoldable pub openReasons : ℕ → Tables → Reasons
 openReasons n t = (wrongSize n (lengths t), 11) ∷ []
 
 unfoldable pub openCall : ℕ → Tables → Opened
 openCall n t =
-    judged (openReasons n t)
-    (λ r. record { result = r; tables = t })
+    judged (openReasons n t) (openRefused t)
     (record { result = 0; tables = tablesOf (emptyGraph n) })
 
 -- apply a batch (a sheet)
@@ -43,6 +45,9 @@ pub record Applied : Type 0 where
   pub result : ℕ
   pub tables : Tables
   pub answers : List ℤ
+
+abbrev pub applyRefused : Tables → List ℤ → ℕ → Applied
+applyRefused t out r = record { result = r; tables = t; answers = out }
 
 unfoldable pub applyReasons : ℕ → Tables → List ℕ → List ℤ → Reasons
 applyReasons n t xs out =
@@ -53,8 +58,7 @@ applyReasons n t xs out =
 
 unfoldable pub applyCall : ℕ → Tables → List ℕ → List ℤ → Applied
 applyCall n t xs out =
-    judged (applyReasons n t xs out)
-    (λ r. record { result = r; tables = t; answers = out })
+    judged (applyReasons n t xs out) (applyRefused t out)
     (record { result = 0; tables = tablesOf (batchGraph (graphOf n t) (inThrees xs)); answers = onto (answers (graphOf n t) (inThrees xs)) out })
 
 -- neighbours of p
@@ -62,6 +66,9 @@ pub record Listed : Type 0 where
   pub result : ℕ
   pub count : ℕ
   pub out : List ℕ
+
+abbrev pub listRefused : List ℕ → ℕ → Listed
+listRefused out r = record { result = r; count = 0; out = out }
 
 unfoldable pub neighboursReasons : ℕ → Tables → ℕ → List ℕ → Reasons
 neighboursReasons n t p out =
@@ -73,14 +80,16 @@ neighboursReasons n t p out =
 
 unfoldable pub neighboursCall : ℕ → Tables → ℕ → List ℕ → Listed
 neighboursCall n t p out =
-    judged (neighboursReasons n t p out)
-    (λ r. record { result = r; count = 0; out = out })
+    judged (neighboursReasons n t p out) (listRefused out)
     (record { result = 0; count = length (neighbours (graphOf n t) p); out = onto (neighbours (graphOf n t) p) out })
 
 -- tied or not
 pub record Tied : Type 0 where
   pub result : ℕ
   pub yes : Bool
+
+abbrev pub tiedRefused : ℕ → Tied
+tiedRefused r = record { result = r; yes = false }
 
 unfoldable pub tiedReasons : ℕ → Tables → ℕ → ℕ → Reasons
 tiedReasons n t p q =
@@ -92,8 +101,7 @@ tiedReasons n t p q =
 
 unfoldable pub tiedCall : ℕ → Tables → ℕ → ℕ → Tied
 tiedCall n t p q =
-    judged (tiedReasons n t p q)
-    (λ r. record { result = r; yes = false })
+    judged (tiedReasons n t p q) tiedRefused
     (record { result = 0; yes = graphOf n t .edge p q })
 
 -- the group of p
@@ -102,6 +110,9 @@ pub record Grouped : Type 0 where
   pub least : ℕ
   pub kind : ℕ
   pub size : ℕ
+
+abbrev pub groupRefused : ℕ → Grouped
+groupRefused r = record { result = r; least = 0; kind = 0; size = 0 }
 
 unfoldable pub groupReasons : ℕ → Tables → ℕ → Reasons
 groupReasons n t p =
@@ -112,8 +123,7 @@ groupReasons n t p =
 
 unfoldable pub groupCall : ℕ → Tables → ℕ → Grouped
 groupCall n t p =
-    judged (groupReasons n t p)
-    (λ r. record { result = r; least = 0; kind = 0; size = 0 })
+    judged (groupReasons n t p) groupRefused
     (record {
       result = 0;
       least = headOr p (groupIn (graphOf n t) p);
@@ -129,6 +139,9 @@ pub record Released : Type 0 where
   pub superedges : ℕ
   pub bytes : ℕ
   pub out : List ℕ
+
+abbrev pub releaseRefused : List ℕ → ℕ → Released
+releaseRefused out r = record { result = r; nodes = 0; groups = 0; superedges = 0; bytes = 0; out = out }
 
 unfoldable pub releaseReasons : ℕ → Tables → List ℕ → Reasons
 releaseReasons n t out =
@@ -150,9 +163,7 @@ released g out = record {
 
 unfoldable pub releaseCall : ℕ → Tables → List ℕ → Released
 releaseCall n t out =
-    judged (releaseReasons n t out)
-    (λ r. record { result = r; nodes = 0; groups = 0; superedges = 0; bytes = 0; out = out })
-    (released (graphOf n t) out)
+    judged (releaseReasons n t out) (releaseRefused out) (released (graphOf n t) out)
 
 -- read a release back into tables
 unfoldable pub readReasons : ℕ → Tables → List ℕ → Reasons
@@ -164,8 +175,7 @@ readReasons n t file =
 
 unfoldable pub readCall : ℕ → Tables → List ℕ → Opened
 readCall n t file =
-    judged (readReasons n t file)
-    (λ r. record { result = r; tables = t })
+    judged (readReasons n t file) (openRefused t)
     (record { result = 0; tables = tablesOf (decode file) })
 
 -- neighbours of p, asked of a file
@@ -178,6 +188,5 @@ fileNeighboursReasons file p out =
 
 unfoldable pub fileNeighboursCall : List ℕ → ℕ → List ℕ → Listed
 fileNeighboursCall file p out =
-    judged (fileNeighboursReasons file p out)
-    (λ r. record { result = r; count = 0; out = out })
+    judged (fileNeighboursReasons file p out) (listRefused out)
     (record { result = 0; count = length (neighbours (decode file) p); out = onto (neighbours (decode file) p) out })

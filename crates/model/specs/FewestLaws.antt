@@ -10,7 +10,6 @@ use borrow.Author.Tests.{eqb-true, eqb-false}
 use Rattle.model.specs.Lists.{_∈_}
 use Rattle.model.specs.Grouping.{algorithm1, closed, similar}
 use Rattle.model.specs.Summary.{Summarises, Summary, reconstruct}
-use Rattle.model.specs.History.{plain}
 use Rattle.model.specs.TestLaws.{decide}
 use Rattle.model.specs.ListLaws.{Ascending}
 use Rattle.model.specs.TwinLaws.{Simple, falseTwins-by, similar-N, similar-N+, trueTwins-by}
@@ -27,8 +26,8 @@ module _ (vs : List ℕ) (e : ℕ → ℕ → Bool) (g : Simple vs e) (asc : Asc
       Tie : ℕ → ℕ → Bool
       Tie i x = cond (eqb i (d .groupOf x)) (d .cliques i) (d .superedges i (d .groupOf x) || d .superedges (d .groupOf x) i)
 
-      plain : d .cliques (d .groupOf p) ≡ false → (a x : ℕ) → a ∈ vs → x ∈ vs → d .groupOf a ≡ d .groupOf p → e a x ≡ Tie (d .groupOf p) x
-      plain c a x ma mx k = sym (s .exact a x ma mx) ∙ rw (k, c) refl
+      by-superedges : d .cliques (d .groupOf p) ≡ false → (a x : ℕ) → a ∈ vs → x ∈ vs → d .groupOf a ≡ d .groupOf p → e a x ≡ Tie (d .groupOf p) x
+      by-superedges c a x ma mx k = sym (s .exact a x ma mx) ∙ rw (k, c) refl
 
       full : d .cliques (d .groupOf p) ≡ true → (a x : ℕ) → a ∈ vs → x ∈ vs → d .groupOf a ≡ d .groupOf p → (e a x || eqb a x) ≡ Tie (d .groupOf p) x
       full c a x ma mx k = ap (λ (t : Bool). t || eqb a x) (sym (s .exact a x ma mx)) ∙ by-case (decide (eqb a x)) (decide (eqb (d .groupOf p) (d .groupOf x)))
@@ -42,7 +41,7 @@ module _ (vs : List ℕ) (e : ℕ → ℕ → Bool) (g : Simple vs e) (asc : Asc
 
       kind : (d .cliques (d .groupOf p) ≡ true) ⊎ (d .cliques (d .groupOf p) ≡ false) → similar vs e p q ≡ true
       kind (inl c) = similar-N+ vs e p q (trueTwins-by vs e p q (λ x m. full c p x mp m refl ∙ sym (full c q x mq m (sym h))))
-      kind (inr c) = similar-N vs e p q (falseTwins-by vs e p q (λ x m. plain c p x mp m refl ∙ sym (plain c q x mq m (sym h))))
+      kind (inr c) = similar-N vs e p q (falseTwins-by vs e p q (λ x m. by-superedges c p x mp m refl ∙ sym (by-superedges c q x mq m (sym h))))
 
   pub fewest : length (algorithm1 vs e) ≤ d .count
   fewest = rw (algorithm1-classes vs e g asc) (fewest-classes vs (similar vs e) (equivalence vs e g asc) asc (d .count) (d .groupOf) (s .placed) inside-ours)

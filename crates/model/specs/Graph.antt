@@ -1,6 +1,7 @@
 -- Document 01, "What the index does": a graph (a bundle there) and its four limits.
-use mathlib.Core.Bool.{Bool, false}
-use Prim.Native.Nat.{ℕ}
+use mathlib.Core.Path.{_≡_}
+use mathlib.Core.Bool.{Bool, true, false}
+use Prim.Native.Nat.{ℕ, _≤_, _<_}
 
 -- the limits: persons, changes in a sheet, words in a row, numbers for a person
 abbrev pub maxNodes : ℕ
@@ -24,3 +25,11 @@ pub record Graph : Type 0 where
 -- a new bundle
 unfoldable pub emptyGraph : ℕ → Graph
 emptyGraph n = record { nodeCount = n; edge = λ p q. false; hidden = λ p. false }
+
+-- what a bundle is: at most 512 nodes, edges without direction, none from a node to itself, nothing outside 0 to nodeCount - 1
+pub record Proper (g : Graph) : Type 0 where
+  pub small : g .nodeCount ≤ maxNodes
+  pub symmetric : (p q : ℕ) → g .edge p q ≡ g .edge q p
+  pub irreflexive : (p : ℕ) → g .edge p p ≡ false
+  pub inside : (p q : ℕ) → g .edge p q ≡ true → p < g .nodeCount
+  pub held : (p : ℕ) → g .hidden p ≡ true → p < g .nodeCount

@@ -9,14 +9,14 @@ use lib.Dec.{eqb, ltb}
 use lib.IntN.{ℤ}
 use lib.ListN.{length}
 use borrow.Author.Tests.{eqb-true, eq-eqb, ltb-false, le-ltb, not-false}
-use Rattle.model.specs.Graph.{Graph, emptyGraph, maxNodes, nodeNumbers, rowWords}
+use Rattle.model.specs.Graph.{Graph, Proper, emptyGraph, maxNodes, nodeNumbers, rowWords}
 use Rattle.model.specs.Tables.{Tables, graphOf, holds, tablesOf}
 use Rattle.model.specs.Refusals.{Lengths, firstOf, lengths, wrongSize}
 use Rattle.model.specs.Updates.{Update, answers, batchGraph, inThrees, updateCount, wrongBatch}
 use Rattle.model.specs.Calls.{Applied, Opened, applyCall, applyReasons, onto, openCall, openReasons}
 use Rattle.model.specs.History.{Call, Outcome, batch, history, opening, outcome, outcomes, plain, plainAfter, plainOutcome, plainOutcomes, plainReasons, tablesAfter}
 use Rattle.model.specs.TestLaws.{decide, or-none}
-use Rattle.model.specs.TableLaws.{Proper, length-edges, length-keys, length-nodes-of, proper-holds, read-back}
+use Rattle.model.specs.TableLaws.{length-edges, length-keys, length-nodes-of, proper-holds, read-back}
 use Rattle.model.specs.UpdateLaws.{first-none, proper-batch, proper-empty}
 use Rattle.model.specs.CallLaws.{judged-result}
 

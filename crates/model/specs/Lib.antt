@@ -25,3 +25,7 @@ pub mod CallLaws
 pub mod HistoryLaws
 pub mod ReadingLaws
 pub mod ReadBackLaws
+pub mod EdgeLaws
+pub mod ProgramLaws
+pub mod Demands
+pub mod DemandLaws

@@ -68,6 +68,15 @@ unfolding filter
 filter-cong f g [] h = refl
 filter-cong f g (x ∷ xs) h = rw (h x (List·Memᴰ·head refl), filter-cong f g xs (λ p m. h p (List·Memᴰ·tail m)))
 
+pub length-filter : (f : ℕ → Bool) (l : List ℕ) → length (filter f l) ≤ length l
+unfolding filter
+length-filter f [] = omega arith
+length-filter f (x ∷ xs) = step (f x) (length-filter f xs)
+  where
+    step : (b : Bool) → length (filter f xs) ≤ length xs → length (cond b (x ∷ filter f xs) (filter f xs)) ≤ suc (length xs)
+    step true h = omega arith
+    step false h = omega arith
+
 pub all-cong : (f g : ℕ → Bool) (l : List ℕ) → ((p : ℕ) → p ∈ l → f p ≡ g p) → all l f ≡ all l g
 unfolding all
 all-cong f g [] h = refl
@@ -151,22 +160,13 @@ nodes-ascending n = from-ascending 0 n
 abbrev pub without : ℕ → List ℕ → List ℕ
 without x l = filter (λ y. not (eqb x y)) l
 
-shorter-le : (x : ℕ) (l : List ℕ) → length (without x l) ≤ length l
-unfolding filter
-shorter-le x [] = omega arith
-shorter-le x (y ∷ ys) = step (not (eqb x y)) (shorter-le x ys)
-  where
-    step : (b : Bool) → length (without x ys) ≤ length ys → length (cond b (y ∷ without x ys) (without x ys)) ≤ suc (length ys)
-    step true h = omega arith
-    step false h = omega arith
-
 shorter : (x : ℕ) (l : List ℕ) → x ∈ l → length (without x l) < length l
 unfolding filter
 shorter x [] m = absurd (List·Memᴰ·not-nil m)
 shorter x (y ∷ ys) m = step (decide (eqb x y)) (shorter x ys) (List·Memᴰ·cases-cons m)
   where
     step : (eqb x y ≡ true) ⊎ (eqb x y ≡ false) → (x ∈ ys → length (without x ys) < length ys) → (x ≡ y) ⊎ (x ∈ ys) → length (cond (not (eqb x y)) (y ∷ without x ys) (without x ys)) < suc (length ys)
-    step (inl t) below m = rw t (omega (arith, shorter-le x ys))
+    step (inl t) below m = rw t (omega (arith, length-filter (λ z. not (eqb x z)) ys))
     step (inr t) below (inl q) = absurd (eqb-false x y t q)
     step (inr t) below (inr i) = rw t (omega (arith, below i))
 

@@ -7,7 +7,7 @@ use Prim.Native.Nat.{ℕ, _≤_, _<_}
 use lib.Dec.{ltb, leb}
 use borrow.Author.Tests.{ltb-true, lt-ltb, leb-true, le-leb}
 use Rattle.model.specs.Lists.{filter, member, nodes}
-use Rattle.model.specs.Graph.{Graph, maxNodes}
+use Rattle.model.specs.Graph.{Graph, Proper, maxNodes}
 use Rattle.model.specs.Grouping.{algorithm1}
 use Rattle.model.specs.Tables.{simple}
 use Rattle.model.specs.Release.{isVisible, release, visible, visibleEdge, visiblePart}
@@ -15,7 +15,7 @@ use Rattle.model.specs.Reading.{decode, graphBy, isRelease}
 use Rattle.model.specs.History.{Alike}
 use Rattle.model.specs.TestLaws.{and-fst, and-snd, and-true, decide, iff-eq}
 use Rattle.model.specs.ListLaws.{filter-elim, filter-intro, member-elim, member-intro, nodes-in, same-eq, same-refl}
-use Rattle.model.specs.TableLaws.{Proper, simple-edge, simple-loop, simple-test}
+use Rattle.model.specs.TableLaws.{simple-edge, simple-loop, simple-test}
 use Rattle.model.specs.ReleaseLaws.{non-interference, visible-ascending, visible-simple}
 use Rattle.model.specs.ReadingLaws.{count-encode, read-edge, read-placed, summary-encode}
 

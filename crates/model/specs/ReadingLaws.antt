@@ -11,14 +11,14 @@ use lib.Seq.{drop-at}
 use borrow.Author.Tests.{eqb-true, eqb-false, eq-eqb, ne-eqb, ltb-true, ltb-false, lt-ltb}
 use Rattle.model.specs.Lists.{_∈_, concat, member}
 use Rattle.model.specs.Grouping.{Kind, adjacent, algorithm1, clique, group, independent, isClique, kindOf, leaders, similar, singleton}
-use Rattle.model.specs.Summary.{Summary, position, reconstruct}
+use Rattle.model.specs.Summary.{Summarises, Summary, position, reconstruct, summaryOf}
 use Rattle.model.specs.Release.{encode, endRecord, groupRecord, headRecord, kindByte, superedgeRecord, superedges, superedgesFrom, u16}
 use Rattle.model.specs.Reading.{afterGroups, groupsAt, hasPair, summaryBy, summaryIn, superedgesAt, u16At, u16s}
 use Rattle.model.specs.TestLaws.{and-one, decide, differ, iff-eq}
 use Rattle.model.specs.ListLaws.{Ascending, map-out, member-elim, member-intro}
 use Rattle.model.specs.TwinLaws.{Simple, similar-sym}
 use Rattle.model.specs.ClassLaws.{group-out}
-use Rattle.model.specs.SummaryLaws.{adjacent-law, algorithm1-classes, clique-law, position-group, position-in, position-similar}
+use Rattle.model.specs.SummaryLaws.{adjacent-law, algorithm1-classes, algorithm1-summarises, clique-law, position-group, position-in, position-similar}
 use Rattle.model.specs.ReleaseLaws.{length-encode, length-u16s}
 use Rattle.model.specs.UpdateLaws.{apart}
 
@@ -35,7 +35,7 @@ u16s-rest : (l r : List ℕ) → drop (2 * length l) (concat (map u16 l) ++ r) �
 u16s-rest l r = drop-at (concat (map u16 l)) r (2 * length l) (length-u16s l)
 
 module _ (e : ℕ → ℕ → Bool) where
-  abbrev marked : List ℕ → Bool × List ℕ
+  abbrev pub marked : List ℕ → Bool × List ℕ
   marked g = (isClique (kindOf e g), g)
 
   mark-back : (k : Kind) → eqb (kindByte k) 0x43 ≡ isClique k
@@ -239,6 +239,10 @@ module _ (vs : List ℕ) (e : ℕ → ℕ → Bool) (g : Simple vs e) (asc : Asc
   length-marked [] = refl
   length-marked (x ∷ xs) = ap suc (length-marked xs)
 
+  pub told-count : told .count ≡ length gs
+  unfolding summaryBy
+  told-count = length-marked gs
+
   pub read-placed : (p : ℕ) → ltb (told .groupOf p) (told .count) ≡ member p vs
   unfolding summaryBy
   read-placed p = rw (members-back gs, length-marked gs) (iff-eq (ltb (pos p) (length gs)) (member p vs) (λ t. member-intro p vs (placed-in p (ltb-true (pos p) (length gs) t))) (λ t. lt-ltb (pos p) (length gs) (position-in vs e g asc p (member-elim p vs t))))
@@ -251,6 +255,17 @@ module _ (vs : List ℕ) (e : ℕ → ℕ → Bool) (g : Simple vs e) (asc : Asc
       step (inl x) (inl y) = rw (x, y) (read-exact p q (member-elim p vs x) (member-elim q vs y))
       step (inl x) (inr y) = rw (x, y)
       step (inr x) y = rw x
+
+  -- the summary that a file tells is one of the graph
+  pub told-summarises : Summarises vs e told
+  told-summarises = record {
+    placed = λ p m. ltb-true (told .groupOf p) (told .count) (read-placed p ∙ member-intro p vs m);
+    inhabited = λ i l. at i (algorithm1-summarises vs e g asc .inhabited i (unfold summaryOf in rw told-count at l));
+    exact = read-exact;
+  }
+    where
+      at : (i : ℕ) → (p : ℕ) × (p ∈ vs) × (summaryOf e gs .groupOf p ≡ i) → (p : ℕ) × (p ∈ vs) × (told .groupOf p ≡ i)
+      at i s = (s .0, s .1, unfold summaryBy summaryOf in (ap (position (s .0)) (members-back gs) ∙ s .2))
 
 -- a file is read as the summary that it was made of
 pub summary-encode : (n : ℕ) (vs : List ℕ) (e : ℕ → ℕ → Bool) (gs : List (List ℕ)) → summaryIn (encode n vs e gs) ≡ summaryBy (map (marked e) gs) (superedges e 0 gs)

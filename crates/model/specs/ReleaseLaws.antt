@@ -9,7 +9,7 @@ use lib.Dec.{eqb, ltb}
 use lib.ListN.{length, length-append}
 use borrow.Author.Tests.{eqb-true, eq-eqb, ne-eqb, ltb-true}
 use Rattle.model.specs.Lists.{_∈_, concat, filter, nodes}
-use Rattle.model.specs.Graph.{Graph}
+use Rattle.model.specs.Graph.{Graph, Proper}
 use Rattle.model.specs.Grouping.{algorithm1, group, leaders, least, similar}
 use Rattle.model.specs.Release.{encode, endRecord, groupRecord, headRecord, isVisible, release, superedgeCount, superedgeRecord, superedges, u16, visible, visibleEdge, visibleGroups}
 use Rattle.model.specs.History.{Alike}
@@ -18,7 +18,6 @@ use Rattle.model.specs.ListLaws.{Ascending, filter-ascending, filter-con
 use Rattle.model.specs.TwinLaws.{Simple, similar-sym}
 use Rattle.model.specs.ClassLaws.{Equivalence, leader-out, leaders-ascending, least-eq, least-leads, least-rel}
 use Rattle.model.specs.SummaryLaws.{algorithm1-classes, equivalence}
-use Rattle.model.specs.TableLaws.{Proper}
 
 -- graphs alike in what is visible have one release
 module _ (a b : Graph) (h : Alike a b) where

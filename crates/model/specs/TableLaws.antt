@@ -1,7 +1,7 @@
 -- Tables made of a graph are read as that graph.
-use mathlib.Core.Path.{_≡_, refl, sym, ap, _∙_, fun-ext}
+use mathlib.Core.Path.{_≡_, refl, sym, ap, ap₂, _∙_, fun-ext}
 use mathlib.Core.Bool.{Bool, true, false, not, _&&_, cond, Bool·beq}
-use mathlib.Core.List.{List, [], _∷_, _++_, map}
+use mathlib.Core.List.{List, [], _∷_, _++_, map, List·Memᴰ·head, List·Memᴰ·tail}
 use mathlib.Core.Logic.{_⊎_, inl, inr}
 use Prim.Native.Nat.{ℕ, suc, zero, _+_, _*_, _/_, _%_, _^_, _≤_, _<_}
 use native.Mathlib.Nat.{pow-succ', div-div-eq-div-mul, mul-zero, mul-suc}
@@ -9,12 +9,16 @@ use native.Mathlib.Omega.{arith}
 use lib.Dec.{eqb, ltb}
 use lib.ListN.{length, getD, length-append, List·getD-append}
 use lib.Seq.{getD-append-add}
-use borrow.Author.Tests.{eq-eqb, ne-eqb, ltb-true, ltb-false, not-true}
-use Rattle.model.specs.Lists.{all, concat, from, nodes, sameList}
-use Rattle.model.specs.Graph.{Graph, maxNodes}
-use Rattle.model.specs.Tables.{Tables, bitAt, edgeBit, edgesOf, graphOf, holds, keyPair, keysOf, nodeNumber, nodeOf, nodesOf, rowOf, simple, tablesOf, word}
+use borrow.Author.Tests.{eqb-true, eq-eqb, ne-eqb, ltb-true, ltb-false, not-true}
+use Rattle.model.specs.Lists.{_∈_, all, concat, filter, from, nodes, sameList}
+use Rattle.model.specs.Graph.{Graph, Proper, maxNodes}
+use Rattle.model.specs.Grouping.{algorithm1, closedKey, group, leaders, least, openKey, similar}
+use Rattle.model.specs.Tables.{Tables, bitAt, edgeBit, edgesOf, graphOf, groupIn, groupsIn, holds, keyPair, keysOf, nodeNumber, nodeOf, nodesOf, rowOf, simple, tablesOf, word}
 use Rattle.model.specs.TestLaws.{and-fst, and-snd, and-true, beq-eq, decide, eq-beq, iff-eq}
-use Rattle.model.specs.ListLaws.{all-elim, all-intro, length-from, nodes-in, same-eq, same-refl}
+use Rattle.model.specs.ListLaws.{Ascending, all-elim, all-intro, filter-cong, length-from, nodes-ascending, nodes-in, nodes-out, same-eq, same-refl}
+use Rattle.model.specs.TwinLaws.{Simple}
+use Rattle.model.specs.ClassLaws.{Equivalence, leader-out, least-eq, least-rel}
+use Rattle.model.specs.SummaryLaws.{algorithm1-classes, equivalence}
 
 double : (b : Bool) (k : ℕ) → cond b (2 ^ suc k) 0 ≡ 2 * cond b (2 ^ k) 0
 double true k = pow-succ' 2 k
@@ -81,14 +85,6 @@ getD-map-at : (f : ℕ → ℕ) (l : List ℕ) (i : ℕ) → i < length l → ge
 getD-map-at f [] i h = absurd (omega arith)
 getD-map-at f (x ∷ xs) zero h = refl
 getD-map-at f (x ∷ xs) (suc i) h = getD-map-at f xs i (omega arith)
-
--- a graph within its nodes: edges without direction, nobody edge to itself, nothing outside 0 to n - 1
-pub record Proper (b : Graph) : Type 0 where
-  pub small : b .nodeCount ≤ 512
-  pub symmetric : (p q : ℕ) → b .edge p q ≡ b .edge q p
-  pub irreflexive : (p : ℕ) → b .edge p p ≡ false
-  pub inside : (p q : ℕ) → b .edge p q ≡ true → p < b .nodeCount
-  pub held : (p : ℕ) → b .hidden p ≡ true → p < b .nodeCount
 
 pub length-row : (b : Graph) (p : ℕ) → length (rowOf b p) ≡ 8
 unfolding rowOf nodes from
@@ -217,3 +213,56 @@ module _ (n : ℕ) (t : Tables) (h : holds n t ≡ true) where
 
       held : (p : ℕ) → graphOf n t .hidden p ≡ true → p < graphOf n t .nodeCount
       held p e = unfold graphOf in (ltb-true p n (and-fst (ltb p n) _ e))
+
+pub proper-simple : (g : Graph) → Proper g → Simple (nodes (g .nodeCount)) (g .edge)
+proper-simple g h = record { symmetric = λ p q m k. h .symmetric p q; irreflexive = λ p m. h .irreflexive p }
+
+-- the groups that the node table of a graph tells are Algorithm 1's
+pub least-at : (g : Graph) (p : ℕ) → p < g .nodeCount → nodeNumber (nodesOf g) p 0 ≡ least (nodes (g .nodeCount)) (similar (nodes (g .nodeCount)) (g .edge)) p
+unfolding nodeNumber nodesOf nodeOf groupIn least
+least-at g p h = rw (getD-blocks (nodeOf g) 4 (length-node g) (nodes (g .nodeCount)) p 0 (rw length-nodes h) (omega arith), getD-nodes (g .nodeCount) p h)
+
+map-cong : (f h : ℕ → List ℕ) (l : List ℕ) → ((p : ℕ) → p ∈ l → f p ≡ h p) → map f l ≡ map h l
+map-cong f h [] s = refl
+map-cong f h (x ∷ xs) s = ap₂ _∷_ (s x (List·Memᴰ·head refl)) (map-cong f h xs (λ p m. s p (List·Memᴰ·tail m)))
+
+module _ (g : Graph) (h : Proper g) where
+  abbrev vs : List ℕ
+  vs = nodes (g .nodeCount)
+
+  abbrev r : ℕ → ℕ → Bool
+  r = similar vs (g .edge)
+
+  abbrev eq : Equivalence vs r
+  eq = equivalence vs (g .edge) (proper-simple g h) (nodes-ascending (g .nodeCount))
+
+  least-told : (p : ℕ) → p ∈ vs → nodeNumber (nodesOf g) p 0 ≡ least vs r p
+  least-told p m = least-at g p (nodes-out (g .nodeCount) p m)
+
+  group-told : (l : ℕ) → l ∈ leaders vs r → filter (λ p. eqb (nodeNumber (nodesOf g) p 0) l) vs ≡ group vs r l
+  unfolding group
+  group-told l m = filter-cong _ (r l) vs (λ p k. ap (λ (x : ℕ). eqb x l) (least-told p k) ∙ iff-eq (eqb (least vs r p) l) (r l p) (there p k) (back p k))
+    where
+      asc : Ascending vs
+      asc = nodes-ascending (g .nodeCount)
+
+      leads : (l ∈ vs) × (least vs r l ≡ l)
+      leads = leader-out vs r eq asc l m
+
+      there : (p : ℕ) → p ∈ vs → eqb (least vs r p) l ≡ true → r l p ≡ true
+      there p k t = eq .symmetric p l (rw (eqb-true (least vs r p) l t) at (least-rel vs r eq asc p k))
+
+      back : (p : ℕ) → p ∈ vs → r l p ≡ true → eqb (least vs r p) l ≡ true
+      back p k t = eq-eqb (least vs r p) l (sym (least-eq vs r eq asc l p (leads .0) k t) ∙ leads .1)
+
+  pub groups-told : groupsIn (g .nodeCount) (nodesOf g) ≡ algorithm1 vs (g .edge)
+  unfolding groupsIn leaders
+  groups-told =
+      ap (map _) (filter-cong _ (λ p. eqb (least vs r p) p) vs (λ p m. ap (λ (x : ℕ). eqb x p) (least-told p m)))
+      ∙ map-cong _ (group vs r) (leaders vs r) group-told
+      ∙ sym (algorithm1-classes vs (g .edge) (proper-simple g h) (nodes-ascending (g .nodeCount)))
+
+-- keys have 32 bits
+pub key-fits : (vs : List ℕ) (e : ℕ → ℕ → Bool) (p : ℕ) → (openKey vs e p < 2 ^ 32) × (closedKey vs e p < 2 ^ 32)
+unfolding openKey closedKey
+key-fits vs e p = (omega arith, omega arith)
