@@ -1,0 +1,4 @@
+pub mod Index
+pub mod Open
+pub mod OpenLaws
+pub mod IndexLaws
