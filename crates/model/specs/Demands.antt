@@ -8,7 +8,7 @@ use Prim.Native.Nat.{ℕ, _+_, _*_, _≤_, _<_}
 use lib.IntN.{ℤ, pos, subℕ, natAbs}
 use lib.ListN.{length}
 use Rattle.model.specs.Lists.{nodes}
-use Rattle.model.specs.Graph.{Graph, Proper}
+use Rattle.model.specs.Graph.{Graph, Proper, emptyGraph}
 use Rattle.model.specs.Grouping.{algorithm1}
 use Rattle.model.specs.Summary.{Summarises, Summary, summaryOf}
 use Rattle.model.specs.Tables.{Tables, graphOf, groupsIn, tablesOf}
@@ -18,6 +18,7 @@ use Rattle.model.specs.Release.{release, superedgeCount, visible, visibl
 use Rattle.model.specs.Reading.{summaryIn}
 use Rattle.model.specs.Calls.{applyCall, applyReasons, applyRefused, fileNeighboursCall, fileNeighboursReasons, groupCall, groupReasons, groupRefused, listRefused, neighboursCall, neighboursReasons, onto, openCall, openReasons, openRefused, readCall, readReasons, releaseCall, releaseReasons, releaseRefused, released, tiedCall, tiedReasons, tiedRefused}
 use Rattle.model.specs.History.{Alike, CallsTold, Source, graphOfSource, tablesOfSource}
+use Rattle.model.specs.Program.{accepted, inputOf, maxBytes}
 
 -- DEMAND 1. A call is refused by the listed numbers, tested in this order, each for its listed reason; and a refused call
 -- leaves every table and buffer, and returns 0 and `no`.
@@ -49,6 +50,8 @@ pub record Demand1 : Type 0 where
   pub reading-refused : (n : ℕ) (t : Tables) (file : List ℕ) → Refused (readCall n t file .result) → readCall n t file ≡ openRefused t (readCall n t file .result)
   pub file-neighbours : (file : List ℕ) (p : ℕ) (out : List ℕ) → Refuses (19 ∷ 14 ∷ 18 ∷ []) (fileNeighboursReasons file p out) (fileNeighboursCall file p out .result)
   pub file-neighbours-refused : (file : List ℕ) (p : ℕ) (out : List ℕ) → Refused (fileNeighboursCall file p out .result) → fileNeighboursCall file p out ≡ listRefused out (fileNeighboursCall file p out .result)
+  -- the program's release buffer is never too short
+  pub program : (bytes : List ℕ) (n : ℕ) (cs : List Update) → inputOf bytes ≡ accepted n cs → length (release (batchGraph (emptyGraph n) cs)) ≤ maxBytes
 
 -- DEMAND 2. What the tables of a source tell, for its plain graph g.
 pub record GroupedExactly (g : Graph) (t : Tables) : Type 0 where
