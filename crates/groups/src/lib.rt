@@ -230,5 +230,7 @@ pub fn update_edge(
     rows::change_keys(keys, u, v, insert);
     let a_joined = put_back(edges, nodes, keys, n, n, a, b);
     let b_joined = put_back(edges, nodes, keys, n, n, b, b);
-    difference(a_left + b_left, a_joined + b_joined)
+    let left = a_left + b_left;
+    let joined = a_joined + b_joined;
+    difference(left, joined)
 }
