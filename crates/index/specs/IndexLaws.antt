@@ -27,3 +27,6 @@ unfolding lengths
 sized n t f e h =
     let s = right-size n (lengths t) (not-true (wrongSize n (lengths t)) (sym e ∙ h)) in
     record { small = s .0; edges = ap (λ (l : Lengths). l .edges) (s .1); nodes = ap (λ (l : Lengths). l .nodes) (s .1); keys = ap (λ (l : Lengths). l .keys) (s .1) }
+
+pub at-n : (m n : ℕ) (l : Lengths) (f : Bool) → m ≡ n → f ≡ not (wrongSize m l) → f ≡ not (wrongSize n l)
+at-n m n l f e h = rw e at h

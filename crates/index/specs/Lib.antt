@@ -2,3 +2,5 @@ pub mod Index
 pub mod Open
 pub mod OpenLaws
 pub mod IndexLaws
+pub mod Update
+pub mod UpdateLaws

@@ -8,6 +8,7 @@ ghost use Rattle.index.specs.Index.{opened};
 use rows::Graph;
 
 mod opening;
+mod updating;
 
 // Whether n and the lengths of the tables are right (else 11).
 fn right_size(n: usize, edges: &[u64], nodes: &[u16], keys: &[u32]) -> bool

@@ -1,3 +1,5 @@
+use Rattle.index.specs.IndexLaws.{open-refused, open-done, sized}
+use borrow.Author.Tests.{not-true, not-false}
 use borrow.Author.Needs.{needs}
 use Rattle.index.proofs.open.Statement.{statement}
 use Rattle.index.proofs.open.Tie as tie
@@ -6,45 +8,38 @@ use Rattle.index.proofs.open.Lts as lts
 use Rattle.index.proofs.opening.fill.Reads as fill-reads
 use Rattle.index.proofs.right_size.Reads as right-size-reads
 
--- src/lib.rt:23:9
 right-size-requires : tie.Need-right-size-requires
 right-size-requires c κs = search needs
 
--- src/lib.rt:24:9
 same-length : tie.Need-same-length
 same-length c = search needs
 
--- src/lib.rt:24:9
 same-length-2 : tie.Need-same-length-2
 same-length-2 c = search needs
 
--- src/lib.rt:24:9
 same-length-3 : tie.Need-same-length-3
 same-length-3 c = search needs
 
--- src/lib.rt:24:9
 returns : tie.Need-returns
-returns c = ?
+returns c = open-refused _ _ _ (c .before .right-size .ensures) (not-true _ (c .if1 .taken))
 
--- src/lib.rt:26:5
 fill-requires : tie.Need-fill-requires
-fill-requires c κs = ?
+fill-requires c κs = sized _ _ _ (c .before .before .before .before .right-size .ensures) (not-false _ (c .before .before .before .if1 .left))
 
--- src/lib.rt:20:1
 same-length-4 : tie.Need-same-length-4
 same-length-4 c = search needs
 
--- src/lib.rt:20:1
 same-length-5 : tie.Need-same-length-5
 same-length-5 c = search needs
 
--- src/lib.rt:20:1
 same-length-6 : tie.Need-same-length-6
 same-length-6 c = search needs
 
--- src/lib.rt:20:1
 returns-2 : tie.Need-returns-2
-returns-2 c = ?
+returns-2 c = 
+    let f = c .before .before .before .before .before .before in
+    let i = f .before .before .before .before in
+    open-done _ _ _ _ (i .before .right-size .ensures) (not-false _ (i .if1 .left)) (f .fill .ensures)
 
 pub open-spec : {M : Type 1} → statement M
 open-spec =
