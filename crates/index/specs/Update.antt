@@ -3,9 +3,10 @@ use mathlib.Core.Path.{_≡_}
 use mathlib.Core.Bool.{Bool, cond}
 use Prim.Native.Nat.{ℕ}
 use lib.Dec.{eqb, ltb}
+use lib.IntN.{ℤ}
 use Rattle.model.specs.Graph.{Graph, Proper}
 use Rattle.model.specs.Tables.{Tables, tablesOf, graphOf}
-use Rattle.model.specs.Updates.{Update, refusal, updated}
+use Rattle.model.specs.Updates.{Update, refusal, updated, answer}
 
 abbrev pub change : ℕ → ℕ → ℕ → Update
 change kind u v = record { kind = kind; u = u; v = v }
@@ -30,3 +31,8 @@ stepped g c = cond (eqb (refusal g c) 0) (updated g c) g
 pub record Held (n : ℕ) (t : Tables) : Type 0 where
   pub same : t ≡ tablesOf (graphOf n t)
   pub proper : Proper (graphOf n t)
+
+-- an update made t into after, and was answered r
+pub record Updated (n : ℕ) (c : Update) (t after : Tables) (r : ℤ) : Type 0 where
+  pub tables : after ≡ tablesOf (stepped (graphOf n t) c)
+  pub answered : r ≡ answer (graphOf n t) c

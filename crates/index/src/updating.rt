@@ -2,13 +2,15 @@
 ghost use mathlib.Core.Path.{_≡_};
 ghost use Prim.Native.Nat.{_+_, _*_, _≤_, _<_};
 ghost use lib.Dec.{eqb};
-ghost use lib.ListN.{length};
+ghost use lib.IntN.{pos};
+ghost use lib.ListN.{length, set};
+ghost use mathlib.Core.Bool.{cond};
 ghost use Rattle.model.specs.Graph.{maxNodes, rowWords, nodeNumbers};
 ghost use Rattle.model.specs.Tables.{edgeBit, nodeNumber, graphOf};
 ghost use Rattle.model.specs.Updates.{refusal};
 ghost use Rattle.rows.specs.Rows.{lent};
 ghost use Rattle.index.specs.Index.{Sized};
-ghost use Rattle.index.specs.Update.{change, edgeRefusal, heldRefusal, markRefusal};
+ghost use Rattle.index.specs.Update.{Held, Updated, change, edgeRefusal, heldRefusal, markRefusal};
 use rows::Graph;
 
 const MARK: usize = 3;
@@ -80,4 +82,50 @@ fn refusal_of(edges: &[u64], nodes: &[u16], keys: &[u32], n: usize, kind: u16, u
         4 => mark_refusal(nodes, n, u, v, false),
         _ => 13,
     }
+}
+
+// The mark of u.
+fn set_mark(nodes: &mut [u16], u: usize, hide: bool)
+    requires { ⌜ (u < maxNodes) × (nodeNumbers * u + nodeNumbers ≤ length (now nodes)) ⌝ }
+    ensures { λ _. ⌜ now (nodes .exit) ≡ set (now (nodes .entry)) (nodeNumbers * u + 3) (cond hide 1 0) ⌝ }
+{
+    nodes[Graph::NODE_NUMBERS * u + MARK] = mark_of(hide);
+}
+
+fn mark_of(hide: bool) -> u16
+    ensures { λ r. ⌜ r ≡ cond hide 1 0 ⌝ }
+{
+    if hide { 1 } else { 0 }
+}
+
+// A refusal's number as an answer.
+fn refused(number: u16) -> i16
+    requires { ⌜ number < 18 ⌝ }
+    ensures { λ r. ⌜ r ≡ pos number ⌝ }
+{
+    number as i16
+}
+
+// One update: its answer, and the tables after it.
+pub fn update(
+    n: usize,
+    edges: &mut [u64],
+    nodes: &mut [u16],
+    keys: &mut [u32],
+    kind: u16,
+    u: usize,
+    v: usize,
+) -> i16
+    requires { ⌜ Held n (lent (now edges) (now nodes) (now keys)) ⌝ }
+    ensures { λ r. ⌜ Updated n (change kind u v) (lent (now (edges .entry)) (now (nodes .entry)) (now (keys .entry))) (lent (now (edges .exit)) (now (nodes .exit)) (now (keys .exit))) r ⌝ }
+{
+    let number = refusal_of(edges, nodes, keys, n, kind, u, v);
+    if number != 0 {
+        return refused(number);
+    }
+    if kind < 3 {
+        return groups::update_edge(edges, nodes, keys, n, u, v, kind == 1);
+    }
+    set_mark(nodes, u, kind == 3);
+    0
 }
