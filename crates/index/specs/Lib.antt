@@ -4,3 +4,5 @@ pub mod OpenLaws
 pub mod IndexLaws
 pub mod Update
 pub mod UpdateLaws
+pub mod Batch
+pub mod BatchLaws
