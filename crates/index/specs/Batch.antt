@@ -4,7 +4,7 @@ use mathlib.Core.List.{List, _++_}
 use Prim.Native.Nat.{ℕ, _+_, _*_}
 use lib.IntN.{ℤ}
 use lib.ListN.{length, take, drop}
-use Rattle.model.specs.Tables.{Tables, graphOf}
+use Rattle.model.specs.Tables.{Tables, tablesOf, graphOf}
 use Rattle.model.specs.Updates.{Update, inThrees, batchGraph, answers}
 use Rattle.model.specs.Calls.{onto}
 use Rattle.index.specs.Update.{Held}
@@ -23,3 +23,8 @@ pub record Underway (n : ℕ) (xs : List ℕ) (t₀ : Tables) (out₀ : List ℤ
   pub graph : batchGraph (graphOf n t) (rest xs i) ≡ batchGraph (graphOf n t₀) (inThrees xs)
   pub told : written out i (answers (graphOf n t) (rest xs i)) ≡ onto (answers (graphOf n t₀) (inThrees xs)) out₀
   pub size : length out ≡ length out₀
+
+-- the batch xs made t and out into after and told
+pub record Applied (n : ℕ) (xs : List ℕ) (t : Tables) (out : List ℤ) (after : Tables) (told : List ℤ) : Type 0 where
+  pub tables : after ≡ tablesOf (batchGraph (graphOf n t) (inThrees xs))
+  pub answered : told ≡ onto (answers (graphOf n t) (inThrees xs)) out

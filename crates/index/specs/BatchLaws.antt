@@ -1,19 +1,19 @@
 -- A batch, update by update.
 use mathlib.Core.Path.{_≡_, refl, sym, ap, ap₂, subst, _∙_}
-use mathlib.Core.Bool.{Bool, true, false, cond}
+use mathlib.Core.Bool.{Bool, true, false, cond, not}
 use mathlib.Core.List.{List, [], _∷_, _++_, append-assoc}
 use mathlib.Core.Logic.{_⊎_, inl, inr}
 use Prim.Native.Nat.{ℕ, suc, zero, _+_, _*_, _/_, _%_, _≤_, _<_}
 use native.Mathlib.Omega.{arith}
 use native.Mathlib.Numerals.{add-one}
-use lib.Dec.{eqb}
+use lib.Dec.{eqb, ltb, leb}
 use lib.IntN.{ℤ}
 use lib.ListN.{length, getD, take, drop, set, length-set, take-append-drop}
 use lib.Seq.{drop-cons, take-suc-set, drop-set-lt}
-use borrow.Author.Tests.{eqb-true, eq-eqb}
-use Rattle.model.specs.Graph.{Graph, Proper}
+use borrow.Author.Tests.{eqb-true, eq-eqb, ne-eqb, leb-true, leb-false, le-ltb, lt-ltb}
+use Rattle.model.specs.Graph.{Graph, Proper, maxUpdates}
 use Rattle.model.specs.Tables.{Tables, tablesOf, graphOf}
-use Rattle.model.specs.Updates.{Update, refusal, updated, answer, batchGraph, answers, inThrees, updateCount}
+use Rattle.model.specs.Updates.{Update, refusal, updated, answer, batchGraph, answers, inThrees, updateCount, wrongBatch}
 use Rattle.model.specs.Calls.{onto}
 use Rattle.model.specs.TestLaws.{decide}
 use Rattle.model.specs.UpdateLaws.{proper-updated, updated-count}
@@ -108,6 +108,11 @@ module _ {n : ℕ} {xs : List ℕ} {t₀ : Tables} {out₀ : List ℤ} {i : ℕ}
       after : rest xs (i + 1) ≡ inThrees (drop (3 * i + 3) xs)
       after = let e : 3 * (i + 1) ≡ 3 * i + 3 = omega arith in ap (λ (k : ℕ). inThrees (drop k xs)) e
 
+  -- with the numbers that the code has read, and the answer that it has stored
+  pub underway-next : {t₁ : Tables} {a b : ℤ} {u v : ℕ} → 3 * i + 3 ≤ length xs → i < length out₀ → u ≡ getD xs (3 * i + 1) 0 → v ≡ getD xs (3 * i + 2) 0 → Updated n (change (getD xs (3 * i) 0) u v) t t₁ a → b ≡ a
+      → Underway n xs t₀ out₀ (i + 1) t₁ (set out i b)
+  underway-next room l eu ev u e = rw e (underway-more room l (rw (eu, ev) at u))
+
   pub underway-done : length xs ≤ 3 * i → (t ≡ tablesOf (batchGraph (graphOf n t₀) (inThrees xs))) × (out ≡ onto (answers (graphOf n t₀) (inThrees xs)) out₀)
   underway-done l = (w .held .same ∙ ap tablesOf (unfold batchGraph in last), unfold answers in whole)
     where
@@ -122,3 +127,20 @@ module _ {n : ℕ} {xs : List ℕ} {t₀ : Tables} {out₀ : List ℤ} {i : ℕ}
         where
           plain : take i out ++ ([] ++ drop (i + 0) out) ≡ out
           plain = let e : i + 0 ≡ i = omega arith in rw e (take-append-drop i out)
+
+-- a batch in threes
+pub count-three : (xs : List ℕ) (k : ℕ) → k ≡ updateCount xs → length xs % 3 ≡ 0 → 3 * k ≡ length xs
+unfolding updateCount
+count-three xs k e h = omega arith
+
+pub whole-not : (xs : List ℕ) → (length xs % 3 ≡ 0 → ⊥) → false ≡ not (wrongBatch xs)
+unfolding wrongBatch
+whole-not xs h = rw (ne-eqb (length xs % 3) 0 h)
+
+pub whole-test : (xs : List ℕ) (k : ℕ) → length xs % 3 ≡ 0 → k ≡ updateCount xs → leb k maxUpdates ≡ not (wrongBatch xs)
+unfolding wrongBatch
+whole-test xs k h e = rw (eq-eqb (length xs % 3) 0 h, e) (step (decide (leb (updateCount xs) maxUpdates)))
+  where
+    step : (leb (updateCount xs) maxUpdates ≡ true) ⊎ (leb (updateCount xs) maxUpdates ≡ false) → leb (updateCount xs) maxUpdates ≡ not (ltb maxUpdates (updateCount xs))
+    step (inl t) = rw (t, le-ltb maxUpdates (updateCount xs) (leb-true (updateCount xs) maxUpdates t))
+    step (inr t) = rw (t, lt-ltb maxUpdates (updateCount xs) (leb-false (updateCount xs) maxUpdates t))

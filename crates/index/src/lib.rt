@@ -7,6 +7,7 @@ ghost use Rattle.rows.specs.Rows.{lent};
 ghost use Rattle.index.specs.Index.{opened};
 use rows::Graph;
 
+mod batch;
 mod opening;
 mod updating;
 
