@@ -193,9 +193,9 @@ pub visible-fit : (n : ℕ) (least : List ℕ) {m : ℕ} → m ≡ length (scan 
 unfolding fileNodes visibleOf
 visible-fit n least e = e
 
-pub joins-counted : (n : ℕ) (least edges ls : List ℕ) {s : ℕ} → s ≡ superedgeTotal (edgeBit edges) ls → ls ≡ leadersOf n least → s ≡ fileSuperedges n least edges
+pub superedges-counted : (n : ℕ) (least edges ls : List ℕ) {s : ℕ} → s ≡ superedgeTotal (edgeBit edges) ls → ls ≡ leadersOf n least → s ≡ fileSuperedges n least edges
 unfolding fileSuperedges
-joins-counted n least edges ls e q = e ∙ ap (superedgeTotal (edgeBit edges)) q
+superedges-counted n least edges ls e q = e ∙ ap (superedgeTotal (edgeBit edges)) q
 
 pub taken-length : (n : ℕ) (least : List ℕ) {s t : List ℕ} {r : ℕ} → n ≤ length s → Wrote s 0 (scan (leads least) n 0) t r → r ≡ length (take r t)
 unfolding leadersOf
