@@ -9,6 +9,7 @@ use rows::Graph;
 
 mod batch;
 mod opening;
+mod queries;
 mod updating;
 
 // Whether n and the lengths of the tables are right (else 11).

@@ -13,8 +13,6 @@ ghost use Rattle.index.specs.Index.{Sized};
 ghost use Rattle.index.specs.Update.{Held, Updated, change, edgeRefusal, heldRefusal, markRefusal};
 use rows::Graph;
 
-const MARK: usize = 3;
-
 // 16 where what is wanted is there already, 17 where what is not wanted is not there, else 0.
 fn held_refusal(wanted: bool, there: bool) -> u16
     ensures { λ r. ⌜ r ≡ heldRefusal wanted there ⌝ }
@@ -53,7 +51,7 @@ fn is_hidden(nodes: &[u16], u: usize) -> bool
     requires { ⌜ (u < maxNodes) × (nodeNumbers * u + nodeNumbers ≤ length (now nodes)) ⌝ }
     ensures { λ r. ⌜ r ≡ eqb (nodeNumber (now (nodes .entry)) u 3) 1 ⌝ }
 {
-    nodes[Graph::NODE_NUMBERS * u + MARK] == 1
+    groups::number(nodes, u, groups::MARK) == 1
 }
 
 // Why a hiding or revealing is refused, or 0.
@@ -89,7 +87,7 @@ fn set_mark(nodes: &mut [u16], u: usize, hide: bool)
     requires { ⌜ (u < maxNodes) × (nodeNumbers * u + nodeNumbers ≤ length (now nodes)) ⌝ }
     ensures { λ _. ⌜ now (nodes .exit) ≡ set (now (nodes .entry)) (nodeNumbers * u + 3) (cond hide 1 0) ⌝ }
 {
-    nodes[Graph::NODE_NUMBERS * u + MARK] = mark_of(hide);
+    nodes[Graph::NODE_NUMBERS * u + groups::MARK] = mark_of(hide);
 }
 
 fn mark_of(hide: bool) -> u16

@@ -1,27 +1,18 @@
-use mathlib.Core.Path.{refl}
-use Rattle.model.specs.Tables.{nodeNumber}
+use mathlib.Core.Path.{ap}
+use Prim.Native.Nat.{ℕ}
+use lib.Dec.{eqb}
 use borrow.Author.Needs.{needs}
 use Rattle.index.proofs.updating.is_hidden.Statement.{statement}
 use Rattle.index.proofs.updating.is_hidden.Tie as tie
 use Rattle.index.proofs.updating.is_hidden.Reads as reads
 use Rattle.index.proofs.updating.is_hidden.Lts as lts
+use Rattle.groups.proofs.number.Reads as number-reads
 
-mul-result : tie.Need-mul-result
-mul-result c = search needs
-
-add-result : tie.Need-add-result
-add-result c = search needs
-
-mul-result-2 : tie.Need-mul-result-2
-mul-result-2 c = search needs
-
-shared-slice-read-result : tie.Need-shared-slice-read-result
-shared-slice-read-result c = search needs
+number-requires : tie.Need-number-requires
+number-requires c κs = search needs
 
 returns : tie.Need-returns
-unfolding nodeNumber
-returns c = refl
+returns c = ap (λ (x : ℕ). eqb x 1) (c .number .ensures)
 
 pub is-hidden-spec : {M : Type 1} → statement M
-is-hidden-spec =
-    tie.close (tie.spec mul-result add-result mul-result-2 shared-slice-read-result returns)
+is-hidden-spec = tie.close (tie.spec number-requires returns)
