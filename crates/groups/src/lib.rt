@@ -32,18 +32,12 @@ const NEXT: usize = 1;
 
 const PREVIOUS: usize = 2;
 
-fn wide(x: u16) -> usize
-    ensures { λ r. ⌜ r ≡ x ⌝ }
-{
-    x as usize
-}
-
 // Number k of node p.
-fn number(nodes: &[u16], p: usize, k: usize) -> usize
+pub fn number(nodes: &[u16], p: usize, k: usize) -> usize
     requires { ⌜ nodeNumbers * p + k < length (now nodes) ⌝ }
     ensures { λ r. ⌜ r ≡ nodeNumber (now (nodes .entry)) p k ⌝ }
 {
-    wide(nodes[Graph::NODE_NUMBERS * p + k])
+    rows::wide(nodes[Graph::NODE_NUMBERS * p + k])
 }
 
 fn store(nodes: &mut [u16], p: usize, k: usize, v: usize)
