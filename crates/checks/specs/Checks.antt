@@ -1,25 +1,33 @@
 -- What the test of lent tables looks at. Together it is the model's `holds` (HoldLaws).
 use mathlib.Core.Bool.{Bool, not, _&&_, _||_}
 use mathlib.Core.List.{List}
-use Prim.Native.Nat.{ℕ, _+_, _*_}
+use Prim.Native.Nat.{ℕ, _+_, _*_, _%_, _^_}
 use lib.Dec.{eqb, leb, ltb}
 use lib.ListN.{getD}
 use Rattle.model.specs.Lists.{all, nodes}
 use Rattle.model.specs.Graph.{maxNodes, rowWords}
+use Rattle.model.specs.Grouping.{cube, openKey}
 use Rattle.model.specs.Tables.{edgeBit, nodeNumber}
-use Rattle.rows.specs.Search.{firstFrom, graphIn, joins, meets, rowIn}
-use Rattle.rows.specs.KeyLaws.{keyOf}
+use Rattle.rows.specs.Search.{edgesIn, firstFrom, joins, meets, rowIn}
 
--- if node q's bit stands in p's row, q is another node of the graph, and p's bit stands in q's row
+-- q is another node of the graph, and p's bit stands in q's row
+unfoldable pub mirrored : ℕ → List ℕ → ℕ → ℕ → Bool
+mirrored n edges p q = ltb q n && (not (eqb q p) && edgeBit edges q p)
+
+-- node q's bit does not stand in p's row, or is mirrored
 unfoldable pub bitHolds : ℕ → List ℕ → ℕ → ℕ → Bool
-bitHolds n edges p q = not (edgeBit edges p q) || (ltb q n && (not (eqb q p) && edgeBit edges q p))
+bitHolds n edges p q = not (edgeBit edges p q) || mirrored n edges p q
 
 unfoldable pub rowHolds : ℕ → List ℕ → ℕ → Bool
 rowHolds n edges p = all (nodes maxNodes) (bitHolds n edges p)
 
+-- both keys of p are those of a row whose cubes add up to sum
+unfoldable pub agrees : List ℕ → ℕ → ℕ → Bool
+agrees keys p sum = eqb (getD keys (2 * p) 0) sum && eqb (getD keys (2 * p + 1) 0) ((sum + cube p) % 2 ^ 32)
+
 -- both keys of p are those of its row
 unfoldable pub keysHold : ℕ → List ℕ → List ℕ → ℕ → Bool
-keysHold n edges keys p = eqb (getD keys (2 * p + 0) 0) (keyOf (graphIn n edges) p 0) && eqb (getD keys (2 * p + 1) 0) (keyOf (graphIn n edges) p 1)
+keysHold n edges keys p = agrees keys p (openKey (nodes n) (edgesIn n edges) p)
 
 unfoldable pub rowsHold : ℕ → List ℕ → List ℕ → Bool
 rowsHold n edges keys = all (nodes n) (λ p. rowHolds n edges p && keysHold n edges keys p)

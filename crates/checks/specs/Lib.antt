@@ -1,2 +1,4 @@
+pub mod Checks
 pub mod Walk
 pub mod WalkLaws
+pub mod StepLaws
