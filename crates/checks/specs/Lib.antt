@@ -2,3 +2,5 @@ pub mod Checks
 pub mod Walk
 pub mod WalkLaws
 pub mod StepLaws
+pub mod CertificateLaws
+pub mod HoldLaws
