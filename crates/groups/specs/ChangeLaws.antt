@@ -154,9 +154,9 @@ module _ {n : ℕ} {t : Tables} (a : Bare n t) where
   unfolding graphOf edgesIn
   alike-bare = refl
 
-  mark : (p : ℕ) → p < n → nodeNumber (t .nodes) p 3 ≡ cond (graphOf n t .hidden p) 1 0
+  pub bare-mark : (p : ℕ) → p < n → nodeNumber (t .nodes) p 3 ≡ cond (graphOf n t .hidden p) 1 0
   unfolding graphOf
-  mark p hp = step (lt-ltb p n hp) (decide (eqb (nodeNumber (t .nodes) p 3) 1))
+  bare-mark p hp = step (lt-ltb p n hp) (decide (eqb (nodeNumber (t .nodes) p 3) 1))
     where
       step : ltb p n ≡ true → (eqb (nodeNumber (t .nodes) p 3) 1 ≡ true) ⊎ (eqb (nodeNumber (t .nodes) p 3) 1 ≡ false) → nodeNumber (t .nodes) p 3 ≡ cond (graphOf n t .hidden p) 1 0
       step l (inl e) = rw (l, e) (eqb-true _ _ e)
@@ -178,4 +178,4 @@ module _ {n : ℕ} {t : Tables} (a : Bare n t) where
 
       pub bare-done : n ≤ m → t₂ ≡ nodesOf (graphOf n t)
       unfolding graphOf edgesIn
-      bare-done h = build-nodes (graphOf n t) (a .proper) l b h mark
+      bare-done h = build-nodes (graphOf n t) (a .proper) l b h bare-mark

@@ -1,0 +1,6 @@
+pub mod Checks
+pub mod Walk
+pub mod WalkLaws
+pub mod StepLaws
+pub mod CertificateLaws
+pub mod HoldLaws
