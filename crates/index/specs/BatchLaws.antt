@@ -10,12 +10,12 @@ use lib.Dec.{eqb, ltb, leb}
 use lib.IntN.{ℤ}
 use lib.ListN.{length, getD, take, drop, set, length-set, take-append-drop}
 use lib.Seq.{drop-cons, take-suc-set, drop-set-lt}
-use borrow.Author.Tests.{eqb-true, eq-eqb, ne-eqb, leb-true, leb-false, le-ltb, lt-ltb}
+use borrow.Author.Tests.{eqb-true, eq-eqb, ne-eqb, leb-true, leb-false, le-ltb, lt-ltb, not-false}
 use Rattle.model.specs.Graph.{Graph, Proper, maxUpdates}
 use Rattle.model.specs.Tables.{Tables, tablesOf, graphOf}
 use Rattle.model.specs.Updates.{Update, refusal, updated, answer, batchGraph, answers, inThrees, updateCount, wrongBatch}
 use Rattle.model.specs.Calls.{onto}
-use Rattle.model.specs.TestLaws.{decide}
+use Rattle.model.specs.TestLaws.{decide, or-none}
 use Rattle.model.specs.UpdateLaws.{proper-updated, updated-count}
 use Rattle.groups.specs.ChangeLaws.{tables-read}
 use Rattle.index.specs.Update.{change, stepped, Held, Updated}
@@ -144,3 +144,7 @@ whole-test xs k h e = rw (eq-eqb (length xs % 3) 0 h, e) (step (decide (leb (upd
     step : (leb (updateCount xs) maxUpdates ≡ true) ⊎ (leb (updateCount xs) maxUpdates ≡ false) → leb (updateCount xs) maxUpdates ≡ not (ltb maxUpdates (updateCount xs))
     step (inl t) = rw (t, le-ltb maxUpdates (updateCount xs) (leb-true (updateCount xs) maxUpdates t))
     step (inr t) = rw (t, lt-ltb maxUpdates (updateCount xs) (leb-false (updateCount xs) maxUpdates t))
+
+pub whole-three : (xs : List ℕ) → wrongBatch xs ≡ false → length xs % 3 ≡ 0
+unfolding wrongBatch
+whole-three xs h = eqb-true (length xs % 3) 0 (not-false _ (or-none (not (eqb (length xs % 3) 0)) _ h .0))
