@@ -1,10 +1,11 @@
-// What a caller uses on lent tables: open, apply, neighbours, tied, group.
+// What a caller uses on lent tables: open, apply, neighbours, tied, group. Each is the model's call (Calls) on every input.
 ghost use mathlib.Core.Path.{_≡_};
 ghost use mathlib.Core.Bool.{not};
-ghost use Rattle.model.specs.Refusals.{lengths, wrongSize};
-ghost use Rattle.model.specs.Calls.{openCall};
+ghost use mathlib.Core.List.{[]};
+ghost use Rattle.model.specs.Refusals.{firstOf, lengths, wrongSize};
+ghost use Rattle.model.specs.Calls.{applyCall, applyReasons, groupCall, neighboursCall, openCall, tiedCall};
 ghost use Rattle.rows.specs.Rows.{lent};
-ghost use Rattle.index.specs.Index.{opened};
+ghost use Rattle.index.specs.Index.{applied, grouped, listed, opened, tableReasons, tiedSay};
 use rows::Graph;
 
 mod batch;
@@ -19,6 +20,19 @@ fn right_size(n: usize, edges: &[u64], nodes: &[u16], keys: &[u32]) -> bool
     Graph::empty(n).fits(edges, nodes, keys)
 }
 
+// 11, or 12 where the tables hold no graph, or 0.
+pub fn table_refusal(n: usize, edges: &[u64], nodes: &[u16], keys: &[u32]) -> u16
+    ensures { λ r. ⌜ r ≡ firstOf (tableReasons n (lent (now (edges .entry)) (now (nodes .entry)) (now (keys .entry))) []) ⌝ }
+{
+    if !right_size(n, edges, nodes, keys) {
+        return 11;
+    }
+    if !checks::hold(edges, nodes, keys, n) {
+        return 12;
+    }
+    0
+}
+
 // A graph of n nodes without edges, none hidden. 0, or 11.
 pub fn open(n: usize, edges: &mut [u64], nodes: &mut [u16], keys: &mut [u32]) -> u16
     ensures { λ r. ⌜ opened r (lent (now (edges .exit)) (now (nodes .exit)) (now (keys .exit))) ≡ openCall n (lent (now (edges .entry)) (now (nodes .entry)) (now (keys .entry))) ⌝ }
@@ -27,5 +41,48 @@ pub fn open(n: usize, edges: &mut [u64], nodes: &mut [u16], keys: &mut [u32]) ->
         return 11;
     }
     opening::fill(n, edges, nodes, keys);
+    0
+}
+
+// Why a batch as a whole is refused (11, 12, 18), or 0.
+fn batch_refusal(
+    n: usize,
+    edges: &[u64],
+    nodes: &[u16],
+    keys: &[u32],
+    batch: &[u16],
+    answers: &[i16],
+) -> u16
+    ensures { λ r. ⌜ r ≡ firstOf (applyReasons n (lent (now (edges .entry)) (now (nodes .entry)) (now (keys .entry))) (now (batch .entry)) (now (answers .entry))) ⌝ }
+{
+    if !batch::is_whole(batch) {
+        return 11;
+    }
+    let number = table_refusal(n, edges, nodes, keys);
+    if number != 0 {
+        return number;
+    }
+    if answers.len() < batch::count(batch) {
+        return 18;
+    }
+    0
+}
+
+// The updates of a batch, three numbers each, in order; each writes its answer. 0, or 11, 12, 18.
+pub fn apply(
+    n: usize,
+    edges: &mut [u64],
+    nodes: &mut [u16],
+    keys: &mut [u32],
+    batch: &[u16],
+    answers: &mut [i16],
+) -> u16
+    ensures { λ r. ⌜ applied r (lent (now (edges .exit)) (now (nodes .exit)) (now (keys .exit))) (now (answers .exit)) ≡ applyCall n (lent (now (edges .entry)) (now (nodes .entry)) (now (keys .entry))) (now (batch .entry)) (now (answers .entry)) ⌝ }
+{
+    let number = batch_refusal(n, edges, nodes, keys, batch, answers);
+    if number != 0 {
+        return number;
+    }
+    batch::run(n, edges, nodes, keys, batch, answers);
     0
 }
