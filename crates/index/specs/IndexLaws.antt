@@ -1,28 +1,34 @@
 -- The calls on tables are those of the model.
 use mathlib.Core.Path.{_≡_, refl, sym, ap, ap₂, _∙_}
 use mathlib.Core.Bool.{Bool, true, false, not, cond, _||_, or-false}
-use mathlib.Core.List.{List, [], _∷_}
+use mathlib.Core.List.{List, [], _∷_, _++_}
 use mathlib.Core.Logic.{_≢_, _⊎_, inl, inr}
-use Prim.Native.Nat.{ℕ, _%_, _≤_, _<_}
+use Prim.Native.Nat.{ℕ, _+_, _%_, _≤_, _<_}
 use native.Mathlib.Omega.{arith}
 use lib.Dec.{eqb, ltb}
 use lib.IntN.{ℤ}
-use lib.ListN.{length}
+use lib.ListN.{length, drop}
+use lib.Seq.{sets, sets-eq}
 use borrow.Author.Tests.{not-true, not-false, eq-eqb, ne-eqb, lt-ltb, le-ltb, ltb-false}
 use Rattle.model.specs.Graph.{emptyGraph}
-use Rattle.model.specs.Tables.{Tables, tablesOf, graphOf, holds}
+use Rattle.model.specs.Tables.{Tables, tablesOf, graphOf, holds, edgeBit, nodeNumber, groupIn}
 use Rattle.model.specs.Refusals.{Reasons, firstOf, Lengths, lengths, wrongSize}
 use Rattle.model.specs.Updates.{updateCount, wrongBatch}
-use Rattle.model.specs.Calls.{judged, Opened, openReasons, openCall, applyReasons, applyRefused, applyCall}
+use Rattle.model.specs.Calls.{judged, onto, Opened, openReasons, openCall, applyReasons, applyRefused, applyCall, neighboursReasons, listRefused, neighboursCall, tiedReasons, tiedRefused, tiedCall, groupReasons, groupRefused, groupCall}
 use Rattle.model.specs.TestLaws.{or-none}
 use Rattle.model.specs.UpdateLaws.{first-none}
 use Rattle.model.specs.TableLaws.{held-tables, held-proper}
 use Rattle.model.specs.HistoryLaws.{right-size}
 use Rattle.model.specs.CallLaws.{judged-done, judged-refused}
-use Rattle.index.specs.Index.{opened, applied, Sized, tableReasons}
+use Rattle.index.specs.Index.{opened, applied, listed, tiedSay, grouped, Sized, tableReasons}
 use Rattle.index.specs.Update.{Held}
 use Rattle.index.specs.Batch.{Applied as BatchDone}
 use Rattle.index.specs.BatchLaws.{whole-three}
+use Rattle.index.specs.Query.{ledBy, kindBy}
+use Rattle.index.specs.QueryLaws.{row-neighbours, l-below, m-below, least-is, leader-told, led-group, kind-told}
+use Rattle.layout.specs.Scan.{scan}
+use Rattle.model.specs.Grouping.{kindOf}
+use Rattle.model.specs.Queries.{neighbours, kindNumber}
 
 -- 11: what `fits` says
 pub open-refused : (n : ℕ) (t : Tables) (f : Bool) → f ≡ not (wrongSize n (lengths t)) → f ≡ false → opened 11 t ≡ openCall n t
@@ -134,3 +140,97 @@ module _ (n : ℕ) (t : Tables) (xs : List ℕ) (out : List ℤ) where
   pub apply-done : (r : ℕ) → r ≡ firstOf (applyReasons n t xs out) → r ≡ 0 → {t₁ : Tables} {out₁ : List ℤ} → BatchDone n xs t out t₁ out₁ → applied 0 t₁ out₁ ≡ applyCall n t xs out
   unfolding applyCall
   apply-done r e d b = ap₂ (applied 0) (b .tables) (b .answered) ∙ call-done (applyReasons n t xs out) (applyRefused t out) _ (sym e ∙ d)
+
+-- neighbours
+module _ (n : ℕ) (t : Tables) (p : ℕ) (out : List ℕ) (r : ℕ) (e : r ≡ firstOf (tableReasons n t [])) where
+  pub neighbours-table : r ≢ 0 → listed r 0 out ≡ neighboursCall n t p out
+  unfolding neighboursCall neighboursReasons
+  neighbours-table d = call-refused _ (listRefused out) _ r (table-refused n t r e _ d) d
+
+  module _ (z : r ≡ 0) where
+    pub neighbours-outside : n ≤ p → listed 14 0 out ≡ neighboursCall n t p out
+    unfolding neighboursCall neighboursReasons
+    neighbours-outside h = call-refused _ (listRefused out) _ 14 (table-rest n t r e z _ ∙ unfold firstOf in rw (le-ltb p n h)) (omega arith)
+
+    module _ (k : ℕ) (h : p < n) (c : k ≡ length (scan (edgeBit (t .edges) p) n 0)) where
+      told : k ≡ length (neighbours (graphOf n t) p)
+      told = c ∙ ap length (row-neighbours n p t h)
+
+      pub neighbours-short : length out < k → listed 18 0 out ≡ neighboursCall n t p out
+      unfolding neighboursCall neighboursReasons
+      neighbours-short l = call-refused _ (listRefused out) _ 18 (table-rest n t r e z _ ∙ unfold firstOf in rw (lt-ltb p n h, lt-ltb (length out) (length (neighbours (graphOf n t) p)) (omega (arith, told)))) (omega arith)
+
+      pub neighbours-done : k ≤ length out → {out₁ : List ℕ} → out₁ ≡ sets out 0 (scan (edgeBit (t .edges) p) n 0) → listed 0 k out₁ ≡ neighboursCall n t p out
+      unfolding neighboursCall neighboursReasons
+      neighbours-done l {out₁} w =
+          ap₂ (listed 0) told (w ∙ ap (sets out 0) (row-neighbours n p t h) ∙ whole (neighbours (graphOf n t) p) (omega (arith, told)))
+          ∙ call-done (neighboursReasons n t p out) (listRefused out) _ none
+        where
+          none : firstOf (neighboursReasons n t p out) ≡ 0
+          none = table-rest n t r e z ((not (ltb p n), 14) ∷ (ltb (length out) (length (neighbours (graphOf n t) p)), 18) ∷ []) ∙ unfold firstOf in rw (lt-ltb p n h, le-ltb (length out) (length (neighbours (graphOf n t) p)) (omega (arith, told)))
+
+          whole : (xs : List ℕ) → length xs ≤ length out → sets out 0 xs ≡ onto xs out
+          whole xs q = let f : 0 + length xs ≡ length xs = omega arith in sets-eq xs out 0 (omega arith) ∙ ap (λ (j : ℕ). xs ++ drop j out) f
+
+-- tied
+module _ (n : ℕ) (t : Tables) (p q r : ℕ) (e : r ≡ firstOf (tableReasons n t [])) where
+  pub tied-table : r ≢ 0 → tiedSay r false ≡ tiedCall n t p q
+  unfolding tiedCall tiedReasons
+  tied-table d = call-refused _ tiedRefused _ r (table-refused n t r e _ d) d
+
+  module _ (z : r ≡ 0) where
+    pub tied-first : n ≤ p → tiedSay 14 false ≡ tiedCall n t p q
+    unfolding tiedCall tiedReasons
+    tied-first h = call-refused _ tiedRefused _ 14 (table-rest n t r e z _ ∙ unfold firstOf in rw (le-ltb p n h)) (omega arith)
+
+    pub tied-second : p < n → n ≤ q → tiedSay 14 false ≡ tiedCall n t p q
+    unfolding tiedCall tiedReasons
+    tied-second h k = call-refused _ tiedRefused _ 14 (table-rest n t r e z _ ∙ unfold firstOf in rw (lt-ltb p n h, le-ltb q n k)) (omega arith)
+
+    module _ (h : p < n) (k : q < n) where
+      pub tied-loop : p ≡ q → tiedSay 15 false ≡ tiedCall n t p q
+      unfolding tiedCall tiedReasons
+      tied-loop d = call-refused _ tiedRefused _ 15 (table-rest n t r e z _ ∙ unfold firstOf in rw (lt-ltb p n h, lt-ltb q n k, eq-eqb p q d)) (omega arith)
+
+      pub tied-done : p ≢ q → {b : Bool} → b ≡ edgeBit (t .edges) p q → tiedSay 0 b ≡ tiedCall n t p q
+      unfolding tiedCall tiedReasons
+      tied-done d {b} w =
+          ap (tiedSay 0) (w ∙ bit)
+          ∙ call-done (tiedReasons n t p q) tiedRefused _ none
+        where
+          none : firstOf (tiedReasons n t p q) ≡ 0
+          none = table-rest n t r e z ((not (ltb p n) || not (ltb q n), 14) ∷ (eqb p q, 15) ∷ []) ∙ unfold firstOf in rw (lt-ltb p n h, lt-ltb q n k, ne-eqb p q d)
+
+          bit : edgeBit (t .edges) p q ≡ graphOf n t .edge p q
+          bit = unfold graphOf in rw (lt-ltb p n h, lt-ltb q n k)
+
+-- group
+module _ (n : ℕ) (t : Tables) (p r : ℕ) (e : r ≡ firstOf (tableReasons n t [])) where
+  pub group-table : r ≢ 0 → grouped r 0 0 0 ≡ groupCall n t p
+  unfolding groupCall groupReasons
+  group-table d = call-refused _ groupRefused _ r (table-refused n t r e _ d) d
+
+  module _ (z : r ≡ 0) where
+    pub group-outside : n ≤ p → grouped 14 0 0 0 ≡ groupCall n t p
+    unfolding groupCall groupReasons
+    group-outside h = call-refused _ groupRefused _ 14 (table-rest n t r e z _ ∙ unfold firstOf in rw (le-ltb p n h)) (omega arith)
+
+    module _ (h : p < n) (l : ℕ) (x : l ≡ nodeNumber (t .nodes) p 0) where
+      held : Held n t
+      held = table-held n t r e z
+
+      -- the least member and the one that follows it are nodes
+      pub group-ends : (l < n) × (nodeNumber (t .nodes) l 1 < n)
+      group-ends = let y = x ∙ least-is n t held p h in (rw y (l-below n t held p h), rw y (m-below n t held p h))
+
+      pub group-done : {k s : ℕ} → k ≡ kindBy (t .edges) (t .nodes) l → s ≡ length (scan (ledBy (t .nodes) l) n 0) → grouped 0 l k s ≡ groupCall n t p
+      unfolding groupCall groupReasons
+      group-done {k} {s} a b =
+          (λ i. record { result = 0; least = (x ∙ leader-told n t held p h) i; kind = kind i; size = size i })
+          ∙ call-done _ groupRefused _ (table-rest n t r e z _ ∙ unfold firstOf in rw (lt-ltb p n h))
+        where
+          kind : k ≡ kindNumber (kindOf (graphOf n t .edge) (groupIn (graphOf n t) p))
+          kind = a ∙ ap (kindBy (t .edges) (t .nodes)) x ∙ kind-told n t held p h
+
+          size : s ≡ length (groupIn (graphOf n t) p)
+          size = b ∙ ap (λ (y : ℕ). length (scan (ledBy (t .nodes) y) n 0)) x ∙ ap length (led-group n t held p h)

@@ -9,8 +9,8 @@ ghost use Rattle.model.specs.Calls.{onto};
 ghost use Rattle.rows.specs.Rows.{lent};
 ghost use Rattle.index.specs.Update.{Held};
 ghost use Rattle.index.specs.Batch.{Applied};
-use rows::Graph;
 use crate::updating::update;
+use rows::Graph;
 
 // How many updates a batch has.
 pub fn count(batch: &[u16]) -> usize

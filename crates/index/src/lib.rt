@@ -86,3 +86,130 @@ pub fn apply(
     batch::run(n, edges, nodes, keys, batch, answers);
     0
 }
+
+// A query's number and what it answers; 0 and no where it is refused.
+pub struct Listed {
+    pub result: u16,
+    pub count: u16,
+}
+
+pub struct Edge {
+    pub result: u16,
+    pub yes: bool,
+}
+
+pub struct Member {
+    pub result: u16,
+    pub least: u16,
+    pub kind: u16,
+    pub size: u16,
+}
+
+// The neighbours of p, ascending, and their count. 0, or 11, 12, 14, 18.
+pub fn neighbours(
+    n: usize,
+    edges: &[u64],
+    nodes: &[u16],
+    keys: &[u32],
+    p: u16,
+    out: &mut [u16],
+) -> Listed
+    ensures { λ r. ⌜ listed (r .result) (r .count) (now (out .exit)) ≡ neighboursCall n (lent (now (edges .entry)) (now (nodes .entry)) (now (keys .entry))) p (now (out .entry)) ⌝ }
+{
+    let number = table_refusal(n, edges, nodes, keys);
+    if number != 0 {
+        return Listed {
+            result: number,
+            count: 0,
+        };
+    }
+    let node = p as usize;
+    if node >= n {
+        return Listed {
+            result: 14,
+            count: 0,
+        };
+    }
+    let count = queries::count_neighbours(edges, n, node);
+    if out.len() < count {
+        return Listed {
+            result: 18,
+            count: 0,
+        };
+    }
+    queries::write_neighbours(edges, n, node, out);
+    Listed {
+        result: 0,
+        count: count as u16,
+    }
+}
+
+// Whether there is an edge between p and q. 0, or 11, 12, 14, 15.
+pub fn tied(n: usize, edges: &[u64], nodes: &[u16], keys: &[u32], p: u16, q: u16) -> Edge
+    ensures { λ r. ⌜ tiedSay (r .result) (r .yes) ≡ tiedCall n (lent (now (edges .entry)) (now (nodes .entry)) (now (keys .entry))) p q ⌝ }
+{
+    let number = table_refusal(n, edges, nodes, keys);
+    if number != 0 {
+        return Edge {
+            result: number,
+            yes: false,
+        };
+    }
+    let u = p as usize;
+    if u >= n {
+        return Edge {
+            result: 14,
+            yes: false,
+        };
+    }
+    let v = q as usize;
+    if v >= n {
+        return Edge {
+            result: 14,
+            yes: false,
+        };
+    }
+    if u == v {
+        return Edge {
+            result: 15,
+            yes: false,
+        };
+    }
+    Edge {
+        result: 0,
+        yes: rows::edge(edges, u, v),
+    }
+}
+
+// The group of p: least member, kind (0 singleton, 1 independent, 2 clique), size. 0, or 11, 12, 14.
+pub fn group(n: usize, edges: &[u64], nodes: &[u16], keys: &[u32], p: u16) -> Member
+    ensures { λ r. ⌜ grouped (r .result) (r .least) (r .kind) (r .size) ≡ groupCall n (lent (now (edges .entry)) (now (nodes .entry)) (now (keys .entry))) p ⌝ }
+{
+    let number = table_refusal(n, edges, nodes, keys);
+    if number != 0 {
+        return Member {
+            result: number,
+            least: 0,
+            kind: 0,
+            size: 0,
+        };
+    }
+    let node = p as usize;
+    if node >= n {
+        return Member {
+            result: 14,
+            least: 0,
+            kind: 0,
+            size: 0,
+        };
+    }
+    let least = groups::number(nodes, node, groups::LEAST);
+    let kind = queries::kind_of(edges, nodes, n, least);
+    let size = queries::group_size(nodes, n, least);
+    Member {
+        result: 0,
+        least: least as u16,
+        kind,
+        size: size as u16,
+    }
+}

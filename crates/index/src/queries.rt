@@ -7,7 +7,9 @@ ghost use Rattle.model.specs.Graph.{maxNodes, rowWords, nodeNumbers};
 ghost use Rattle.model.specs.Tables.{edgeBit, nodeNumber};
 ghost use Rattle.layout.specs.Scan.{scan};
 ghost use Rattle.index.specs.Query.{kindBy, ledBy};
-use groups::{number, LEAST, NEXT};
+use groups::LEAST;
+use groups::NEXT;
+use groups::number;
 
 // How many neighbours p has.
 pub fn count_neighbours(edges: &[u64], n: usize, p: usize) -> usize

@@ -69,7 +69,15 @@ fn mark_refusal(nodes: &[u16], n: usize, u: usize, v: usize, hide: bool) -> u16
 }
 
 // Why an update is refused, or 0.
-fn refusal_of(edges: &[u64], nodes: &[u16], keys: &[u32], n: usize, kind: u16, u: usize, v: usize) -> u16
+fn refusal_of(
+    edges: &[u64],
+    nodes: &[u16],
+    keys: &[u32],
+    n: usize,
+    kind: u16,
+    u: usize,
+    v: usize,
+) -> u16
     requires { ⌜ Sized n (lent (now edges) (now nodes) (now keys)) ⌝ }
     ensures { λ r. ⌜ r ≡ refusal (graphOf n (lent (now (edges .entry)) (now (nodes .entry)) (now (keys .entry)))) (change kind u v) ⌝ }
 {

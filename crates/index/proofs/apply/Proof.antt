@@ -26,7 +26,7 @@ returns : tie.Need-returns
 returns c = apply-refused _ _ _ _ _ (c .before .batch-refusal .ensures) (c .if1 .taken)
 
 run-requires : tie.Need-run-requires
-run-requires c κs = 
+run-requires c κs =
     let r = c .before .before .before .before .before in
     let a = apply-ready _ _ _ _ _ (r .batch-refusal .ensures) (c .before .before .before .before .if1 .left) in
     (a .0, (a .1, a .2))
@@ -44,7 +44,7 @@ same-length-8 : tie.Need-same-length-8
 same-length-8 c = search needs
 
 returns-2 : tie.Need-returns-2
-returns-2 c = 
+returns-2 c =
     let d = c .before .before .before .before .before .before .before in
     let r = d .before .before .before .before .before .before in
     apply-done _ _ _ _ _ (r .batch-refusal .ensures) (d .before .before .before .before .before .if1 .left) (d .run .ensures)

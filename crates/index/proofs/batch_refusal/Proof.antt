@@ -25,12 +25,12 @@ count-requires : tie.Need-count-requires
 count-requires c κs = search needs
 
 returns-3 : tie.Need-returns-3
-returns-3 c = 
+returns-3 c =
     let r = c .before .before .before in
     apply-short _ _ _ _ _ (r .before .before .is-whole .ensures) (not-false _ (r .before .if1 .left)) _ _ (r .table-refusal .ensures) (c .before .before .if2 .left) (c .before .count .ensures) (c .if3 .taken)
 
 returns-4 : tie.Need-returns-4
-returns-4 c = 
+returns-4 c =
     let r = c .before .before .before in
     apply-none _ _ _ _ _ (r .before .before .is-whole .ensures) (not-false _ (r .before .if1 .left)) _ _ (r .table-refusal .ensures) (c .before .before .if2 .left) (c .before .count .ensures) (c .if3 .left)
 

@@ -36,7 +36,7 @@ same-length-6 : tie.Need-same-length-6
 same-length-6 c = search needs
 
 returns-2 : tie.Need-returns-2
-returns-2 c = 
+returns-2 c =
     let f = c .before .before .before .before .before .before in
     let i = f .before .before .before .before in
     open-done _ _ _ _ (i .before .right-size .ensures) (not-false _ (i .if1 .left)) (f .fill .ensures)

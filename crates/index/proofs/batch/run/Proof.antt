@@ -26,7 +26,7 @@ count-requires : tie.Need-count-requires Inv-loop μ-loop
 count-requires c κs = search needs
 
 loop-holds : tie.Need-loop-holds Inv-loop μ-loop
-loop-holds c = 
+loop-holds c =
     let start = c .before .before .before .before .before in
     let three = count-three _ _ (c .count .ensures) (start .pre .1 .0) in
     (underway-start (start .pre .0), omega arith, three, rw (c .count .ensures) (start .pre .1 .1))
@@ -68,12 +68,12 @@ update-requires : tie.Need-update-requires Inv-loop μ-loop
 update-requires c κs = c .before .before .before .before .before .before .before .before .before .loop .inv .0 .held
 
 mul-t14 : tie.Need-mul-t14 Inv-loop μ-loop
-mul-t14 c = 
+mul-t14 c =
     let l = c .before .before .before .before .before .before .before .before .before .before .before .before .before .before .before .before in
     omega (arith, l .loop .inv .1, l .loop .inv .2, l .loop .inv .3)
 
 slice-set-from-answers : tie.Need-slice-set-from-answers Inv-loop μ-loop
-slice-set-from-answers c = 
+slice-set-from-answers c =
     let l = c .before .before .before .before .before .before .before .before .before .before .before .before .before .before .before .before in
     omega (arith, l .loop .inv .0 .size, l .loop .inv .3, c .before .before .before .before .before .before .before .before .before .before .before .before .before .before .before .loop-test .taken)
 
@@ -84,7 +84,7 @@ loop-less : tie.Need-loop-less Inv-loop μ-loop
 loop-less c = omega arith
 
 loop-again : tie.Need-loop-again Inv-loop μ-loop
-loop-again c = 
+loop-again c =
     let u = c .before .before .before .before .before .before in
     let w = u .before .before .before .before .before in
     let l = w .before .before .before .before .before in

@@ -27,7 +27,7 @@ same-length-3 : tie.Need-same-length-3
 same-length-3 c = search needs
 
 returns : tie.Need-returns
-returns c = 
+returns c =
     let m = c .before .before .before .before in
     let a = m .before .before .before .before in
     let start = a .before .before .before .before .before .before .before in

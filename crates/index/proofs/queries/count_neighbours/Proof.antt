@@ -34,7 +34,7 @@ loop-less : tie.Need-loop-less Inv-loop μ-loop
 loop-less c = omega arith
 
 loop-again : tie.Need-loop-again Inv-loop μ-loop
-loop-again c = 
+loop-again c =
     let l = c .before .before .before in
     ⊎-elim (λ w. (omega arith, rw (w .1) (counting-yes (l .loop .inv .1) (c .before .before .loop-test .taken) (sym (c .before .edge .ensures) ∙ w .0 .taken)))) (λ w. (omega arith, rw (w .1) (counting-no (l .loop .inv .1) (c .before .before .loop-test .taken) (sym (c .before .edge .ensures) ∙ w .0 .left)))) (c .if1 .came)
 

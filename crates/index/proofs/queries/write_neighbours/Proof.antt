@@ -34,7 +34,7 @@ mul-out : tie.Need-mul-out Inv-loop μ-loop
 mul-out c = omega arith
 
 slice-write-out : tie.Need-slice-write-out Inv-loop μ-loop
-slice-write-out c = 
+slice-write-out c =
     let l = c .before .before .before in
     let start = l .before .before .before in
     let k = collect-room _ _ _ (l .loop .inv .1) (start .pre .3) (c .before .before .loop-test .taken) (sym (c .before .edge .ensures) ∙ c .if1 .taken) in
@@ -50,7 +50,7 @@ loop-less : tie.Need-loop-less Inv-loop μ-loop
 loop-less c = omega arith
 
 loop-again : tie.Need-loop-again Inv-loop μ-loop
-loop-again c = 
+loop-again c =
     let l = c .before .before .before in
     ⊎-elim (λ w. (omega arith, rw (w .1, w .2) (collected _ _ _ (l .loop .inv .1) (c .before .before .loop-test .taken) (sym (c .before .edge .ensures) ∙ w .0 .taken)))) (λ w. (omega arith, rw (w .1, w .2) (left-as (l .loop .inv .1) (scan-no _ _ _ (c .before .before .loop-test .taken) (sym (c .before .edge .ensures) ∙ w .0 .left))))) (c .if1 .came)
 

@@ -16,7 +16,7 @@ refusal-of-requires : tie.Need-refusal-of-requires
 refusal-of-requires c κs = held-sized (c .before .before .before .before .before .before .pre)
 
 refused-requires : tie.Need-refused-requires
-refused-requires c κs = 
+refused-requires c κs =
     let a = c .before in
     let start = a .before .before .before .before .before .before .before in
     number-small _ _ _ _ _ _ (start .pre) (a .refusal-of .ensures)
@@ -31,13 +31,13 @@ same-length-3 : tie.Need-same-length-3
 same-length-3 c = search needs
 
 returns : tie.Need-returns
-returns c = 
+returns c =
     let a = c .before .before in
     let start = a .before .before .before .before .before .before .before in
     update-refused _ _ _ _ _ _ (start .pre) (a .refusal-of .ensures) (c .before .if1 .taken) (toZ-ofZ (record { sfits = c .refused .ok }) ∙ c .refused .ensures)
 
 update-edge-requires : tie.Need-update-edge-requires
-update-edge-requires c κs = 
+update-edge-requires c κs =
     let a = c .before .before .before .before .before in
     let start = a .before .before .before .before .before .before .before in
     edge-asked _ _ _ _ _ _ (start .pre) (a .refusal-of .ensures) (c .before .before .before .before .if1 .left) (c .before .before .before .if2 .taken)
@@ -52,14 +52,14 @@ same-length-6 : tie.Need-same-length-6
 same-length-6 c = search needs
 
 returns-2 : tie.Need-returns-2
-returns-2 c = 
+returns-2 c =
     let u = c .before .before .before .before .before .before in
     let a = u .before .before .before .before .before .before in
     let start = a .before .before .before .before .before .before .before in
     edge-updated _ _ _ _ _ _ (start .pre) (a .refusal-of .ensures) (u .before .before .before .before .before .if1 .left) (u .before .before .before .before .if2 .taken) (u .update-edge .ensures .0, toZ-ofZ (record { sfits = u .update-edge .ok }) ∙ u .update-edge .ensures .1)
 
 set-mark-requires : tie.Need-set-mark-requires
-set-mark-requires c κs = 
+set-mark-requires c κs =
     let a = c .before .before .before in
     let start = a .before .before .before .before .before .before .before in
     let s = held-sized (start .pre) in
@@ -76,7 +76,7 @@ same-length-9 : tie.Need-same-length-9
 same-length-9 c = search needs
 
 returns-3 : tie.Need-returns-3
-returns-3 c = 
+returns-3 c =
     let m = c .before .before in
     let a = m .before .before .before .before in
     let start = a .before .before .before .before .before .before .before in
