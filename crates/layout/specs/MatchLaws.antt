@@ -20,9 +20,10 @@ use Rattle.model.specs.ProgramLaws.{fits}
 use Rattle.layout.specs.Wrote.{Wrote}
 use Rattle.layout.specs.Scan.{flat}
 use Rattle.layout.specs.ScanLaws.{flat-step}
-use Rattle.layout.specs.File.{Linked, Partition, Rows, chain, fileGroups, fileLength, fileNodes, fileOf, fileSuperedges, groupBytes, groupsBytes, later, leadersOf, membersOf, superedgeBytes, superedgesTo}
+use Rattle.layout.specs.File.{Linked, Partition, chain, fileGroups, fileLength, fileNodes, fileOf, fileSuperedges, groupBytes, groupsBytes, later, leadersOf, membersOf, superedgeBytes, superedgesTo}
 use Rattle.layout.specs.FileLaws.{chain-length, later-length, length-group}
 use Rattle.layout.specs.WholeLaws.{groups-same, length-file, length-groupsBytes, length-head, length-is, length-superedges, length-to}
+use Rattle.layout.specs.Words.{Rowed}
 use Rattle.layout.specs.Matches.{Agrees, matches}
 
 and-assoc : (a b c : Bool) → (a && (b && c)) ≡ ((a && b) && c)
@@ -114,11 +115,11 @@ group-room e next n l h q = omega (arith, length-group e (chain n next n l), cha
 pub wrote-le : {s bs t : List ℕ} {k m : ℕ} → Wrote s 0 bs t k → length bs ≤ m → k ≤ m
 wrote-le w h = omega (arith, w .place)
 
--- the superedgeBytes of one group fit their chunk
-pub super-fits : (e : ℕ → ℕ → Bool) (i : ℕ) {n : ℕ} {edges ls : List ℕ} {k : ℕ} → Rows n edges ls → k ≡ 3072 → length (superedgesTo i (later e ls i)) ≤ k
-super-fits e i {ls = ls} r q = omega (arith, length-to i (later e ls i), later-length e ls i, r .few, r .small)
+-- the superedges of one group fit their chunk
+pub super-fits : (e : ℕ → ℕ → Bool) (i : ℕ) {edges ls : List ℕ} {k : ℕ} → Rowed edges ls → k ≡ 3072 → length (superedgesTo i (later e ls i)) ≤ k
+super-fits e i {ls = ls} r q = omega (arith, length-to i (later e ls i), later-length e ls i, r .few)
 
-pub super-fits₀ : (e : ℕ → ℕ → Bool) (i : ℕ) {n : ℕ} {edges ls : List ℕ} {k : ℕ} → Rows n edges ls → k ≡ 3072 → 0 + length (superedgesTo i (later e ls i)) ≤ k
+pub super-fits₀ : (e : ℕ → ℕ → Bool) (i : ℕ) {edges ls : List ℕ} {k : ℕ} → Rowed edges ls → k ≡ 3072 → 0 + length (superedgesTo i (later e ls i)) ≤ k
 super-fits₀ e i {ls = ls} r q = omega (arith, super-fits e i r q)
 
 -- a file of the right length is compared byte by byte, one of another length is another
