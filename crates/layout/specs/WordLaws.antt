@@ -34,7 +34,7 @@ unfolding bitAt
 bit-above x t k h =
     let e : k ≡ t + (k - t) = omega arith in
     let d : x / 2 ^ t * 2 ^ t / 2 ^ k ≡ x / 2 ^ k =
-        ap (λ (j : ℕ). x / 2 ^ t * 2 ^ t / 2 ^ j) e ∙ sym (shr-shr (x / 2 ^ t * 2 ^ t) t (k - t)) ∙ ap (λ (y : ℕ). y / 2 ^ (k - t)) (shl-shr (x / 2 ^ t) t) ∙ shr-shr x t (k - t) ∙ ap (λ (j : ℕ). x / 2 ^ j) (sym e) in
+    ap (λ (j : ℕ). x / 2 ^ t * 2 ^ t / 2 ^ j) e ∙ sym (shr-shr (x / 2 ^ t * 2 ^ t) t (k - t)) ∙ ap (λ (y : ℕ). y / 2 ^ (k - t)) (shl-shr (x / 2 ^ t) t) ∙ shr-shr x t (k - t) ∙ ap (λ (j : ℕ). x / 2 ^ j) (sym e) in
     rw d
 
 bit-below : (y t k : ℕ) → k < t → bitAt (y * 2 ^ t) k ≡ false
@@ -42,7 +42,7 @@ unfolding bitAt
 bit-below y t k h =
     let e : t ≡ suc (t - suc k) + k = omega arith in
     let d : y * 2 ^ t / 2 ^ k ≡ y * 2 ^ (t - suc k) * 2 =
-        ap (λ (j : ℕ). y * 2 ^ j / 2 ^ k) e ∙ ap (λ (z : ℕ). y * z / 2 ^ k) (pow-add 2 (suc (t - suc k)) k) ∙ ap (λ (z : ℕ). z / 2 ^ k) (sym (mul-assoc y (2 ^ suc (t - suc k)) (2 ^ k))) ∙ shl-shr (y * 2 ^ suc (t - suc k)) k ∙ ap (λ (z : ℕ). y * z) (pow-suc 2 (t - suc k)) ∙ sym (mul-assoc y (2 ^ (t - suc k)) 2) in
+    ap (λ (j : ℕ). y * 2 ^ j / 2 ^ k) e ∙ ap (λ (z : ℕ). y * z / 2 ^ k) (pow-add 2 (suc (t - suc k)) k) ∙ ap (λ (z : ℕ). z / 2 ^ k) (sym (mul-assoc y (2 ^ suc (t - suc k)) (2 ^ k))) ∙ shl-shr (y * 2 ^ suc (t - suc k)) k ∙ ap (λ (z : ℕ). y * z) (pow-suc 2 (t - suc k)) ∙ sym (mul-assoc y (2 ^ (t - suc k)) 2) in
     let z : y * 2 ^ (t - suc k) * 2 % 2 ≡ 0 = omega arith in
     rw (d, z)
 

@@ -166,7 +166,15 @@ fn write_word(out: &mut [u8], at: usize, position: &[u16], i: usize, b: usize, x
 }
 
 // The superedges of the i-th group to later groups, word by word of its leader's row.
-pub fn write_superedges_of(out: &mut [u8], at: usize, edges: &[u64], leaders: &[u16], set: &[u64; 8], position: &[u16], i: usize) -> usize
+pub fn write_superedges_of(
+    out: &mut [u8],
+    at: usize,
+    edges: &[u64],
+    leaders: &[u16],
+    set: &[u64; 8],
+    position: &[u16],
+    i: usize,
+) -> usize
     requires { ⌜ Rowed (now edges) (now leaders) ⌝ }
     requires { ⌜ Marked (now leaders) (now set) × Placed (now leaders) (now position) ⌝ }
     requires { ⌜ i < length (now leaders) ⌝ }
@@ -185,7 +193,14 @@ pub fn write_superedges_of(out: &mut [u8], at: usize, edges: &[u64], leaders: &[
     to
 }
 
-fn write_superedges(out: &mut [u8], at: usize, edges: &[u64], leaders: &[u16], set: &[u64; 8], position: &[u16]) -> usize
+fn write_superedges(
+    out: &mut [u8],
+    at: usize,
+    edges: &[u64],
+    leaders: &[u16],
+    set: &[u64; 8],
+    position: &[u16],
+) -> usize
     requires { ⌜ Rowed (now edges) (now leaders) ⌝ }
     requires { ⌜ Marked (now leaders) (now set) × Placed (now leaders) (now position) ⌝ }
     requires { ⌜ at + length (superedgeBytes (edgeBit (now edges)) (now leaders)) ≤ length (now out) ⌝ }
@@ -305,7 +320,15 @@ pub fn link(least: &[u16], n: usize, next: &mut [u16])
 }
 
 // The whole file into a buffer that is long enough; the place after it.
-fn write_file(n: usize, m: usize, least: &[u16], edges: &[u64], leaders: &[u16], set: &[u64; 8], out: &mut [u8]) -> usize
+fn write_file(
+    n: usize,
+    m: usize,
+    least: &[u16],
+    edges: &[u64],
+    leaders: &[u16],
+    set: &[u64; 8],
+    out: &mut [u8],
+) -> usize
     requires { ⌜ Partition n (now least) (now edges) ⌝ }
     requires { ⌜ (now leaders ≡ leadersOf n (now least)) × Marked (now leaders) (now set) ⌝ }
     requires { ⌜ m ≡ fileNodes n (now least) ⌝ }
