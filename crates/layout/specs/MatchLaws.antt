@@ -9,20 +9,21 @@ use native.Mathlib.Omega.{arith}
 use native.Mathlib.Numerals.{add-one}
 use lib.Dec.{eqb}
 use lib.ListN.{length, getD, take, drop, length-append, drop-of-length-le}
-use lib.Seq.{sets-eq, drop-cons, take-append-seam, drop-length}
-use borrow.Author.Tests.{eqb-true, eq-eqb, ne-eqb}
+use lib.Seq.{sets-eq, drop-cons, take-append-seam, take-suc, take-all, length-take-le, drop-length}
+use borrow.Author.Tests.{eqb-true, eq-eqb}
 use Rattle.model.specs.Lists.{sameList}
 use Rattle.model.specs.Tables.{edgeBit}
 use Rattle.model.specs.Release.{endRecord, headRecord}
-use Rattle.model.specs.TestLaws.{and-fst, and-snd, and-true, decide, iff-eq}
+use Rattle.model.specs.TestLaws.{and-fst, and-one, and-snd, and-true, decide, iff-eq}
 use Rattle.model.specs.ListLaws.{same-eq, same-refl}
 use Rattle.model.specs.ProgramLaws.{fits}
 use Rattle.layout.specs.Wrote.{Wrote}
 use Rattle.layout.specs.Scan.{flat}
 use Rattle.layout.specs.ScanLaws.{flat-step}
-use Rattle.layout.specs.File.{Linked, Partition, Rows, chain, fileGroups, fileLength, fileNodes, fileOf, fileSuperedges, groupBytes, groupsBytes, later, leadersOf, membersOf, superedgeBytes, superedgesTo}
+use Rattle.layout.specs.File.{Linked, Partition, chain, fileGroups, fileLength, fileNodes, fileOf, fileSuperedges, groupBytes, groupsBytes, later, leadersOf, membersOf, superedgeBytes, superedgesTo}
 use Rattle.layout.specs.FileLaws.{chain-length, later-length, length-group}
 use Rattle.layout.specs.WholeLaws.{groups-same, length-file, length-groupsBytes, length-head, length-is, length-superedges, length-to}
+use Rattle.layout.specs.Words.{Rowed}
 use Rattle.layout.specs.Matches.{Agrees, matches}
 
 and-assoc : (a b c : Bool) → (a && (b && c)) ≡ ((a && b) && c)
@@ -51,18 +52,6 @@ agrees-not {s} {at₀} {all} {at} {rest} bs rest′ a e t = sym (rw t at (matche
 pub agrees-done : {s : List ℕ} {at₀ : ℕ} {all : List ℕ} {at : ℕ} {rest : List ℕ} → Agrees s at₀ all at rest → rest ≡ [] → true ≡ matches s at₀ all
 unfolding matches
 agrees-done {s} {at₀} {all} {at} {rest} a e = ap (matches s at) (sym e) ∙ a .same
-
--- one byte, of a chunk
-pub chunk-rest : (chunk : List ℕ) (i : ℕ) → i < length chunk → drop i chunk ≡ (getD chunk i 0 ∷ []) ++ drop (i + 1) chunk
-chunk-rest chunk i h = rw (add-one i) (drop-cons chunk i 0 h)
-
-pub one-is : (s : List ℕ) (at b : ℕ) → getD s at 0 ≡ b → matches s at (b ∷ []) ≡ true
-unfolding matches
-one-is s at b e = rw (eq-eqb (getD s at 0) b e)
-
-pub one-not : (s : List ℕ) (at b : ℕ) → (getD s at 0 ≡ b → ⊥) → matches s at (b ∷ []) ≡ false
-unfolding matches
-one-not s at b e = rw (ne-eqb (getD s at 0) b e)
 
 -- what was written at the start of a buffer
 pub chunk-is : {s bs t : List ℕ} {k : ℕ} → length bs ≤ length s → Wrote s 0 bs t k → take k t ≡ bs
@@ -96,29 +85,17 @@ flat-not f n p a h fits w m = agrees-not (f p) (flat f n (p + 1)) a (flat-step f
 pub flat-reach : (f : ℕ → List ℕ) (n p : ℕ) {s : List ℕ} {at₀ : ℕ} {all : List ℕ} {at : ℕ} {c t : List ℕ} {k : ℕ} → Agrees s at₀ all at (flat f n p) → at₀ + length all ≤ length s → p < n → length (f p) ≤ length c → Wrote c 0 (f p) t k → at + length (take k t) ≤ length s
 flat-reach f n p a room h fits w = omega (arith, a .ends, ap length (flat-step f n p h), length-append (f p) (flat f n (p + 1)), ap length (chunk-is fits w))
 
-pub agrees-zero : (s : List ℕ) (at : ℕ) (all : List ℕ) → Agrees s at all (at + 0) (drop 0 all)
-agrees-zero s at all = rw (add-zero at) (agrees-start s at all)
-
-pub byte-more : (file : List ℕ) (at : ℕ) (chunk : List ℕ) (i : ℕ) → Agrees file at chunk (at + i) (drop i chunk) → i < length chunk → getD file (at + i) 0 ≡ getD chunk i 0 → Agrees file at chunk (at + (i + 1)) (drop (i + 1) chunk)
-byte-more file at chunk i a h e = agrees-step (getD chunk i 0 ∷ []) (drop (i + 1) chunk) a (chunk-rest chunk i h) (one-is file (at + i) (getD chunk i 0) e) (omega arith)
-
-pub byte-not : (file : List ℕ) (at : ℕ) (chunk : List ℕ) (i : ℕ) → Agrees file at chunk (at + i) (drop i chunk) → i < length chunk → (getD file (at + i) 0 ≡ getD chunk i 0 → ⊥) → false ≡ matches file at chunk
-byte-not file at chunk i a h e = agrees-not (getD chunk i 0 ∷ []) (drop (i + 1) chunk) a (chunk-rest chunk i h) (one-not file (at + i) (getD chunk i 0) e)
-
-pub byte-done : (file : List ℕ) (at : ℕ) (chunk : List ℕ) (i : ℕ) → Agrees file at chunk (at + i) (drop i chunk) → length chunk ≤ i → true ≡ matches file at chunk
-byte-done file at chunk i a h = agrees-done a (drop-of-length-le chunk h)
-
 pub group-room : (e : ℕ → ℕ → Bool) (next : List ℕ) (n l : ℕ) {k : ℕ} → n ≤ 512 → k ≡ 1028 → length (groupBytes e (chain n next n l)) ≤ k
 group-room e next n l h q = omega (arith, length-group e (chain n next n l), chain-length n next n l)
 
 pub wrote-le : {s bs t : List ℕ} {k m : ℕ} → Wrote s 0 bs t k → length bs ≤ m → k ≤ m
 wrote-le w h = omega (arith, w .place)
 
--- the superedgeBytes of one group fit their chunk
-pub super-fits : (e : ℕ → ℕ → Bool) (i : ℕ) {n : ℕ} {edges ls : List ℕ} {k : ℕ} → Rows n edges ls → k ≡ 3072 → length (superedgesTo i (later e ls i)) ≤ k
-super-fits e i {ls = ls} r q = omega (arith, length-to i (later e ls i), later-length e ls i, r .few, r .small)
+-- the superedges of one group fit their chunk
+pub super-fits : (e : ℕ → ℕ → Bool) (i : ℕ) {edges ls : List ℕ} {k : ℕ} → Rowed edges ls → k ≡ 3072 → length (superedgesTo i (later e ls i)) ≤ k
+super-fits e i {ls = ls} r q = omega (arith, length-to i (later e ls i), later-length e ls i, r .few)
 
-pub super-fits₀ : (e : ℕ → ℕ → Bool) (i : ℕ) {n : ℕ} {edges ls : List ℕ} {k : ℕ} → Rows n edges ls → k ≡ 3072 → 0 + length (superedgesTo i (later e ls i)) ≤ k
+pub super-fits₀ : (e : ℕ → ℕ → Bool) (i : ℕ) {edges ls : List ℕ} {k : ℕ} → Rowed edges ls → k ≡ 3072 → 0 + length (superedgesTo i (later e ls i)) ≤ k
 super-fits₀ e i {ls = ls} r q = omega (arith, super-fits e i r q)
 
 -- a file of the right length is compared byte by byte, one of another length is another
@@ -233,3 +210,17 @@ head-told n m g file h w e = e ∙ ap (matches file 0) (wrote-all (length-head n
 pub head-reach : (n : ℕ) (least edges : List ℕ) {k : ℕ} → k ≡ fileLength n least edges → 0 + 8 ≤ k
 unfolding fileLength
 head-reach n least edges e = omega arith
+
+-- byte by byte
+pub bytes-start : (file : List ℕ) (at : ℕ) (chunk : List ℕ) → true ≡ matches file at (take 0 chunk)
+unfolding matches
+bytes-start file at chunk = refl
+
+pub bytes-more : (file : List ℕ) (at : ℕ) (chunk : List ℕ) (i : ℕ) {same : Bool} → same ≡ matches file at (take i chunk) → i < length chunk → (same && eqb (getD file (at + i) 0) (getD chunk i 0)) ≡ matches file at (take (i + 1) chunk)
+unfolding matches
+bytes-more file at chunk i {same} e h =
+    rw (e, add-one i, take-suc chunk i 0 h)
+    (sym (matches-append (take i chunk) (getD chunk i 0 ∷ []) file at ∙ rw (length-take-le i chunk (omega arith)) (ap (λ (x : Bool). matches file at (take i chunk) && x) (and-one (eqb (getD file (at + i) 0) (getD chunk i 0))))))
+
+pub bytes-done : (file : List ℕ) (at : ℕ) (chunk : List ℕ) (i : ℕ) {same : Bool} → same ≡ matches file at (take i chunk) → length chunk ≤ i → same ≡ matches file at chunk
+bytes-done file at chunk i e h = e ∙ ap (matches file at) (take-all i chunk h)

@@ -8,6 +8,7 @@ ghost use Rattle.model.specs.Release.{u16, headRecord, superedgeRecord};
 ghost use Rattle.layout.specs.Wrote.{Wrote};
 ghost use Rattle.layout.specs.Scan.{scan};
 ghost use Rattle.layout.specs.File.{Ahead, Linked, Partition, Rows, chain, fileNodes, fileOf, firstTwo, groupBytes, groupMark, groupsBytes, inGroup, later, leadersOf, leads, superedgeBytes, superedgeTotal, superedgesTo, u16s, writtenFile};
+ghost use Rattle.layout.specs.Words.{Leading, Marked, Placed, Rowed, laterWord, positionsOf};
 ghost use Rattle.writer.specs.Written.{answer};
 
 // Stands for no node: after the last member of a group, and at hidden nodes.
@@ -139,65 +140,106 @@ fn write_groups(
     to
 }
 
-// The superedges of the i-th group with later groups.
+// Of the word that holds node q's bit, the nodes from q on that are in the set and have an edge to p.
+fn later_word(edges: &[u64], set: &[u64; 8], p: usize, q: usize) -> u64
+    requires { ⌜ (p < 512) × (q < 512) × (8 * p + 8 ≤ length (now edges)) ⌝ }
+    ensures { λ r. ⌜ r ≡ laterWord (now (edges .entry)) (now (set .entry)) p q ⌝ }
+{
+    let t = rows::bit_of(q);
+    ((set[rows::word_of(q)] & edges[rows::place(p, q)]) >> t) << t
+}
+
+// The superedges of the i-th group to the groups of the nodes b + k, for the bits k of a word, lowest first.
+fn write_word(out: &mut [u8], at: usize, position: &[u16], i: usize, b: usize, x: u64) -> usize
+    requires { ⌜ (i < 65536) × (b + 64 ≤ length (now position)) ⌝ }
+    requires { ⌜ at + length (superedgesTo i (positionsOf (now position) b x)) ≤ length (now out) ⌝ }
+    ensures { λ r. ⌜ Wrote (now (out .entry)) at (superedgesTo i (positionsOf (now (position .entry)) b x)) (now (out .exit)) r ⌝ }
+{
+    let mut to = at;
+    let mut rest = x;
+    while rest != 0 {
+        let z = u64::trailing_zeros(rest) as usize;
+        to = put_superedge(out, to, i, wide(position[b + z]));
+        rest = rest & (rest - 1);
+    }
+    to
+}
+
+// The superedges of the i-th group to later groups, word by word of its leader's row.
 pub fn write_superedges_of(
     out: &mut [u8],
     at: usize,
-    n: usize,
     edges: &[u64],
     leaders: &[u16],
+    set: &[u64; 8],
+    position: &[u16],
     i: usize,
 ) -> usize
-    requires { ⌜ Rows n (now edges) (now leaders) ⌝ }
+    requires { ⌜ Rowed (now edges) (now leaders) ⌝ }
+    requires { ⌜ Marked (now leaders) (now set) × Placed (now leaders) (now position) ⌝ }
     requires { ⌜ i < length (now leaders) ⌝ }
     requires { ⌜ at + length (superedgesTo i (later (edgeBit (now edges)) (now leaders) i)) ≤ length (now out) ⌝ }
     ensures { λ r. ⌜ Wrote (now (out .entry)) at (superedgesTo i (later (edgeBit (now (edges .entry))) (now (leaders .entry)) i)) (now (out .exit)) r ⌝ }
 {
     let p = wide(leaders[i]);
     let mut to = at;
-    for j in i + 1..leaders.len() {
-        if rows::edge(edges, p, wide(leaders[j])) {
-            to = put_superedge(out, to, i, j);
-        }
+    let mut q = p + 1;
+    while q < 512 {
+        let w = rows::word_of(q);
+        let x = later_word(edges, set, p, q);
+        to = write_word(out, to, position, i, 64 * w, x);
+        q = 64 * w + 64;
     }
     to
 }
 
-fn write_superedges(out: &mut [u8], at: usize, n: usize, edges: &[u64], leaders: &[u16]) -> usize
-    requires { ⌜ Rows n (now edges) (now leaders) ⌝ }
+fn write_superedges(
+    out: &mut [u8],
+    at: usize,
+    edges: &[u64],
+    leaders: &[u16],
+    set: &[u64; 8],
+    position: &[u16],
+) -> usize
+    requires { ⌜ Rowed (now edges) (now leaders) ⌝ }
+    requires { ⌜ Marked (now leaders) (now set) × Placed (now leaders) (now position) ⌝ }
     requires { ⌜ at + length (superedgeBytes (edgeBit (now edges)) (now leaders)) ≤ length (now out) ⌝ }
     ensures { λ r. ⌜ Wrote (now (out .entry)) at (superedgeBytes (edgeBit (now (edges .entry))) (now (leaders .entry))) (now (out .exit)) r ⌝ }
 {
     let mut to = at;
     for i in 0..leaders.len() {
-        to = write_superedges_of(out, to, n, edges, leaders, i);
+        to = write_superedges_of(out, to, edges, leaders, set, position, i);
     }
     to
 }
 
-fn count_superedges_of(n: usize, edges: &[u64], leaders: &[u16], i: usize) -> usize
-    requires { ⌜ Rows n (now edges) (now leaders) ⌝ }
+fn count_superedges_of(edges: &[u64], leaders: &[u16], set: &[u64; 8], i: usize) -> usize
+    requires { ⌜ Rowed (now edges) (now leaders) ⌝ }
+    requires { ⌜ Marked (now leaders) (now set) ⌝ }
     requires { ⌜ i < length (now leaders) ⌝ }
     ensures { λ r. ⌜ r ≡ length (later (edgeBit (now (edges .entry))) (now (leaders .entry)) i) ⌝ }
 {
     let p = wide(leaders[i]);
     let mut count: usize = 0;
-    for j in i + 1..leaders.len() {
-        if rows::edge(edges, p, wide(leaders[j])) {
-            count += 1;
-        }
+    let mut q = p + 1;
+    while q < 512 {
+        let w = rows::word_of(q);
+        let x = later_word(edges, set, p, q);
+        count += u64::count_ones(x) as usize;
+        q = 64 * w + 64;
     }
     count
 }
 
 // All superedges.
-pub fn count_superedges(n: usize, edges: &[u64], leaders: &[u16]) -> usize
-    requires { ⌜ Rows n (now edges) (now leaders) ⌝ }
+pub fn count_superedges(edges: &[u64], leaders: &[u16], set: &[u64; 8]) -> usize
+    requires { ⌜ Rowed (now edges) (now leaders) ⌝ }
+    requires { ⌜ Marked (now leaders) (now set) ⌝ }
     ensures { λ r. ⌜ (r ≡ superedgeTotal (edgeBit (now (edges .entry))) (now (leaders .entry))) × (r ≤ 262144) ⌝ }
 {
     let mut count: usize = 0;
     for i in 0..leaders.len() {
-        count += count_superedges_of(n, edges, leaders, i);
+        count += count_superedges_of(edges, leaders, set, i);
     }
     count
 }
@@ -231,6 +273,33 @@ pub fn collect_leaders(least: &[u16], n: usize, leaders: &mut [u16]) -> usize
     g
 }
 
+// The least members as a set of bits.
+pub fn leader_set(least: &[u16], n: usize) -> [u64; 8]
+    requires { ⌜ (n ≤ 512) × (n ≤ length (now least)) ⌝ }
+    ensures { λ r. ⌜ Marked (leadersOf n (now (least .entry))) r ⌝ }
+{
+    let mut set = [0u64; 8];
+    for p in 0..n {
+        if wide(least[p]) == p {
+            let w = rows::word_of(p);
+            set[w] = set[w] ^ rows::mask(p);
+        }
+    }
+    set
+}
+
+// The position of each leader.
+pub fn positions_of(leaders: &[u16]) -> [u16; 512]
+    requires { ⌜ Leading (now leaders) ⌝ }
+    ensures { λ r. ⌜ Placed (now (leaders .entry)) r ⌝ }
+{
+    let mut position = [0u16; 512];
+    for i in 0..leaders.len() {
+        position[wide(leaders[i])] = i as u16;
+    }
+    position
+}
+
 // The next greater member of each node's group, NONE after the last and at nodes of no group.
 pub fn link(least: &[u16], n: usize, next: &mut [u16])
     requires { ⌜ (n ≤ 512) × (n ≤ length (now least)) × (n ≤ length (now next)) ⌝ }
@@ -257,19 +326,21 @@ fn write_file(
     least: &[u16],
     edges: &[u64],
     leaders: &[u16],
+    set: &[u64; 8],
     out: &mut [u8],
 ) -> usize
     requires { ⌜ Partition n (now least) (now edges) ⌝ }
-    requires { ⌜ now leaders ≡ leadersOf n (now least) ⌝ }
+    requires { ⌜ (now leaders ≡ leadersOf n (now least)) × Marked (now leaders) (now set) ⌝ }
     requires { ⌜ m ≡ fileNodes n (now least) ⌝ }
     requires { ⌜ length (fileOf n (now least) (now edges)) ≤ length (now out) ⌝ }
     ensures { λ r. ⌜ Wrote (now (out .entry)) 0 (fileOf n (now (least .entry)) (now (edges .entry))) (now (out .exit)) r ⌝ }
 {
     let mut next = [NONE; 512];
     link(least, n, &mut next);
+    let position = positions_of(leaders);
     let a = write_head(out, 0, n, m, leaders.len());
     let b = write_groups(out, a, &next, n, edges, leaders);
-    let c = write_superedges(out, b, n, edges, leaders);
+    let c = write_superedges(out, b, edges, leaders, set, &position);
     put_mark(out, c, b"EN")
 }
 
@@ -289,8 +360,9 @@ pub fn write(n: usize, least: &[u16], edges: &[u64], out: &mut [u8]) -> Written
 {
     let mut leaders = [0u16; 512];
     let g = collect_leaders(least, n, &mut leaders);
+    let set = leader_set(least, n);
     let m = count_visible(least, n);
-    let s = count_superedges(n, edges, &leaders[..g]);
+    let s = count_superedges(edges, &leaders[..g], &set);
     let length = 10 + 4 * g + 2 * m + 6 * s;
     if out.len() < length {
         return Written {
@@ -301,7 +373,7 @@ pub fn write(n: usize, least: &[u16], edges: &[u64], out: &mut [u8]) -> Written
             bytes: 0,
         };
     }
-    write_file(n, m, least, edges, &leaders[..g], out);
+    write_file(n, m, least, edges, &leaders[..g], &set, out);
     Written {
         result: 0,
         nodes: m as u16,

@@ -1,82 +1,64 @@
+-- A file of another length is another file.
 use mathlib.Core.Path.{_∙_}
 use native.Mathlib.Omega.{arith}
-use Rattle.layout.specs.WholeLaws.{leaders-fit, leaders-taken, length-is, nodes-le, rows-of, superedges-counted, taken-length, visible-fit}
-use Rattle.layout.specs.MatchLaws.{length-not}
 use borrow.Author.Needs.{needs}
+use Rattle.layout.specs.MatchLaws.{length-not}
+use Rattle.layout.specs.WholeLaws.{leaders-fit, leaders-taken, length-is, nodes-le, rows-of, superedges-counted, taken-length, visible-fit}
+use Rattle.layout.specs.WordLaws.{marked-as, rowed-of}
 use Rattle.compare.proofs.same_file.Statement.{statement}
 use Rattle.compare.proofs.same_file.Tie as tie
-use Rattle.compare.proofs.same_file.Reads as reads
-use Rattle.compare.proofs.same_file.Lts as lts
-use Rattle.compare.proofs.same_parts.Reads as same-parts-reads
-use Rattle.writer.proofs.collect_leaders.Reads as collect-leaders-reads
-use Rattle.writer.proofs.count_superedges.Reads as count-superedges-reads
-use Rattle.writer.proofs.count_visible.Reads as count-visible-reads
 
--- src/lib.rt:97:47
 slice-aggregate-collect-leaders : tie.Need-slice-aggregate-collect-leaders
 slice-aggregate-collect-leaders c = search needs
 
--- src/lib.rt:97:9
 collect-leaders-requires : tie.Need-collect-leaders-requires
 collect-leaders-requires c κs = search needs
 
--- src/lib.rt:98:9
+leader-set-requires : tie.Need-leader-set-requires
+leader-set-requires c κs = search needs
+
 count-visible-requires : tie.Need-count-visible-requires
 count-visible-requires c κs = search needs
 
--- src/lib.rt:99:48
 array-share-prefix-leaders : tie.Need-array-share-prefix-leaders
-array-share-prefix-leaders c = let f = leaders-fit _ _ (c .before .before .collect-leaders .ensures) in omega (arith, f .1, c .before .before .before .before .before .before .before .pre .small)
+array-share-prefix-leaders c = let f = leaders-fit _ _ (c .before .before .before .collect-leaders .ensures) in omega (arith, f .1, c .before .before .before .before .before .before .before .before .pre .small)
 
--- src/lib.rt:99:48
 slice-aggregate-count-superedges : tie.Need-slice-aggregate-count-superedges
-slice-aggregate-count-superedges c = taken-length _ _ (c .before .before .before .before .before .before .before .before .pre .small) (c .before .before .before .collect-leaders .ensures)
+slice-aggregate-count-superedges c = taken-length _ _ (c .before .before .before .before .before .before .before .before .before .pre .small) (c .before .before .before .before .collect-leaders .ensures)
 
--- src/lib.rt:99:9
 count-superedges-requires : tie.Need-count-superedges-requires
-count-superedges-requires c κs = rows-of (c .before .before .before .before .before .before .before .before .pre) (leaders-taken _ _ (c .before .before .before .before .before .before .before .before .pre .small) (c .before .before .before .collect-leaders .ensures))
+count-superedges-requires c κs = (rowed-of (rows-of (c .before .before .before .before .before .before .before .before .before .before .pre) (leaders-taken _ _ (c .before .before .before .before .before .before .before .before .before .before .pre .small) (c .before .before .before .before .before .collect-leaders .ensures))), (marked-as (c .before .before .before .leader-set .ensures) (leaders-taken _ _ (c .before .before .before .before .before .before .before .before .before .before .pre .small) (c .before .before .before .before .before .collect-leaders .ensures))))
 
--- src/lib.rt:100:27
 mul-if1 : tie.Need-mul-if1
-mul-if1 c = let f = leaders-fit _ _ (c .before .before .before .before .collect-leaders .ensures) in let v = nodes-le _ _ (visible-fit _ _ (c .before .before .count-visible .ensures)) in omega (arith, f .1, c .before .before .before .before .before .before .before .before .before .pre .small, c .count-superedges .ensures .1)
+mul-if1 c = let f = leaders-fit _ _ (c .before .before .before .before .before .before .collect-leaders .ensures) in let v = nodes-le _ _ (visible-fit _ _ (c .before .before .before .count-visible .ensures)) in omega (arith, f .1, c .before .before .before .before .before .before .before .before .before .before .before .pre .small, c .count-superedges .ensures .1)
 
--- src/lib.rt:100:22
 add-if1 : tie.Need-add-if1
-add-if1 c = let f = leaders-fit _ _ (c .before .before .before .before .collect-leaders .ensures) in let v = nodes-le _ _ (visible-fit _ _ (c .before .before .count-visible .ensures)) in omega (arith, f .1, c .before .before .before .before .before .before .before .before .before .pre .small, c .count-superedges .ensures .1)
+add-if1 c = let f = leaders-fit _ _ (c .before .before .before .before .before .before .collect-leaders .ensures) in let v = nodes-le _ _ (visible-fit _ _ (c .before .before .before .count-visible .ensures)) in omega (arith, f .1, c .before .before .before .before .before .before .before .before .before .before .before .pre .small, c .count-superedges .ensures .1)
 
--- src/lib.rt:100:35
 mul-if1-2 : tie.Need-mul-if1-2
-mul-if1-2 c = let f = leaders-fit _ _ (c .before .before .before .before .collect-leaders .ensures) in let v = nodes-le _ _ (visible-fit _ _ (c .before .before .count-visible .ensures)) in omega (arith, f .1, c .before .before .before .before .before .before .before .before .before .pre .small, c .count-superedges .ensures .1)
+mul-if1-2 c = let f = leaders-fit _ _ (c .before .before .before .before .before .before .collect-leaders .ensures) in let v = nodes-le _ _ (visible-fit _ _ (c .before .before .before .count-visible .ensures)) in omega (arith, f .1, c .before .before .before .before .before .before .before .before .before .before .before .pre .small, c .count-superedges .ensures .1)
 
--- src/lib.rt:100:22
 add-if1-2 : tie.Need-add-if1-2
-add-if1-2 c = let f = leaders-fit _ _ (c .before .before .before .before .collect-leaders .ensures) in let v = nodes-le _ _ (visible-fit _ _ (c .before .before .count-visible .ensures)) in omega (arith, f .1, c .before .before .before .before .before .before .before .before .before .pre .small, c .count-superedges .ensures .1)
+add-if1-2 c = let f = leaders-fit _ _ (c .before .before .before .before .before .before .collect-leaders .ensures) in let v = nodes-le _ _ (visible-fit _ _ (c .before .before .before .count-visible .ensures)) in omega (arith, f .1, c .before .before .before .before .before .before .before .before .before .before .before .pre .small, c .count-superedges .ensures .1)
 
--- src/lib.rt:100:43
 mul-if1-3 : tie.Need-mul-if1-3
 mul-if1-3 c = search needs
 
--- src/lib.rt:100:22
 add-if1-3 : tie.Need-add-if1-3
-add-if1-3 c = let f = leaders-fit _ _ (c .before .before .before .before .collect-leaders .ensures) in let v = nodes-le _ _ (visible-fit _ _ (c .before .before .count-visible .ensures)) in omega (arith, f .1, c .before .before .before .before .before .before .before .before .before .pre .small, c .count-superedges .ensures .1)
+add-if1-3 c = let f = leaders-fit _ _ (c .before .before .before .before .before .before .collect-leaders .ensures) in let v = nodes-le _ _ (visible-fit _ _ (c .before .before .before .count-visible .ensures)) in omega (arith, f .1, c .before .before .before .before .before .before .before .before .before .before .before .pre .small, c .count-superedges .ensures .1)
 
--- src/lib.rt:101:9
 returns : tie.Need-returns
-returns c = length-not _ _ _ _ _ _ (leaders-fit _ _ (c .before .before .before .before .before .collect-leaders .ensures) .0) (visible-fit _ _ (c .before .before .before .count-visible .ensures)) (superedges-counted _ _ _ _ (c .before .count-superedges .ensures .0) (leaders-taken _ _ (c .before .before .before .before .before .before .before .before .before .before .pre .small) (c .before .before .before .before .before .collect-leaders .ensures))) (c .before .before .before .before .before .before .before .before .before .before .pre) _ (c .if1 .taken)
+returns c = length-not _ _ _ _ _ _ (leaders-fit _ _ (c .before .before .before .before .before .before .before .collect-leaders .ensures) .0) (visible-fit _ _ (c .before .before .before .before .count-visible .ensures)) (superedges-counted _ _ _ _ (c .before .count-superedges .ensures .0) (leaders-taken _ _ (c .before .before .before .before .before .before .before .before .before .before .before .before .pre .small) (c .before .before .before .before .before .before .before .collect-leaders .ensures))) (c .before .before .before .before .before .before .before .before .before .before .before .before .pre) _ (c .if1 .taken)
 
--- src/lib.rt:103:39
 array-share-prefix-leaders-2 : tie.Need-array-share-prefix-leaders-2
-array-share-prefix-leaders-2 c = let f = leaders-fit _ _ (c .before .before .before .before .before .collect-leaders .ensures) in omega (arith, f .1, c .before .before .before .before .before .before .before .before .before .before .pre .small)
+array-share-prefix-leaders-2 c = let f = leaders-fit _ _ (c .before .before .before .before .before .before .before .collect-leaders .ensures) in omega (arith, f .1, c .before .before .before .before .before .before .before .before .before .before .before .before .pre .small)
 
--- src/lib.rt:103:39
 slice-aggregate-same-parts : tie.Need-slice-aggregate-same-parts
-slice-aggregate-same-parts c = taken-length _ _ (c .before .before .before .before .before .before .before .before .before .before .before .pre .small) (c .before .before .before .before .before .before .collect-leaders .ensures)
+slice-aggregate-same-parts c = taken-length _ _ (c .before .before .before .before .before .before .before .before .before .before .before .before .before .pre .small) (c .before .before .before .before .before .before .before .before .collect-leaders .ensures)
 
--- src/lib.rt:103:5
 same-parts-requires : tie.Need-same-parts-requires
-same-parts-requires c κs = ((c .before .before .before .before .before .before .before .before .before .before .before .pre), ((leaders-taken _ _ (c .before .before .before .before .before .before .before .before .before .before .before .pre .small) (c .before .before .before .before .before .before .collect-leaders .ensures)), ((visible-fit _ _ (c .before .before .before .before .count-visible .ensures)), (superedges-counted _ _ _ _ (c .before .before .count-superedges .ensures .0) (leaders-taken _ _ (c .before .before .before .before .before .before .before .before .before .before .before .pre .small) (c .before .before .before .before .before .before .collect-leaders .ensures))), c .before .if1 .left ∙ length-is _ _ _ _ _ _ (leaders-fit _ _ (c .before .before .before .before .before .before .collect-leaders .ensures) .0) (visible-fit _ _ (c .before .before .before .before .count-visible .ensures)) (superedges-counted _ _ _ _ (c .before .before .count-superedges .ensures .0) (leaders-taken _ _ (c .before .before .before .before .before .before .before .before .before .before .before .pre .small) (c .before .before .before .before .before .before .collect-leaders .ensures))))))
+same-parts-requires c κs = (c .before .before .before .before .before .before .before .before .before .before .before .before .before .before .pre, (((leaders-taken _ _ (c .before .before .before .before .before .before .before .before .before .before .before .before .before .before .pre .small) (c .before .before .before .before .before .before .before .before .before .collect-leaders .ensures)), (marked-as (c .before .before .before .before .before .before .before .leader-set .ensures) (leaders-taken _ _ (c .before .before .before .before .before .before .before .before .before .before .before .before .before .before .pre .small) (c .before .before .before .before .before .before .before .before .before .collect-leaders .ensures)))), ((visible-fit _ _ (c .before .before .before .before .before .before .count-visible .ensures)), (superedges-counted _ _ _ _ (c .before .before .before .count-superedges .ensures .0) (leaders-taken _ _ (c .before .before .before .before .before .before .before .before .before .before .before .before .before .before .pre .small) (c .before .before .before .before .before .before .before .before .before .collect-leaders .ensures))), c .before .before .if1 .left ∙ length-is _ _ _ _ _ _ (leaders-fit _ _ (c .before .before .before .before .before .before .before .before .before .collect-leaders .ensures) .0) (visible-fit _ _ (c .before .before .before .before .before .before .count-visible .ensures)) (superedges-counted _ _ _ _ (c .before .before .before .count-superedges .ensures .0) (leaders-taken _ _ (c .before .before .before .before .before .before .before .before .before .before .before .before .before .before .pre .small) (c .before .before .before .before .before .before .before .before .before .collect-leaders .ensures))))))
 
--- src/lib.rt:92:1
 returns-2 : tie.Need-returns-2
 returns-2 c = search needs
 
@@ -86,6 +68,7 @@ same-file-spec =
     (tie.spec
     slice-aggregate-collect-leaders
     collect-leaders-requires
+    leader-set-requires
     count-visible-requires
     array-share-prefix-leaders
     slice-aggregate-count-superedges

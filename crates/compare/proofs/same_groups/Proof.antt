@@ -1,22 +1,18 @@
+-- What is left to compare are the groups from the i-th on.
+use mathlib.Core.Path.{_∙_, _≡_, refl, sym}
+use Prim.Native.Nat.{_-_}
+use native.Mathlib.Omega.{arith}
+use lib.ListN.{getD, length}
+use borrow.Author.Needs.{needs}
 use Rattle.model.specs.Tables.{edgeBit}
-use Rattle.layout.specs.WroteLaws.{wrote-length}
+use Rattle.layout.specs.File.{chain, groupBytes, groupsBytes}
+use Rattle.layout.specs.MatchLaws.{agrees-done, agrees-start, chunk-length, flat-matches, flat-not, flat-reach, group-fits, group-room, wrote-le}
+use Rattle.layout.specs.Matches.{Agrees}
 use Rattle.layout.specs.Scan.{flat}
 use Rattle.layout.specs.ScanLaws.{flat-end}
-use Rattle.layout.specs.File.{chain, groupBytes, groupsBytes}
-use Rattle.layout.specs.Matches.{Agrees}
-use Rattle.layout.specs.MatchLaws.{agrees-done, agrees-start, chunk-length, flat-matches, flat-not, flat-reach, group-fits, group-room, wrote-le}
-use mathlib.Core.Path.{_≡_, _∙_, sym, refl}
-use lib.ListN.{length, getD, drop}
-use Prim.Native.Nat.{ℕ, _+_, _-_, _*_, _≤_, _<_}
-use borrow.Author.Needs.{needs}
-use native.Mathlib.Omega.{arith}
+use Rattle.layout.specs.WroteLaws.{wrote-length}
 use Rattle.compare.proofs.same_groups.Statement.{statement}
 use Rattle.compare.proofs.same_groups.Tie as tie
-use Rattle.compare.proofs.same_groups.Reads as reads
-use Rattle.compare.proofs.same_groups.Lts as lts
-use Rattle.compare.proofs.same_at.Reads as same-at-reads
-use Rattle.writer.proofs.wide.Reads as wide-reads
-use Rattle.writer.proofs.write_group.Reads as write-group-reads
 
 abbrev Inv-loop : tie.InvT-loop
 Inv-loop file at next n edges leaders chunk₀ to₀ i₀ i-end chunk to i = (length chunk ≡ 1028) × Agrees file at (groupsBytes (edgeBit edges) (chain n next n) leaders) to (flat (λ i. groupBytes (edgeBit edges) (chain n next n (getD leaders i 0))) (length leaders) i)
@@ -24,64 +20,49 @@ Inv-loop file at next n edges leaders chunk₀ to₀ i₀ i-end chunk to i = (le
 abbrev μ-loop : tie.MeasureT-loop
 μ-loop file at next n edges leaders chunk₀ to₀ i₀ i-end chunk to i = length leaders - i
 
--- src/lib.rt:32:5
 loop-holds : tie.Need-loop-holds Inv-loop μ-loop
 unfolding groupsBytes
 loop-holds c = (refl, agrees-start _ _ _)
 
--- src/lib.rt:33:37
 slice-aggregate-write-group : tie.Need-slice-aggregate-write-group Inv-loop μ-loop
 slice-aggregate-write-group c = sym (c .before .before .loop .inv .0)
 
--- src/lib.rt:33:81
 mul-wide : tie.Need-mul-wide Inv-loop μ-loop
 mul-wide c = omega arith
 
--- src/lib.rt:33:81
 shared-slice-read-wide : tie.Need-shared-slice-read-wide Inv-loop μ-loop
 shared-slice-read-wide c = omega arith
 
--- src/lib.rt:33:68
 wide-requires : tie.Need-wide-requires Inv-loop μ-loop
 wide-requires c κs = search needs
 
--- src/lib.rt:33:13
 write-group-requires : tie.Need-write-group-requires Inv-loop μ-loop
 write-group-requires c κs = (c .before .before .before .before .before .before .before .before .before .pre .0, ((omega (arith, c .wide .ensures, c .before .before .before .before .before .before .before .before .before .pre .1 .0 .below (c .before .before .before .before .loop .i) (c .before .before .before .loop-test .taken)), c .before .before .before .before .before .before .before .before .before .pre .1 .0 .rows), group-fits _ _ _ _ (c .before .before .before .before .before .before .before .before .before .pre .0 .small) (c .before .before .before .before .loop .inv .0)))
 
--- src/lib.rt:34:38
 array-share-prefix-chunk : tie.Need-array-share-prefix-chunk Inv-loop μ-loop
 array-share-prefix-chunk c = wrote-le (c .before .write-group .ensures) (group-room _ _ _ _ (c .before .before .before .before .before .before .before .before .before .before .before .pre .0 .small) (wrote-length (c .before .write-group .ensures) ∙ c .before .before .before .before .before .before .loop .inv .0))
 
--- src/lib.rt:34:38
 slice-aggregate-same-at : tie.Need-slice-aggregate-same-at Inv-loop μ-loop
 slice-aggregate-same-at c = chunk-length (group-room _ _ _ _ (c .before .before .before .before .before .before .before .before .before .before .before .before .pre .0 .small) (c .before .before .before .before .before .before .before .loop .inv .0)) (c .before .before .write-group .ensures)
 
--- src/lib.rt:34:13
 same-at-requires : tie.Need-same-at-requires Inv-loop μ-loop
 same-at-requires c κs = flat-reach _ _ _ (c .before .before .before .before .before .before .before .loop .inv .1) (c .before .before .before .before .before .before .before .before .before .before .before .before .pre .1 .1) (c .before .before .before .before .before .before .loop-test .taken) (group-room _ _ _ _ (c .before .before .before .before .before .before .before .before .before .before .before .before .pre .0 .small) (c .before .before .before .before .before .before .before .loop .inv .0)) (rw (c .before .before .before .wide .ensures) at (c .before .before .write-group .ensures))
 
--- src/lib.rt:36:13
 add-to : tie.Need-add-to Inv-loop μ-loop
 add-to c = let a = flat-reach _ _ _ (c .before .before .before .before .before .before .before .before .before .loop .inv .1) (c .before .before .before .before .before .before .before .before .before .before .before .before .before .before .pre .1 .1) (c .before .before .before .before .before .before .before .before .loop-test .taken) (group-room _ _ _ _ (c .before .before .before .before .before .before .before .before .before .before .before .before .before .before .pre .0 .small) (c .before .before .before .before .before .before .before .before .before .loop .inv .0)) (rw (c .before .before .before .before .before .wide .ensures) at (c .before .before .before .before .write-group .ensures)) in let k = chunk-length (group-room _ _ _ _ (c .before .before .before .before .before .before .before .before .before .before .before .before .before .before .pre .0 .small) (c .before .before .before .before .before .before .before .before .before .loop .inv .0)) (c .before .before .before .before .write-group .ensures) in omega (arith, a, k, c .before .before .before .before .before .before .before .before .before .before .before .before .before .before .good .0)
 
--- src/lib.rt:38:13
 returns : tie.Need-returns Inv-loop μ-loop
 returns c = flat-not _ _ _ (c .before .before .before .before .before .before .before .before .before .loop .inv .1) (c .before .before .before .before .before .before .before .before .loop-test .taken) (group-room _ _ _ _ (c .before .before .before .before .before .before .before .before .before .before .before .before .before .before .pre .0 .small) (c .before .before .before .before .before .before .before .before .before .loop .inv .0)) (rw (c .before .before .before .before .before .wide .ensures) at (c .before .before .before .before .write-group .ensures)) (sym (c .before .same-at .ensures) ∙ c .if1 .left)
 
--- src/lib.rt:32:9
 add-i : tie.Need-add-i Inv-loop μ-loop
 add-i c = omega arith
 
--- src/lib.rt:32:5
 loop-less : tie.Need-loop-less Inv-loop μ-loop
 loop-less c = omega arith
 
--- src/lib.rt:32:5
 loop-again : tie.Need-loop-again Inv-loop μ-loop
 loop-again c = (wrote-length (c .before .before .before .before .write-group .ensures) ∙ c .before .before .before .before .before .before .before .before .before .loop .inv .0, flat-matches _ _ _ (c .before .before .before .before .before .before .before .before .before .loop .inv .1) (c .before .before .before .before .before .before .before .before .loop-test .taken) (group-room _ _ _ _ (c .before .before .before .before .before .before .before .before .before .before .before .before .before .before .pre .0 .small) (c .before .before .before .before .before .before .before .before .before .loop .inv .0)) (rw (c .before .before .before .before .before .wide .ensures) at (c .before .before .before .before .write-group .ensures)) (sym (c .before .same-at .ensures) ∙ c .if1 .taken))
 
--- src/lib.rt:24:1
 returns-2 : tie.Need-returns-2 Inv-loop μ-loop
 returns-2 c = agrees-done (c .before .loop .inv .1) (flat-end _ _ _ (c .loop-test .left))
 

@@ -1,83 +1,63 @@
-use Rattle.model.specs.Tables.{edgeBit}
-use Rattle.layout.specs.Scan.{Counting}
-use Rattle.layout.specs.ScanLaws.{counting-done, counting-no, counting-start, counting-yes}
-use Rattle.layout.specs.File.{later, meets}
-use Rattle.layout.specs.FileLaws.{meets-is}
-use mathlib.Core.Logic.{⊎-elim}
-use mathlib.Core.Path.{_≡_, _∙_, sym, ap}
-use lib.ListN.{length, getD}
-use Prim.Native.Nat.{ℕ, _+_, _-_, _*_, _≤_, _<_}
-use borrow.Author.Needs.{needs}
+-- A word counts its bits, and what is left are the marked nodes from the next word on.
+use mathlib.Core.Path.{_∙_, sym}
+use Prim.Native.Nat.{_+_, _-_}
 use native.Mathlib.Omega.{arith}
+use lib.ListN.{length}
+use borrow.Author.Needs.{needs}
+use Rattle.layout.specs.Scan.{Counting, scan}
+use Rattle.layout.specs.ScanLaws.{counting-done, counting-start, scan-length}
+use Rattle.layout.specs.WordLaws.{counting-word, later-total, ones-few}
+use Rattle.layout.specs.Words.{marked}
 use Rattle.writer.proofs.count_superedges_of.Statement.{statement}
 use Rattle.writer.proofs.count_superedges_of.Tie as tie
-use Rattle.writer.proofs.count_superedges_of.Reads as reads
-use Rattle.writer.proofs.count_superedges_of.Lts as lts
-use Rattle.rows.proofs.edge.Reads as edge-reads
-use Rattle.writer.proofs.wide.Reads as wide-reads
 
 abbrev Inv-loop : tie.InvT-loop
-Inv-loop n edges leaders i p count₀ j₀ j-end count j = (count ≤ j) × Counting (meets (edgeBit edges) leaders i) (length leaders) (length (later (edgeBit edges) leaders i)) count j
+Inv-loop edges leaders set i p count₀ q₀ count q = Counting (marked edges set p) 512 (length (scan (marked edges set p) 512 (p + 1))) count q
 
 abbrev μ-loop : tie.MeasureT-loop
-μ-loop n edges leaders i p count₀ j₀ j-end count j = length leaders - j
+μ-loop edges leaders set i p count₀ q₀ count q = 512 - q
 
--- src/lib.rt:156:18
 mul-wide : tie.Need-mul-wide Inv-loop μ-loop
 mul-wide c = omega arith
 
--- src/lib.rt:156:18
 shared-slice-read-wide : tie.Need-shared-slice-read-wide Inv-loop μ-loop
 shared-slice-read-wide c = omega arith
 
--- src/lib.rt:156:9
 wide-requires : tie.Need-wide-requires Inv-loop μ-loop
 wide-requires c κs = search needs
 
--- src/lib.rt:158:14
-add-j : tie.Need-add-j Inv-loop μ-loop
-add-j c = omega arith
+add-q : tie.Need-add-q Inv-loop μ-loop
+add-q c = omega (arith, c .wide .ensures, c .before .before .before .before .pre .0 .below (c .before .before .before .before .args .i) (c .before .before .before .before .pre .1 .1))
 
--- src/lib.rt:158:5
 loop-holds : tie.Need-loop-holds Inv-loop μ-loop
-unfolding later
-loop-holds c = (omega arith, counting-start _ _ _)
+loop-holds c = counting-start _ _ _
 
--- src/lib.rt:159:38
-mul-wide-2 : tie.Need-mul-wide-2 Inv-loop μ-loop
-mul-wide-2 c = omega arith
+word-of-requires : tie.Need-word-of-requires Inv-loop μ-loop
+word-of-requires c κs = search needs
 
--- src/lib.rt:159:38
-shared-slice-read-wide-2 : tie.Need-shared-slice-read-wide-2 Inv-loop μ-loop
-shared-slice-read-wide-2 c = omega arith
+later-word-requires : tie.Need-later-word-requires Inv-loop μ-loop
+later-word-requires c κs = rw (c .before .before .before .wide .ensures) (c .before .before .before .before .before .before .before .pre .0 .below _ (c .before .before .before .before .before .before .before .pre .1 .1), c .before .loop-test .taken, c .before .before .before .before .before .before .before .pre .0 .rows _ (c .before .before .before .before .before .before .before .pre .1 .1))
 
--- src/lib.rt:159:33
-wide-requires-2 : tie.Need-wide-requires-2 Inv-loop μ-loop
-wide-requires-2 c κs = search needs
+cast-count : tie.Need-cast-count Inv-loop μ-loop
+cast-count c = let k = ones-few _ _ _ _ (c .before .before .before .before .before .before .before .before .pre .1 .0 .words) (c .later-word .ensures) in omega (arith, k)
 
--- src/lib.rt:159:12
-edge-requires : tie.Need-edge-requires Inv-loop μ-loop
-edge-requires c κs = omega (arith, c .before .before .before .before .wide .ensures, c .wide2 .ensures, c .before .before .before .before .before .before .before .before .pre .0 .below (c .before .before .before .before .before .before .before .before .args .i) (c .before .before .before .before .before .before .before .before .pre .1), c .before .before .before .before .before .before .before .before .pre .0 .below (c .before .before .before .loop .j) (c .before .before .loop-test .taken))
-
--- src/lib.rt:160:13
 add-count : tie.Need-add-count Inv-loop μ-loop
-add-count c = omega arith
+add-count c = let k = counting-word _ _ _ _ _ (c .before .before .before .loop .inv) (c .before .before .before .before .before .before .before .before .pre .1 .0 .words) (c .before .word-of .ensures) (c .before .before .loop-test .taken) (c .later-word .ensures) in omega (arith, k .sum, scan-length (marked (c .before .before .before .before .before .before .before .before .args .edges .now) (c .before .before .before .before .before .before .before .before .args .set .now) (c .before .before .before .before .wide .result)) 512 (c .before .before .before .before .wide .result + 1))
 
--- src/lib.rt:158:9
-add-j-2 : tie.Need-add-j-2 Inv-loop μ-loop
-add-j-2 c = omega arith
+mul-q : tie.Need-mul-q Inv-loop μ-loop
+mul-q c = omega (arith, c .before .word-of .ensures)
 
--- src/lib.rt:158:5
+add-q-2 : tie.Need-add-q-2 Inv-loop μ-loop
+add-q-2 c = omega (arith, c .before .word-of .ensures)
+
 loop-less : tie.Need-loop-less Inv-loop μ-loop
-loop-less c = omega arith
+loop-less c = omega (arith, c .before .word-of .ensures)
 
--- src/lib.rt:158:5
 loop-again : tie.Need-loop-again Inv-loop μ-loop
-loop-again c = let b = meets-is _ _ _ _ _ _ (c .before .before .before .before .before .before .wide .ensures) (c .before .before .wide2 .ensures) (c .before .edge .ensures) in ⊎-elim (λ w. (omega arith, rw (w .1) (counting-yes (c .before .before .before .before .before .loop .inv .1) (c .before .before .before .before .loop-test .taken) (b ∙ w .0 .taken)))) (λ w. (omega arith, rw (w .1) (counting-no (c .before .before .before .before .before .loop .inv .1) (c .before .before .before .before .loop-test .taken) (b ∙ w .0 .left)))) (c .if1 .came)
+loop-again c = counting-word _ _ _ _ _ (c .before .before .before .loop .inv) (c .before .before .before .before .before .before .before .before .pre .1 .0 .words) (c .before .word-of .ensures) (c .before .before .loop-test .taken) (c .later-word .ensures)
 
--- src/lib.rt:151:1
 returns : tie.Need-returns Inv-loop μ-loop
-returns c = counting-done (c .before .loop .inv .1) (c .loop-test .left)
+returns c = counting-done (c .before .loop .inv) (c .loop-test .left) ∙ sym (later-total _ _ _ (c .before .before .before .before .before .before .pre .1 .0) _ _ (c .before .before .before .before .before .before .pre .1 .1) (c .before .before .wide .ensures))
 
 pub count-superedges-of-spec : {M : Type 1} → statement M
 count-superedges-of-spec =
@@ -88,14 +68,14 @@ count-superedges-of-spec =
     mul-wide
     shared-slice-read-wide
     wide-requires
-    add-j
+    add-q
     loop-holds
-    mul-wide-2
-    shared-slice-read-wide-2
-    wide-requires-2
-    edge-requires
+    word-of-requires
+    later-word-requires
+    cast-count
     add-count
-    add-j-2
+    mul-q
+    add-q-2
     loop-less
     loop-again
     returns)

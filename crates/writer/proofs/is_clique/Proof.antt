@@ -1,35 +1,25 @@
-use Rattle.layout.specs.FileLaws.{clique-is, one-alone}
-use mathlib.Core.Path.{_∙_, sym, ap}
-use native.Mathlib.Omega.{arith}
+-- The chain begins with l and the member after it, if there is one.
+use mathlib.Core.Path.{sym}
 use borrow.Author.Needs.{needs}
+use Rattle.layout.specs.FileLaws.{clique-is, one-alone}
 use Rattle.writer.proofs.is_clique.Statement.{statement}
 use Rattle.writer.proofs.is_clique.Tie as tie
-use Rattle.writer.proofs.is_clique.Reads as reads
-use Rattle.writer.proofs.is_clique.Lts as lts
-use Rattle.rows.proofs.edge.Reads as edge-reads
-use Rattle.writer.proofs.wide.Reads as wide-reads
 
--- src/lib.rt:87:23
 mul-wide : tie.Need-mul-wide
 mul-wide c = search needs
 
--- src/lib.rt:87:23
 shared-slice-read-wide : tie.Need-shared-slice-read-wide
 shared-slice-read-wide c = search needs
 
--- src/lib.rt:87:9
 wide-requires : tie.Need-wide-requires
 wide-requires c κs = search needs
 
--- src/lib.rt:89:9
 edge-requires : tie.Need-edge-requires
 edge-requires c κs = search needs
 
--- src/lib.rt:89:9
 returns : tie.Need-returns
 returns c = clique-is _ _ _ _ _ (c .before .before .wide .ensures) (c .before .before .before .before .before .before .pre .1 .0) (c .before .before .before .before .before .before .pre .0 .ahead _ (c .before .before .before .before .before .before .pre .1 .0)) (c .before .if1 .taken) (c .edge .ensures)
 
--- src/lib.rt:82:1
 returns-2 : tie.Need-returns-2
 returns-2 c = sym (one-alone _ _ _ _ (c .before .before .before .before .before .pre .1 .0) (rw (c .before .wide .ensures) at (c .if1 .left)))
 

@@ -1,102 +1,79 @@
+-- The three numbers are the file's, so the test is on its length.
 use native.Mathlib.Omega.{arith}
-use Rattle.layout.specs.WholeLaws.{done, leaders-fit, leaders-taken, nodes-le, refused, room-is, rows-of, superedges-counted, taken-length, visible-fit}
 use borrow.Author.Needs.{needs}
+use Rattle.layout.specs.WholeLaws.{done, leaders-fit, leaders-taken, nodes-le, refused, room-is, rows-of, superedges-counted, taken-length, visible-fit}
+use Rattle.layout.specs.WordLaws.{marked-as, rowed-of}
 use Rattle.writer.proofs.write.Statement.{statement}
 use Rattle.writer.proofs.write.Tie as tie
-use Rattle.writer.proofs.write.Reads as reads
-use Rattle.writer.proofs.write.Lts as lts
-use Rattle.writer.proofs.collect_leaders.Reads as collect-leaders-reads
-use Rattle.writer.proofs.count_superedges.Reads as count-superedges-reads
-use Rattle.writer.proofs.count_visible.Reads as count-visible-reads
-use Rattle.writer.proofs.write_file.Reads as write-file-reads
 
--- src/lib.rt:263:39
 slice-aggregate-collect-leaders : tie.Need-slice-aggregate-collect-leaders
 slice-aggregate-collect-leaders c = search needs
 
--- src/lib.rt:263:9
 collect-leaders-requires : tie.Need-collect-leaders-requires
 collect-leaders-requires c κs = search needs
 
--- src/lib.rt:264:9
+leader-set-requires : tie.Need-leader-set-requires
+leader-set-requires c κs = search needs
+
 count-visible-requires : tie.Need-count-visible-requires
 count-visible-requires c κs = search needs
 
--- src/lib.rt:265:40
 array-share-prefix-leaders : tie.Need-array-share-prefix-leaders
-array-share-prefix-leaders c = let f = leaders-fit _ _ (c .before .before .collect-leaders .ensures) in omega (arith, f .1, c .before .before .before .before .before .before .before .pre .small)
+array-share-prefix-leaders c = let f = leaders-fit _ _ (c .before .before .before .collect-leaders .ensures) in omega (arith, f .1, c .before .before .before .before .before .before .before .before .pre .small)
 
--- src/lib.rt:265:40
 slice-aggregate-count-superedges : tie.Need-slice-aggregate-count-superedges
-slice-aggregate-count-superedges c = taken-length _ _ (c .before .before .before .before .before .before .before .before .pre .small) (c .before .before .before .collect-leaders .ensures)
+slice-aggregate-count-superedges c = taken-length _ _ (c .before .before .before .before .before .before .before .before .before .pre .small) (c .before .before .before .before .collect-leaders .ensures)
 
--- src/lib.rt:265:9
 count-superedges-requires : tie.Need-count-superedges-requires
-count-superedges-requires c κs = rows-of (c .before .before .before .before .before .before .before .before .pre) (leaders-taken _ _ (c .before .before .before .before .before .before .before .before .pre .small) (c .before .before .before .collect-leaders .ensures))
+count-superedges-requires c κs = (rowed-of (rows-of (c .before .before .before .before .before .before .before .before .before .before .pre) (leaders-taken _ _ (c .before .before .before .before .before .before .before .before .before .before .pre .small) (c .before .before .before .before .before .collect-leaders .ensures))), (marked-as (c .before .before .before .leader-set .ensures) (leaders-taken _ _ (c .before .before .before .before .before .before .before .before .before .before .pre .small) (c .before .before .before .before .before .collect-leaders .ensures))))
 
--- src/lib.rt:266:23
 mul-length : tie.Need-mul-length
-mul-length c = let f = leaders-fit _ _ (c .before .before .before .before .collect-leaders .ensures) in omega (arith, f .1, c .before .before .before .before .before .before .before .before .before .pre .small)
+mul-length c = let f = leaders-fit _ _ (c .before .before .before .before .before .before .collect-leaders .ensures) in let v = nodes-le _ _ (visible-fit _ _ (c .before .before .before .count-visible .ensures)) in omega (arith, f .1, c .before .before .before .before .before .before .before .before .before .before .before .pre .small, c .count-superedges .ensures .1)
 
--- src/lib.rt:266:18
 add-length : tie.Need-add-length
-add-length c = let f = leaders-fit _ _ (c .before .before .before .before .collect-leaders .ensures) in omega (arith, f .1, c .before .before .before .before .before .before .before .before .before .pre .small)
+add-length c = let f = leaders-fit _ _ (c .before .before .before .before .before .before .collect-leaders .ensures) in let v = nodes-le _ _ (visible-fit _ _ (c .before .before .before .count-visible .ensures)) in omega (arith, f .1, c .before .before .before .before .before .before .before .before .before .before .before .pre .small, c .count-superedges .ensures .1)
 
--- src/lib.rt:266:31
 mul-length-2 : tie.Need-mul-length-2
-mul-length-2 c = let v = nodes-le _ _ (visible-fit _ _ (c .before .before .count-visible .ensures)) in omega (arith, c .before .before .before .before .before .before .before .before .before .pre .small)
+mul-length-2 c = let f = leaders-fit _ _ (c .before .before .before .before .before .before .collect-leaders .ensures) in let v = nodes-le _ _ (visible-fit _ _ (c .before .before .before .count-visible .ensures)) in omega (arith, f .1, c .before .before .before .before .before .before .before .before .before .before .before .pre .small, c .count-superedges .ensures .1)
 
--- src/lib.rt:266:18
 add-length-2 : tie.Need-add-length-2
-add-length-2 c = let f = leaders-fit _ _ (c .before .before .before .before .collect-leaders .ensures) in let v = nodes-le _ _ (visible-fit _ _ (c .before .before .count-visible .ensures)) in omega (arith, f .1, c .before .before .before .before .before .before .before .before .before .pre .small)
+add-length-2 c = let f = leaders-fit _ _ (c .before .before .before .before .before .before .collect-leaders .ensures) in let v = nodes-le _ _ (visible-fit _ _ (c .before .before .before .count-visible .ensures)) in omega (arith, f .1, c .before .before .before .before .before .before .before .before .before .before .before .pre .small, c .count-superedges .ensures .1)
 
--- src/lib.rt:266:39
 mul-length-3 : tie.Need-mul-length-3
 mul-length-3 c = search needs
 
--- src/lib.rt:266:18
 add-length-3 : tie.Need-add-length-3
-add-length-3 c = let f = leaders-fit _ _ (c .before .before .before .before .collect-leaders .ensures) in let v = nodes-le _ _ (visible-fit _ _ (c .before .before .count-visible .ensures)) in omega (arith, f .1, c .before .before .before .before .before .before .before .before .before .pre .small, c .count-superedges .ensures .1)
+add-length-3 c = let f = leaders-fit _ _ (c .before .before .before .before .before .before .collect-leaders .ensures) in let v = nodes-le _ _ (visible-fit _ _ (c .before .before .before .count-visible .ensures)) in omega (arith, f .1, c .before .before .before .before .before .before .before .before .before .before .before .pre .small, c .count-superedges .ensures .1)
 
--- src/lib.rt:268:9
 returns : tie.Need-returns
-returns c = refused _ _ _ _ _ _ (leaders-fit _ _ (c .before .before .before .before .before .collect-leaders .ensures) .0) (visible-fit _ _ (c .before .before .before .count-visible .ensures)) (superedges-counted _ _ _ _ (c .before .count-superedges .ensures .0) (leaders-taken _ _ (c .before .before .before .before .before .before .before .before .before .before .pre .small) (c .before .before .before .before .before .collect-leaders .ensures))) _ (c .if1 .taken)
+returns c = refused _ _ _ _ _ _ (leaders-fit _ _ (c .before .before .before .before .before .before .before .collect-leaders .ensures) .0) (visible-fit _ _ (c .before .before .before .before .count-visible .ensures)) (superedges-counted _ _ _ _ (c .before .count-superedges .ensures .0) (leaders-taken _ _ (c .before .before .before .before .before .before .before .before .before .before .before .before .pre .small) (c .before .before .before .before .before .before .before .collect-leaders .ensures))) _ (c .if1 .taken)
 
--- src/lib.rt:270:36
 array-share-prefix-leaders-2 : tie.Need-array-share-prefix-leaders-2
-array-share-prefix-leaders-2 c = let f = leaders-fit _ _ (c .before .before .before .before .before .collect-leaders .ensures) in omega (arith, f .1, c .before .before .before .before .before .before .before .before .before .before .pre .small)
+array-share-prefix-leaders-2 c = let f = leaders-fit _ _ (c .before .before .before .before .before .before .before .collect-leaders .ensures) in omega (arith, f .1, c .before .before .before .before .before .before .before .before .before .before .before .before .pre .small)
 
--- src/lib.rt:270:36
 slice-aggregate-write-file : tie.Need-slice-aggregate-write-file
-slice-aggregate-write-file c = taken-length _ _ (c .before .before .before .before .before .before .before .before .before .before .before .pre .small) (c .before .before .before .before .before .before .collect-leaders .ensures)
+slice-aggregate-write-file c = taken-length _ _ (c .before .before .before .before .before .before .before .before .before .before .before .before .before .pre .small) (c .before .before .before .before .before .before .before .before .collect-leaders .ensures)
 
--- src/lib.rt:270:5
 write-file-requires : tie.Need-write-file-requires
-write-file-requires c κs = let f = leaders-fit _ _ (c .before .before .before .before .before .before .before .collect-leaders .ensures) in let q = leaders-taken _ _ (c .before .before .before .before .before .before .before .before .before .before .before .before .pre .small) (c .before .before .before .before .before .before .before .collect-leaders .ensures) in let v = visible-fit _ _ (c .before .before .before .before .before .count-visible .ensures) in (c .before .before .before .before .before .before .before .before .before .before .before .before .pre, (q, (v, room-is _ _ _ _ _ _ (f .0) v (superedges-counted _ _ _ _ (c .before .before .before .count-superedges .ensures .0) q) (c .before .before .before .before .before .before .before .before .before .before .before .before .pre) (c .before .before .if1 .left))))
+write-file-requires c κs = (c .before .before .before .before .before .before .before .before .before .before .before .before .before .before .before .pre, (((leaders-taken _ _ (c .before .before .before .before .before .before .before .before .before .before .before .before .before .before .before .pre .small) (c .before .before .before .before .before .before .before .before .before .before .collect-leaders .ensures)), (marked-as (c .before .before .before .before .before .before .before .before .leader-set .ensures) (leaders-taken _ _ (c .before .before .before .before .before .before .before .before .before .before .before .before .before .before .before .pre .small) (c .before .before .before .before .before .before .before .before .before .before .collect-leaders .ensures)))), ((visible-fit _ _ (c .before .before .before .before .before .before .before .count-visible .ensures)), room-is _ _ _ _ _ _ (leaders-fit _ _ (c .before .before .before .before .before .before .before .before .before .before .collect-leaders .ensures) .0) (visible-fit _ _ (c .before .before .before .before .before .before .before .count-visible .ensures)) (superedges-counted _ _ _ _ (c .before .before .before .before .count-superedges .ensures .0) (leaders-taken _ _ (c .before .before .before .before .before .before .before .before .before .before .before .before .before .before .before .pre .small) (c .before .before .before .before .before .before .before .before .before .before .collect-leaders .ensures))) (c .before .before .before .before .before .before .before .before .before .before .before .before .before .before .before .pre) (c .before .before .before .if1 .left))))
 
--- src/lib.rt:271:33
-cast-t24 : tie.Need-cast-t24
-cast-t24 c = let v = nodes-le _ _ (visible-fit _ _ (c .before .before .before .before .before .before .before .before .count-visible .ensures)) in omega (arith, c .before .before .before .before .before .before .before .before .before .before .before .before .before .before .before .pre .small)
+cast-t28 : tie.Need-cast-t28
+cast-t28 c = let f = leaders-fit _ _ (c .before .before .before .before .before .before .before .before .before .before .before .before .before .collect-leaders .ensures) in let v = nodes-le _ _ (visible-fit _ _ (c .before .before .before .before .before .before .before .before .before .before .count-visible .ensures)) in omega (arith, f .1, c .before .before .before .before .before .before .before .before .before .before .before .before .before .before .before .before .before .before .pre .small, c .before .before .before .before .before .before .before .count-superedges .ensures .1)
 
--- src/lib.rt:271:51
-cast-t25 : tie.Need-cast-t25
-cast-t25 c = let f = leaders-fit _ _ (c .before .before .before .before .before .before .before .before .before .before .collect-leaders .ensures) in omega (arith, f .1, c .before .before .before .before .before .before .before .before .before .before .before .before .before .before .before .pre .small)
+cast-t29 : tie.Need-cast-t29
+cast-t29 c = let f = leaders-fit _ _ (c .before .before .before .before .before .before .before .before .before .before .before .before .before .collect-leaders .ensures) in let v = nodes-le _ _ (visible-fit _ _ (c .before .before .before .before .before .before .before .before .before .before .count-visible .ensures)) in omega (arith, f .1, c .before .before .before .before .before .before .before .before .before .before .before .before .before .before .before .before .before .before .pre .small, c .before .before .before .before .before .before .before .count-superedges .ensures .1)
 
--- src/lib.rt:271:73
-cast-t26 : tie.Need-cast-t26
-cast-t26 c = search needs
+cast-t30 : tie.Need-cast-t30
+cast-t30 c = search needs
 
--- src/lib.rt:271:90
-cast-t27 : tie.Need-cast-t27
-cast-t27 c = let f = leaders-fit _ _ (c .before .before .before .before .before .before .before .before .before .before .collect-leaders .ensures) in let v = nodes-le _ _ (visible-fit _ _ (c .before .before .before .before .before .before .before .before .count-visible .ensures)) in omega (arith, f .1, c .before .before .before .before .before .before .before .before .before .before .before .before .before .before .before .pre .small, c .before .before .before .before .before .before .count-superedges .ensures .1)
+cast-t31 : tie.Need-cast-t31
+cast-t31 c = let f = leaders-fit _ _ (c .before .before .before .before .before .before .before .before .before .before .before .before .before .collect-leaders .ensures) in let v = nodes-le _ _ (visible-fit _ _ (c .before .before .before .before .before .before .before .before .before .before .count-visible .ensures)) in omega (arith, f .1, c .before .before .before .before .before .before .before .before .before .before .before .before .before .before .before .before .before .before .pre .small, c .before .before .before .before .before .before .before .count-superedges .ensures .1)
 
--- src/lib.rt:258:1
 same-length : tie.Need-same-length
 same-length c = search needs
 
--- src/lib.rt:258:1
 returns-2 : tie.Need-returns-2
-returns-2 c = done _ _ _ _ _ _ (leaders-fit _ _ (c .before .before .before .before .before .before .before .before .before .before .collect-leaders .ensures) .0) (visible-fit _ _ (c .before .before .before .before .before .before .before .before .count-visible .ensures)) (superedges-counted _ _ _ _ (c .before .before .before .before .before .before .count-superedges .ensures .0) (leaders-taken _ _ (c .before .before .before .before .before .before .before .before .before .before .before .before .before .before .before .pre .small) (c .before .before .before .before .before .before .before .before .before .before .collect-leaders .ensures))) _ (c .before .before .before .before .before .before .before .before .before .before .before .before .before .before .before .pre) (c .before .before .before .before .before .if1 .left) (c .before .before .write-file .ensures)
+returns-2 c = done _ _ _ _ _ _ (leaders-fit _ _ (c .before .before .before .before .before .before .before .before .before .before .before .before .before .collect-leaders .ensures) .0) (visible-fit _ _ (c .before .before .before .before .before .before .before .before .before .before .count-visible .ensures)) (superedges-counted _ _ _ _ (c .before .before .before .before .before .before .before .count-superedges .ensures .0) (leaders-taken _ _ (c .before .before .before .before .before .before .before .before .before .before .before .before .before .before .before .before .before .before .pre .small) (c .before .before .before .before .before .before .before .before .before .before .before .before .before .collect-leaders .ensures))) _ (c .before .before .before .before .before .before .before .before .before .before .before .before .before .before .before .before .before .before .pre) (c .before .before .before .before .before .before .if1 .left) (c .before .before .write-file .ensures)
 
 pub write-spec : {M : Type 1} → statement M
 write-spec =
@@ -104,6 +81,7 @@ write-spec =
     (tie.spec
     slice-aggregate-collect-leaders
     collect-leaders-requires
+    leader-set-requires
     count-visible-requires
     array-share-prefix-leaders
     slice-aggregate-count-superedges
@@ -118,9 +96,9 @@ write-spec =
     array-share-prefix-leaders-2
     slice-aggregate-write-file
     write-file-requires
-    cast-t24
-    cast-t25
-    cast-t26
-    cast-t27
+    cast-t28
+    cast-t29
+    cast-t30
+    cast-t31
     same-length
     returns-2)

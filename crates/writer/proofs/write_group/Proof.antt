@@ -1,47 +1,33 @@
-use Rattle.layout.specs.FileLaws.{count-fits, room-count, room-mark, room-members, wrote-group}
+-- Members, then the mark and the count before them.
 use borrow.Author.Needs.{needs}
+use Rattle.layout.specs.FileLaws.{count-fits, room-count, room-mark, room-members, wrote-group}
 use Rattle.writer.proofs.write_group.Statement.{statement}
 use Rattle.writer.proofs.write_group.Tie as tie
-use Rattle.writer.proofs.write_group.Reads as reads
-use Rattle.writer.proofs.write_group.Lts as lts
-use Rattle.writer.proofs.is_clique.Reads as is-clique-reads
-use Rattle.writer.proofs.put_group_mark.Reads as put-group-mark-reads
-use Rattle.writer.proofs.put_u16.Reads as put-u16-reads
-use Rattle.writer.proofs.write_members.Reads as write-members-reads
 
--- src/lib.rt:101:33
 add-write-members : tie.Need-add-write-members
 add-write-members c = search needs
 
--- src/lib.rt:101:9
 write-members-requires : tie.Need-write-members-requires
 write-members-requires c κs = (c .before .before .before .before .pre .0, room-members _ _ _ (c .before .before .before .before .pre .1 .1))
 
--- src/lib.rt:102:9
 is-clique-requires : tie.Need-is-clique-requires
 is-clique-requires c κs = search needs
 
--- src/lib.rt:103:9
 put-group-mark-requires : tie.Need-put-group-mark-requires
 put-group-mark-requires c κs = room-mark _ _ _ (c .before .before .before .before .before .before .before .before .before .pre .1 .1) (c .before .before .before .before .write-members .ensures)
 
--- src/lib.rt:104:22
 sub-put-u16 : tie.Need-sub-put-u16
 sub-put-u16 c = search needs
 
--- src/lib.rt:104:22
 sub-put-u16-2 : tie.Need-sub-put-u16-2
 sub-put-u16-2 c = search needs
 
--- src/lib.rt:104:5
 put-u16-requires : tie.Need-put-u16-requires
 put-u16-requires c κs = (count-fits _ _ _ _ (c .before .before .before .before .before .before .before .before .before .before .before .before .before .pre .0 .small) (c .before .before .before .before .before .before .before .before .write-members .ensures), room-count _ _ (c .before .before .before .before .before .is-clique .result) (c .before .before .before .before .before .before .before .before .before .before .before .before .before .pre .1 .1) (c .before .before .before .before .before .before .before .before .write-members .ensures) (c .before .before .before .put-group-mark .ensures))
 
--- src/lib.rt:95:1
 same-length : tie.Need-same-length
 same-length c = search needs
 
--- src/lib.rt:95:1
 returns : tie.Need-returns
 returns c = wrote-group _ _ (c .before .before .before .before .before .before .before .before .before .before .before .write-members .ensures) (c .before .before .before .before .before .before .before .before .is-clique .ensures) (c .before .before .before .before .before .before .put-group-mark .ensures) (c .before .before .put-u16 .ensures)
 

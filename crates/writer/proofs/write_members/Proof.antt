@@ -1,13 +1,10 @@
-use Rattle.layout.specs.FileLaws.{MembersLeft, members-done, members-room, members-start, members-step}
-use Prim.Native.Nat.{ℕ, _+_, _-_, _*_, _≤_, _<_}
-use borrow.Author.Needs.{needs}
+-- Next members go up, so the walk ends, and what is left to write is the rest of the chain.
+use Prim.Native.Nat.{_-_}
 use native.Mathlib.Omega.{arith}
+use borrow.Author.Needs.{needs}
+use Rattle.layout.specs.FileLaws.{MembersLeft, members-done, members-room, members-start, members-step}
 use Rattle.writer.proofs.write_members.Statement.{statement}
 use Rattle.writer.proofs.write_members.Tie as tie
-use Rattle.writer.proofs.write_members.Reads as reads
-use Rattle.writer.proofs.write_members.Lts as lts
-use Rattle.writer.proofs.put_u16.Reads as put-u16-reads
-use Rattle.writer.proofs.wide.Reads as wide-reads
 
 abbrev Inv-loop : tie.InvT-loop
 Inv-loop out₀ at next n first to₀ q₀ out to q = MembersLeft out₀ at next n first out to q
@@ -15,39 +12,30 @@ Inv-loop out₀ at next n first to₀ q₀ out to q = MembersLeft out₀ at next
 abbrev μ-loop : tie.MeasureT-loop
 μ-loop out₀ at next n first to₀ q₀ out to q = n - q
 
--- src/lib.rt:74:5
 loop-holds : tie.Need-loop-holds Inv-loop μ-loop
 loop-holds c = members-start _ _ _ _ _
 
--- src/lib.rt:75:9
 put-u16-requires : tie.Need-put-u16-requires Inv-loop μ-loop
 put-u16-requires c κs = (omega arith, members-room (c .before .before .loop .inv) (c .before .loop-test .taken) (c .before .before .before .before .before .pre .1))
 
--- src/lib.rt:76:18
 mul-wide : tie.Need-mul-wide Inv-loop μ-loop
 mul-wide c = omega (arith, c .before .before .before .before .before .before .before .before .pre .0)
 
--- src/lib.rt:76:18
 shared-slice-read-wide : tie.Need-shared-slice-read-wide Inv-loop μ-loop
 shared-slice-read-wide c = omega (arith, c .before .before .before .before .before .before .before .before .before .pre .0)
 
--- src/lib.rt:76:9
 wide-requires : tie.Need-wide-requires Inv-loop μ-loop
 wide-requires c κs = search needs
 
--- src/lib.rt:74:5
 loop-less : tie.Need-loop-less Inv-loop μ-loop
 loop-less c = omega (arith, c .wide .ensures, c .before .before .before .before .before .before .before .before .before .before .pre .0 .ahead (c .before .before .before .before .before .before .before .loop .q) (c .before .before .before .before .before .before .loop-test .taken))
 
--- src/lib.rt:74:5
 loop-again : tie.Need-loop-again Inv-loop μ-loop
 loop-again c = rw (c .wide .ensures) (members-step (c .before .before .before .before .before .before .before .loop .inv) (c .before .before .before .before .before .before .loop-test .taken) (c .before .before .before .before .before .before .before .before .before .before .pre .0 .ahead (c .before .before .before .before .before .before .before .loop .q) (c .before .before .before .before .before .before .loop-test .taken)) (c .before .before .before .before .put-u16 .ensures))
 
--- src/lib.rt:67:1
 same-length : tie.Need-same-length Inv-loop μ-loop
 same-length c = c .before .loop .inv .left .size
 
--- src/lib.rt:67:1
 returns : tie.Need-returns Inv-loop μ-loop
 returns c = members-done (c .before .loop .inv) (c .loop-test .left)
 
