@@ -25,7 +25,7 @@ use Rattle.layout.specs.Truth.{Truth}
 use Rattle.rows.specs.Search.{Ready, edgesIn, firstFrom, joins}
 use Rattle.rows.specs.SearchLaws.{ready-edges}
 use Rattle.groups.specs.GroupLaws.{first-cases}
-use Rattle.visible.specs.Visible.{Apart, markedGraph, shown}
+use Rattle.visible.specs.Visible.{Apart, leastFound, markedGraph, shown}
 use Rattle.visible.specs.MaskLaws.{visible-is}
 
 -- what is told of node q: the least of its group if it is visible, a number that no node has if not
@@ -179,7 +179,8 @@ module _ {n : ℕ} {edges marks : List ℕ} (a : Apart n edges marks) where
         step (inl x) = joined first (omega (arith, x .0)) (x .1)
         step (inr x) = omega (arith, x .0, alone (x .1))
 
-    told-found : {x : ℕ} → x ≡ cond (shown marks u) (firstFrom (joins n edges table u u) 0 u) 65535 → x ≡ told (markedGraph n edges marks) u
+    told-found : {x : ℕ} → x ≡ leastFound n edges table marks u → x ≡ told (markedGraph n edges marks) u
+    unfolding leastFound
     told-found {x} h = h ∙ step (decide (shown marks u))
       where
         seen : isVisible g u ≡ shown marks u
@@ -188,6 +189,23 @@ module _ {n : ℕ} {edges marks : List ℕ} (a : Apart n edges marks) where
         step : (shown marks u ≡ true) ⊎ (shown marks u ≡ false) → cond (shown marks u) (firstFrom (joins n edges table u u) 0 u) 65535 ≡ told g u
         step (inl s) = rw (s, seen ∙ s) (least-found (seen ∙ s))
         step (inr s) = rw (s, seen ∙ s)
+
+-- the branches of the code
+module _ (n : ℕ) (edges table marks : List ℕ) (u : ℕ) (b : Bool) (e : b ≡ shown marks u) where
+  pub found-shown : (x : ℕ) → b ≡ true → x ≡ firstFrom (joins n edges table u u) 0 u → x ≡ leastFound n edges table marks u
+  unfolding leastFound
+  found-shown x t f = rw (sym e ∙ t) f
+
+  pub found-hidden : b ≡ false → 65535 ≡ leastFound n edges table marks u
+  unfolding leastFound
+  found-hidden t = rw (sym e ∙ t)
+
+pub found-fits : (P : ℕ → Bool) {u x : ℕ} → x ≡ firstFrom P 0 u → u < 512 → x < 65536
+found-fits P {u} {x} e h = step (first-cases P 0 u)
+  where
+    step : ((firstFrom P 0 u < 0 + u) × (P (firstFrom P 0 u) ≡ true)) ⊎ ((firstFrom P 0 u ≡ 0 + u) × ((p : ℕ) → 0 ≤ p → p < 0 + u → P p ≡ false)) → x < 65536
+    step (inl y) = omega (arith, y .0)
+    step (inr y) = omega (arith, y .0)
 
 -- the nodes below u are told, in the first column of the table and in the list
 pub record Telling (g : Graph) (u : ℕ) (t l table lst : List ℕ) : Type 0 where
@@ -200,7 +218,7 @@ pub telling-none : (g : Graph) (t l : List ℕ) → Telling g 0 t l t l
 telling-none g t l = record { size = refl; count = refl; column = λ q h. absurd (omega arith); list = λ q h. absurd (omega arith) }
 
 pub telling-more : {n : ℕ} {edges marks : List ℕ} {u x : ℕ} {t l table lst : List ℕ} → Apart n edges marks → n ≤ 512 → Telling (markedGraph n edges marks) u t l table lst → u < n → length t ≡ nodeNumbers * n → n ≤ length l
-    → x ≡ cond (shown marks u) (firstFrom (joins n edges table u u) 0 u) 65535 → Telling (markedGraph n edges marks) (u + 1) t l (set table (4 * u) x) (set lst u x)
+    → x ≡ leastFound n edges table marks u → Telling (markedGraph n edges marks) (u + 1) t l (set table (4 * u) x) (set lst u x)
 unfolding nodeNumber
 telling-more {n} {edges} {marks} {u} {x} {t} {l} {table} {lst} a small h hu st sl e = record {
   size = length-set table (4 * u) x ∙ h .size;

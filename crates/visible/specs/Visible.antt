@@ -8,7 +8,7 @@ use lib.Dec.{eqb, ltb}
 use lib.ListN.{length, getD}
 use Rattle.model.specs.Graph.{Graph, Proper, maxNodes, rowWords}
 use Rattle.model.specs.Tables.{edgesOf}
-use Rattle.rows.specs.Search.{edgesIn, graphIn}
+use Rattle.rows.specs.Search.{edgesIn, firstFrom, graphIn, joins}
 
 -- the graph of n nodes that an edge table and a list of marks tell (1: hidden)
 unfoldable pub markedGraph : ℕ → List ℕ → List ℕ → Graph
@@ -43,3 +43,7 @@ pub record Apart (n : ℕ) (edges marks : List ℕ) : Type 0 where
   pub proper : Proper (markedGraph n edges marks)
   pub marked : n ≤ length marks
   pub none : (p q : ℕ) → shown marks q ≡ false → edgesIn n edges p q ≡ false
+
+-- the least member of u's group, where the table tells those of the nodes below u; a number that no node has for a hidden u
+unfoldable pub leastFound : ℕ → List ℕ → List ℕ → List ℕ → ℕ → ℕ
+leastFound n edges table marks u = cond (shown marks u) (firstFrom (joins n edges table u u) 0 u) 65535

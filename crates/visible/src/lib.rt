@@ -1,6 +1,5 @@
 // The visible part of a graph, grouped afresh: what a release is written from.
 ghost use mathlib.Core.Path.{_≡_};
-ghost use mathlib.Core.Bool.{cond};
 ghost use Prim.Native.Nat.{_+_, _*_, _≤_, _<_};
 ghost use lib.ListN.{length};
 ghost use Rattle.model.specs.Lists.{nodes};
@@ -10,8 +9,8 @@ ghost use Rattle.model.specs.Tables.{edgesOf, keysOf};
 ghost use Rattle.model.specs.Release.{visiblePart};
 ghost use Rattle.layout.specs.Truth.{Truth};
 ghost use Rattle.layout.specs.WordLaws.{Marking};
-ghost use Rattle.rows.specs.Search.{Ready, edgesIn, firstFrom, graphIn, joins};
-ghost use Rattle.visible.specs.Visible.{Apart, Drawn, Within, keptWord, markedGraph, shown};
+ghost use Rattle.rows.specs.Search.{Ready, edgesIn, graphIn};
+ghost use Rattle.visible.specs.Visible.{Apart, Drawn, Within, keptWord, leastFound, markedGraph, shown};
 use rows::Graph;
 
 // Stands for no node, at hidden nodes.
@@ -99,7 +98,7 @@ pub fn sum_keys(edges: &[u64], keys: &mut [u32], n: usize)
 fn least_of(edges: &[u64], nodes: &[u16], keys: &[u32], hidden: &[u16], n: usize, u: usize) -> u16
     requires { ⌜ Ready n (now edges) (now keys) ⌝ }
     requires { ⌜ (length (now nodes) ≡ nodeNumbers * n) × (u < n) × (n ≤ length (now hidden)) ⌝ }
-    ensures { λ r. ⌜ r ≡ cond (shown (now (hidden .entry)) u) (firstFrom (joins n (now (edges .entry)) (now (nodes .entry)) u u) 0 u) 65535 ⌝ }
+    ensures { λ r. ⌜ r ≡ leastFound n (now (edges .entry)) (now (nodes .entry)) (now (hidden .entry)) u ⌝ }
 {
     if is_visible(hidden, u) {
         return rows::find_group(edges, nodes, keys, n, u, u, u) as u16;
