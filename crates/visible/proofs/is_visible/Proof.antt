@@ -1,20 +1,16 @@
+-- The test is the definition's.
 use mathlib.Core.Path.{refl}
-use Rattle.visible.specs.Visible.{shown}
 use borrow.Author.Needs.{needs}
+use Rattle.visible.specs.Visible.{shown}
 use Rattle.visible.proofs.is_visible.Statement.{statement}
 use Rattle.visible.proofs.is_visible.Tie as tie
-use Rattle.visible.proofs.is_visible.Reads as reads
-use Rattle.visible.proofs.is_visible.Lts as lts
 
--- src/lib.rt:25:5
 mul-result : tie.Need-mul-result
 mul-result c = search needs
 
--- src/lib.rt:25:5
 shared-slice-read-result : tie.Need-shared-slice-read-result
 shared-slice-read-result c = search needs
 
--- src/lib.rt:21:1
 returns : tie.Need-returns
 unfolding shown
 returns c = refl
