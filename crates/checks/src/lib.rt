@@ -21,16 +21,8 @@ ghost use Rattle.checks.specs.Checks.{
   twinOf,
   twinsHold,
 };
-use groups::number;
+use groups::{number, LEAST, MARK, NEXT, PREVIOUS};
 use rows::Graph;
-
-const LEAST: usize = 0;
-
-const NEXT: usize = 1;
-
-const PREVIOUS: usize = 2;
-
-const MARK: usize = 3;
 
 // Whether q is another node, with p's bit in its row.
 fn is_mirrored(edges: &[u64], n: usize, p: usize, q: usize) -> bool
