@@ -1,0 +1,28 @@
+use Rattle.rows.specs.KeyLaws.{keys-changed}
+use borrow.Author.Needs.{needs}
+use Rattle.rows.proofs.change_keys.Statement.{statement}
+use Rattle.rows.proofs.change_keys.Tie as tie
+use Rattle.rows.proofs.change_keys.Reads as reads
+use Rattle.rows.proofs.change_keys.Lts as lts
+use Rattle.rows.proofs.move_keys.Reads as move-keys-reads
+
+-- src/lib.rt:141:5
+move-keys-requires : tie.Need-move-keys-requires
+move-keys-requires c κs = search needs
+
+-- src/lib.rt:142:5
+move-keys-requires-2 : tie.Need-move-keys-requires-2
+move-keys-requires-2 c κs = search needs
+
+-- src/lib.rt:137:1
+same-length : tie.Need-same-length
+same-length c = search needs
+
+-- src/lib.rt:137:1
+returns : tie.Need-returns
+returns c =
+    let start = c .before .before .before .before .before .before .before .before .before in
+    keys-changed _ _ _ _ _ _ (start .pre .2) (c .before .before .before .before .before .before .move-keys .ensures) (c .before .before .move-keys2 .ensures)
+
+pub change-keys-spec : {M : Type 1} → statement M
+change-keys-spec = tie.close (tie.spec move-keys-requires move-keys-requires-2 same-length returns)

@@ -1,0 +1,47 @@
+-- What a change of an edge does to the edge table and to the keys.
+use mathlib.Core.Path.{_≡_}
+use mathlib.Core.Bool.{Bool, not, cond, _&&_}
+use mathlib.Core.List.{List}
+use Prim.Native.Nat.{ℕ, _+_, _*_, _-_, _%_, _^_, _<_}
+use lib.Dec.{eqb}
+use lib.ListN.{length, getD}
+use Rattle.model.specs.Grouping.{cube}
+use Rattle.model.specs.Tables.{Tables, edgeBit}
+use Rattle.model.specs.Updates.{isPair}
+
+-- three lent tables
+abbrev pub lent : List ℕ → List ℕ → List ℕ → Tables
+lent edges nodes keys = record { edges = edges; nodes = nodes; keys = keys }
+
+-- words of 64 bits
+abbrev pub Words : List ℕ → Type 0
+Words t = (i : ℕ) → getD t i 0 < 2 ^ 64
+
+-- the bit for q in p's row is the other one, everything else is as it was
+pub record Flipped (p q : ℕ) (t after : List ℕ) : Type 0 where
+  pub size : length after ≡ length t
+  pub words : Words t → Words after
+  pub bits : (a b : ℕ) → b < 512 → edgeBit after a b ≡ cond (eqb a p && eqb b q) (not (edgeBit t a b)) (edgeBit t a b)
+
+-- the edge between u and v is changed, in both rows
+pub record Changed (u v : ℕ) (t after : List ℕ) : Type 0 where
+  pub size : length after ≡ length t
+  pub words : Words t → Words after
+  pub bits : (a b : ℕ) → b < 512 → edgeBit after a b ≡ cond (isPair u v a b) (not (edgeBit t a b)) (edgeBit t a b)
+
+-- a key with a cube put in or taken out, wrapping at 32 bits
+unfoldable pub movedKey : Bool → ℕ → ℕ → ℕ
+movedKey insert k x = cond insert ((k + x) % 2 ^ 32) ((k + (2 ^ 32 - x % 2 ^ 32)) % 2 ^ 32)
+
+-- both keys of p are moved by the cube of q
+pub record KeysMoved (insert : Bool) (p q : ℕ) (t after : List ℕ) : Type 0 where
+  pub size : length after ≡ length t
+  pub keys : (a k : ℕ) → k < 2 → getD after (2 * a + k) 0 ≡ cond (eqb a p) (movedKey insert (getD t (2 * a + k) 0) (cube q)) (getD t (2 * a + k) 0)
+
+-- the keys of u are moved by the cube of v, and those of v by the cube of u
+pub record KeysChanged (insert : Bool) (u v : ℕ) (t after : List ℕ) : Type 0 where
+  pub size : length after ≡ length t
+  pub keys :
+      (a k : ℕ) → k < 2
+      → getD after (2 * a + k) 0
+      ≡ cond (eqb a u) (movedKey insert (getD t (2 * a + k) 0) (cube v)) (cond (eqb a v) (movedKey insert (getD t (2 * a + k) 0) (cube u)) (getD t (2 * a + k) 0))

@@ -1,0 +1,170 @@
+-- What the search tries tells which group a node joins.
+use mathlib.Core.Path.{_≡_, refl, sym, ap, _∙_, subst}
+use mathlib.Core.Bool.{Bool, true, false, not, cond, _&&_, _||_, and-false}
+use mathlib.Core.List.{List}
+use mathlib.Core.Logic.{_⊎_, inl, inr}
+use Prim.Native.Nat.{ℕ, zero, suc, _+_, _*_, _-_, _≤_, _<_}
+use native.Mathlib.Omega.{arith}
+use lib.Bits.{bitXor}
+use lib.Dec.{eqb}
+use lib.ListN.{length, getD, take, drop}
+use lib.Seq.{getD-drop, getD-take}
+use borrow.Author.Tests.{eqb-true, eqb-false, eq-eqb, ne-eqb, not-true}
+use Rattle.model.specs.Lists.{nodes}
+use Rattle.model.specs.Graph.{Graph}
+use Rattle.model.specs.Grouping.{falseTwins, similar, trueTwins}
+use Rattle.model.specs.Tables.{edgesOf, graphOf, keyPair, keysOf, nodeNumber, rowOf, tablesOf}
+use Rattle.model.specs.TestLaws.{and-fst, and-snd, and-true, decide, differ, iff-eq, or-left, or-right}
+use Rattle.model.specs.TwinLaws.{similar-N, similar-N+, similar-cases}
+use Rattle.model.specs.TableLaws.{Proper, read-back}
+use Rattle.rows.specs.Search.{Ready, edgesIn, firstFrom, graphIn, joins, keyAgrees, mayJoin, meets, ownBits, rowIn, tried}
+use Rattle.rows.specs.TwinRowLaws.{false-key, false-meet, keys-apart, meet-false, meet-true, true-key, true-meet}
+
+-- the first that passes
+module _ (P : ℕ → Bool) where
+  found-from : (k q r : ℕ) → q ≤ r → r < q + k → ((j : ℕ) → q ≤ j → j < r → P j ≡ false) → P r ≡ true → r ≡ firstFrom P q k
+  unfolding firstFrom
+  found-from zero q r l u miss hit = absurd (omega arith)
+  found-from (suc k) q r l u miss hit = step (decide (eqb q r)) (found-from k (suc q) r)
+    where
+      step : (eqb q r ≡ true) ⊎ (eqb q r ≡ false) → (suc q ≤ r → r < suc q + k → ((j : ℕ) → suc q ≤ j → j < r → P j ≡ false) → P r ≡ true → r ≡ firstFrom P (suc q) k) → r ≡ cond (P q) q (firstFrom P (suc q) k)
+      step (inl e) below = let s : q ≡ r = eqb-true q r e in rw (ap P s ∙ hit) (sym s)
+      step (inr e) below =
+          let l′ : suc q ≤ r = omega (arith, eqb-false q r e) in
+          rw (miss q (omega arith) (omega arith)) (below l′ (omega arith) (λ j a b. miss j (omega arith) b) hit)
+
+  none-from : (k q : ℕ) → ((j : ℕ) → q ≤ j → j < q + k → P j ≡ false) → q + k ≡ firstFrom P q k
+  unfolding firstFrom
+  none-from zero q miss = omega arith
+  none-from (suc k) q miss = rw (miss q (omega arith) (omega arith)) (omega (arith, none-from k (suc q) (λ j a b. miss j (omega arith) (omega arith))))
+
+  pub first-found : (n r : ℕ) → r < n → ((j : ℕ) → j < r → P j ≡ false) → P r ≡ true → r ≡ firstFrom P 0 n
+  first-found n r l miss hit = found-from n 0 r (omega arith) (omega arith) (λ j a b. miss j b) hit
+
+  pub first-none : (n : ℕ) → ((j : ℕ) → j < n → P j ≡ false) → n ≡ firstFrom P 0 n
+  first-none n miss = omega (arith, none-from n 0 (λ j a b. miss j (omega arith)))
+
+pub first-cong : (P Q : ℕ → Bool) (k q : ℕ) → ((j : ℕ) → j < q + k → P j ≡ Q j) → firstFrom P q k ≡ firstFrom Q q k
+unfolding firstFrom
+first-cong P Q zero q h = refl
+first-cong P Q (suc k) q h = rw (h q (omega arith), first-cong P Q k (suc q) (λ j l. h j (omega arith)))
+
+-- words compared one by one
+module _ (c : Bool) (u q : ℕ) (row other : List ℕ) where
+  pub meets-all : (k : ℕ) → ((i : ℕ) → i < k → bitXor (getD row i 0) (getD other i 0) ≡ ownBits c u q i) → meets c u q row other k ≡ true
+  unfolding meets
+  meets-all zero h = refl
+  meets-all (suc k) h = and-true (eq-eqb (bitXor (getD row k 0) (getD other k 0)) (ownBits c u q k) (h k (omega arith))) (meets-all k (λ i l. h i (omega arith)))
+
+  pub meets-each : (k : ℕ) → meets c u q row other k ≡ true → (i : ℕ) → i < k → bitXor (getD row i 0) (getD other i 0) ≡ ownBits c u q i
+  unfolding meets
+  meets-each zero h i l = absurd (omega arith)
+  meets-each (suc k) h i l = step (decide (eqb i k)) (meets-each k (and-snd (eqb (bitXor (getD row k 0) (getD other k 0)) (ownBits c u q k)) (meets c u q row other k) h) i)
+    where
+      last : bitXor (getD row k 0) (getD other k 0) ≡ ownBits c u q k
+      last = eqb-true (bitXor (getD row k 0) (getD other k 0)) (ownBits c u q k) (and-fst (eqb (bitXor (getD row k 0) (getD other k 0)) (ownBits c u q k)) (meets c u q row other k) h)
+
+      step : (eqb i k ≡ true) ⊎ (eqb i k ≡ false) → (i < k → bitXor (getD row i 0) (getD other i 0) ≡ ownBits c u q i) → bitXor (getD row i 0) (getD other i 0) ≡ ownBits c u q i
+      step (inl e) below = rw (eqb-true i k e) last
+      step (inr e) below = below (omega (arith, eqb-false i k e))
+
+  pub meets-not : (k i : ℕ) → i < k → (bitXor (getD row i 0) (getD other i 0) ≡ ownBits c u q i → ⊥) → meets c u q row other k ≡ false
+  meets-not k i l h = step (decide (meets c u q row other k))
+    where
+      step : (meets c u q row other k ≡ true) ⊎ (meets c u q row other k ≡ false) → meets c u q row other k ≡ false
+      step (inl t) = absurd (h (meets-each k t i l))
+      step (inr t) = t
+
+row-word : (edges : List ℕ) (p k : ℕ) → k < 8 → getD (rowIn edges p) k 0 ≡ getD edges (8 * p + k) 0
+row-word edges p k l = getD-take 8 (drop (8 * p) edges) k 0 l ∙ getD-drop (8 * p) edges k 0
+
+pub row-part : (edges : List ℕ) (p : ℕ) → take (8 * p + 8 - 8 * p) (drop (8 * p) edges) ≡ rowIn edges p
+row-part edges p = let e : 8 * p + 8 - 8 * p ≡ 8 = omega arith in rw e
+
+-- trying is joining
+module _ (n : ℕ) (edges table keys : List ℕ) (ready : Ready n edges keys) (u w q : ℕ) (hu : u < n) (hq : q < n) where
+  abbrev e : ℕ → ℕ → Bool
+  e = edgesIn n edges
+
+  abbrev open-key : Bool
+  open-key = keyAgrees keys 0 u q
+
+  abbrev Meet : Bool → Type 0
+  Meet c = (k : ℕ) → k < 8 → bitXor (getD edges (8 * u + k) 0) (getD edges (8 * q + k) 0) ≡ ownBits c u q k
+
+  words : (c : Bool) → meets c u q (rowIn edges u) (rowIn edges q) 8 ≡ true → Meet c
+  words c h k l = rw (row-word edges u k l, row-word edges q k l) at (meets-each c u q (rowIn edges u) (rowIn edges q) 8 h k l)
+
+  by-words : (c : Bool) → Meet c → meets c u q (rowIn edges u) (rowIn edges q) 8 ≡ true
+  by-words c h = meets-all c u q (rowIn edges u) (rowIn edges q) 8 (λ k l. rw (row-word edges u k l, row-word edges q k l) (h k l))
+
+  similar-of : (open-key ≡ true) ⊎ (open-key ≡ false) → meets (not open-key) u q (rowIn edges u) (rowIn edges q) 8 ≡ true → similar (nodes n) e u q ≡ true
+  similar-of (inl t) h = similar-N (nodes n) e u q (meet-false n edges keys ready u q hu hq (words false (rw t at h)))
+  similar-of (inr t) h = similar-N+ (nodes n) e u q (meet-true n edges keys ready u q hu hq (words true (rw t at h)))
+
+  abbrev Found : Type 0
+  Found = ((keyAgrees keys 0 u q || keyAgrees keys 1 u q) ≡ true) × (meets (not open-key) u q (rowIn edges u) (rowIn edges q) 8 ≡ true)
+
+  of-similar : (q ≡ u → ⊥) → (open-key ≡ true) ⊎ (open-key ≡ false) → (falseTwins (nodes n) e u q ≡ true) ⊎ (trueTwins (nodes n) e u q ≡ true) → Found
+  of-similar d (inl t) (inl h) = (or-left (keyAgrees keys 1 u q) t, rw t (by-words false (false-meet n edges keys ready u q hu hq h)))
+  of-similar d (inr t) (inl h) = differ (false-key n edges keys ready u q hu hq h) t
+  of-similar d (inl t) (inr h) = absurd (d (sym (keys-apart n edges keys ready u q hu hq t (true-key n edges keys ready u q hu hq h))))
+  of-similar d (inr t) (inr h) = (or-right (keyAgrees keys 0 u q) (true-key n edges keys ready u q hu hq h), rw t (by-words true (true-meet n edges keys ready u q hu hq h)))
+
+  pub tried-joins : tried edges table keys u w (rowIn edges u) q ≡ joins n edges table u w q
+  unfolding tried mayJoin joins
+  tried-joins = iff-eq _ _ there back
+    where
+      own : Bool
+      own = eqb (nodeNumber table q 0) q
+
+      both-keys : Bool
+      both-keys = keyAgrees keys 0 u q || keyAgrees keys 1 u q
+
+      rows : Bool
+      rows = meets (not open-key) u q (rowIn edges u) (rowIn edges q) 8
+
+      there : ((both-keys && (not (eqb q u) && (not (eqb q w) && own))) && rows) ≡ true → (not (eqb q u) && (not (eqb q w) && (own && similar (nodes n) e u q))) ≡ true
+      there h =
+          let a = and-fst (both-keys && (not (eqb q u) && (not (eqb q w) && own))) rows h in
+          let r = and-snd (both-keys && (not (eqb q u) && (not (eqb q w) && own))) rows h in
+          let b = and-snd both-keys (not (eqb q u) && (not (eqb q w) && own)) a in
+          let d = and-snd (not (eqb q u)) (not (eqb q w) && own) b in
+          and-true (and-fst (not (eqb q u)) (not (eqb q w) && own) b) (and-true (and-fst (not (eqb q w)) own d) (and-true (and-snd (not (eqb q w)) own d) (similar-of (decide open-key) r)))
+
+      back : (not (eqb q u) && (not (eqb q w) && (own && similar (nodes n) e u q))) ≡ true → ((both-keys && (not (eqb q u) && (not (eqb q w) && own))) && rows) ≡ true
+      back h =
+          let a = and-fst (not (eqb q u)) (not (eqb q w) && (own && similar (nodes n) e u q)) h in
+          let b = and-snd (not (eqb q u)) (not (eqb q w) && (own && similar (nodes n) e u q)) h in
+          let d = and-snd (not (eqb q w)) (own && similar (nodes n) e u q) b in
+          let f : Found = of-similar (eqb-false q u (not-true (eqb q u) a)) (decide open-key) (similar-cases (nodes n) e u q (and-snd own (similar (nodes n) e u q) d)) in
+          and-true (and-true (f .0) (and-true a (and-true (and-fst (not (eqb q w)) (own && similar (nodes n) e u q) b) (and-fst own (similar (nodes n) e u q) d)))) (f .1)
+
+-- so the search among tried groups finds the group to join
+pub search-joins : (n : ℕ) (edges table keys : List ℕ) → Ready n edges keys → (u w m : ℕ) → u < n → m ≤ n → firstFrom (tried edges table keys u w (rowIn edges u)) 0 m ≡ firstFrom (joins n edges table u w) 0 m
+search-joins n edges table keys ready u w m hu hm = first-cong (tried edges table keys u w (rowIn edges u)) (joins n edges table u w) m 0 (λ q l. tried-joins n edges table keys ready u w q hu (omega arith))
+
+-- tables of a graph are ready, and their edges are its edges
+pub edges-in : (g : Graph) → Proper g → edgesIn (g .nodeCount) (edgesOf g) ≡ g .edge
+unfolding edgesIn graphOf tablesOf
+edges-in g h = ap (λ (x : Graph). x .edge) (read-back g h)
+
+-- edges and keys do not tell who is hidden
+abbrev unhidden : ℕ → (ℕ → ℕ → Bool) → Graph
+unhidden n f = record { nodeCount = n; edge = f; hidden = λ p. false }
+
+edges-unhidden : (g : Graph) → edgesOf g ≡ edgesOf (unhidden (g .nodeCount) (g .edge))
+unfolding edgesOf rowOf
+edges-unhidden g = refl
+
+keys-unhidden : (g : Graph) → keysOf g ≡ keysOf (unhidden (g .nodeCount) (g .edge))
+unfolding keysOf keyPair
+keys-unhidden g = refl
+
+pub ready : (g : Graph) → Proper g → Ready (g .nodeCount) (edgesOf g) (keysOf g)
+ready g h = record {
+  small = h .small;
+  loops = λ p. ap (λ (f : ℕ → ℕ → Bool). f p p) (edges-in g h) ∙ h .irreflexive p;
+  edges-of = edges-unhidden g ∙ ap (λ (f : ℕ → ℕ → Bool). edgesOf (unhidden (g .nodeCount) f)) (sym (edges-in g h));
+  keys-of = keys-unhidden g ∙ ap (λ (f : ℕ → ℕ → Bool). keysOf (unhidden (g .nodeCount) f)) (sym (edges-in g h));
+}

@@ -1,0 +1,143 @@
+// Leaves over the edge table and the keys: one bit, one key, one row.
+ghost use mathlib.Core.Path.{_≡_};
+ghost use mathlib.Core.Bool.{not};
+ghost use Prim.Native.Nat.{ℕ, _+_, _*_, _/_, _%_, _^_, _≤_, _<_};
+ghost use lib.ListN.{length};
+ghost use Rattle.model.specs.Graph.{rowWords};
+ghost use Rattle.model.specs.Grouping.{cube};
+ghost use Rattle.model.specs.Tables.{edgeBit};
+ghost use Rattle.model.specs.Refusals.{lengths, wrongSize};
+ghost use Rattle.rows.specs.Rows.{Flipped, Changed, movedKey, KeysMoved, KeysChanged, lent};
+
+// A graph by value: how many nodes it has. Its tables are lent.
+pub struct Graph {
+    pub n: usize,
+}
+
+impl Graph {
+    pub const NODES: usize = 512;
+
+    pub const UPDATES: usize = 4096;
+
+    pub const ROW_WORDS: usize = 8;
+
+    pub const NODE_NUMBERS: usize = 4;
+
+    // A graph of n nodes without edges. Its tables are filled by whoever opens it.
+    pub fn empty(n: usize) -> Self
+        ensures { λ r. ⌜ r .n ≡ n ⌝ }
+    {
+        Self { n }
+    }
+
+    // Whether the lent tables have the lengths that this graph asks.
+    pub fn fits(self, edges: &[u64], nodes: &[u16], keys: &[u32]) -> bool
+        ensures { λ r. ⌜ r ≡ not (wrongSize (self .n) (lengths (lent (now (edges .entry)) (now (nodes .entry)) (now (keys .entry))))) ⌝ }
+    {
+        let n = self.n;
+        if n > Self::NODES {
+            return false;
+        }
+        if edges.len() != Self::ROW_WORDS * n {
+            return false;
+        }
+        if nodes.len() != Self::NODE_NUMBERS * n {
+            return false;
+        }
+        keys.len() == 2 * n
+    }
+}
+
+// The word of a row that holds node q's bit. With bit_of, the only place where word and bit are found.
+pub fn word_of(q: usize) -> usize
+    ensures { λ r. ⌜ r ≡ q / 64 ⌝ }
+{
+    q / 64
+}
+
+// The place of node q's bit in that word.
+pub fn bit_of(q: usize) -> usize
+    ensures { λ r. ⌜ r ≡ q % 64 ⌝ }
+{
+    q % 64
+}
+
+// The word with node q's bit alone.
+pub fn mask(q: usize) -> u64
+    ensures { λ r. ⌜ r ≡ 2 ^ (q % 64) ⌝ }
+{
+    1u64 << bit_of(q)
+}
+
+// The place in the edge table of the word that holds node q's bit in node p's row.
+pub fn place(p: usize, q: usize) -> usize
+    requires { ⌜ (p < 512) × (q < 512) ⌝ }
+    ensures { λ r. ⌜ r ≡ rowWords * p + q / 64 ⌝ }
+{
+    Graph::ROW_WORDS * p + word_of(q)
+}
+
+// Whether there is an edge between p and q.
+pub fn edge(edges: &[u64], p: usize, q: usize) -> bool
+    requires { ⌜ (p < 512) × (q < 512) × (rowWords * p + rowWords ≤ length (now edges)) ⌝ }
+    ensures { λ r. ⌜ r ≡ edgeBit (now (edges .entry)) p q ⌝ }
+{
+    (edges[place(p, q)] >> bit_of(q)) % 2 == 1
+}
+
+// Node q's bit in node p's row, the other way.
+fn flip_edge(edges: &mut [u64], p: usize, q: usize)
+    requires { ⌜ (p < 512) × (q < 512) × (rowWords * p + rowWords ≤ length (now edges)) ⌝ }
+    ensures { λ _. ⌜ Flipped p q (now (edges .entry)) (now (edges .exit)) ⌝ }
+{
+    let i = place(p, q);
+    edges[i] = edges[i] ^ mask(q);
+}
+
+// The edge between u and v put in or taken out, in both rows.
+pub fn change_edge(edges: &mut [u64], u: usize, v: usize)
+    requires { ⌜ (u < 512) × (v < 512) × (u ≡ v → ⊥) × (rowWords * u + rowWords ≤ length (now edges)) × (rowWords * v + rowWords ≤ length (now edges)) ⌝ }
+    ensures { λ _. ⌜ Changed u v (now (edges .entry)) (now (edges .exit)) ⌝ }
+{
+    flip_edge(edges, u, v);
+    flip_edge(edges, v, u);
+}
+
+// The cube of node q, counted from 1.
+pub fn cube_of(q: usize) -> u32
+    requires { ⌜ q < 512 ⌝ }
+    ensures { λ r. ⌜ r ≡ cube q ⌝ }
+{
+    let x = (q + 1) as u32;
+    x * x * x
+}
+
+// A key with a cube put in or taken out.
+fn moved_key(key: u32, x: u32, insert: bool) -> u32
+    ensures { λ r. ⌜ r ≡ movedKey insert key x ⌝ }
+{
+    if insert {
+        return std::num::wrapping_add_u32(key, x);
+    }
+    std::num::wrapping_sub_u32(key, x)
+}
+
+// The open and the closed key of p, moved by the cube of q.
+fn move_keys(keys: &mut [u32], p: usize, q: usize, insert: bool)
+    requires { ⌜ (p < 512) × (q < 512) × (2 * p + 2 ≤ length (now keys)) ⌝ }
+    ensures { λ _. ⌜ KeysMoved insert p q (now (keys .entry)) (now (keys .exit)) ⌝ }
+{
+    let x = cube_of(q);
+    let i = 2 * p;
+    keys[i] = moved_key(keys[i], x, insert);
+    keys[i + 1] = moved_key(keys[i + 1], x, insert);
+}
+
+// The keys of u and v after the edge between them is put in or taken out.
+pub fn change_keys(keys: &mut [u32], u: usize, v: usize, insert: bool)
+    requires { ⌜ (u < 512) × (v < 512) × (u ≡ v → ⊥) × (2 * u + 2 ≤ length (now keys)) × (2 * v + 2 ≤ length (now keys)) ⌝ }
+    ensures { λ _. ⌜ KeysChanged insert u v (now (keys .entry)) (now (keys .exit)) ⌝ }
+{
+    move_keys(keys, u, v, insert);
+    move_keys(keys, v, u, insert);
+}
