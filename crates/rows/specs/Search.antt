@@ -38,8 +38,12 @@ joins n edges table u w q = not (eqb q u) && (not (eqb q w) && (eqb (nodeNumber 
 unfoldable pub keyAgrees : List ℕ → ℕ → ℕ → ℕ → Bool
 keyAgrees keys k u q = eqb (getD keys (2 * u + k) 0) (getD keys (2 * q + k) 0)
 
+unfoldable pub keysAgree : List ℕ → ℕ → ℕ → Bool
+keysAgree keys u q = keyAgrees keys 0 u q || keyAgrees keys 1 u q
+
+-- q, neither u nor w, is the least of a group that u may join by the keys
 unfoldable pub mayJoin : List ℕ → List ℕ → ℕ → ℕ → ℕ → Bool
-mayJoin table keys u w q = (keyAgrees keys 0 u q || keyAgrees keys 1 u q) && (not (eqb q u) && (not (eqb q w) && eqb (nodeNumber table q 0) q))
+mayJoin table keys u w q = keysAgree keys u q && (not (eqb q u) && (not (eqb q w) && eqb (nodeNumber table q 0) q))
 
 -- node q's own bit in word i of a row
 unfoldable pub ownBit : ℕ → ℕ → ℕ

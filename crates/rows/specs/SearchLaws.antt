@@ -3,21 +3,21 @@ use mathlib.Core.Path.{_≡_, refl, sym, ap, _∙_, subst}
 use mathlib.Core.Bool.{Bool, true, false, not, cond, _&&_, _||_, and-false}
 use mathlib.Core.List.{List}
 use mathlib.Core.Logic.{_⊎_, inl, inr}
-use Prim.Native.Nat.{ℕ, zero, suc, _+_, _*_, _-_, _≤_, _<_}
+use Prim.Native.Nat.{ℕ, zero, suc, _+_, _*_, _-_, _/_, _%_, _^_, _≤_, _<_}
 use native.Mathlib.Omega.{arith}
 use lib.Bits.{bitXor}
 use lib.Dec.{eqb}
-use lib.ListN.{length, getD, take, drop}
+use lib.ListN.{length, getD, take, drop, length-take, length-drop}
 use lib.Seq.{getD-drop, getD-take}
-use borrow.Author.Tests.{eqb-true, eqb-false, eq-eqb, ne-eqb, not-true}
+use borrow.Author.Tests.{eqb-true, eqb-false, eq-eqb, ne-eqb, not-false, not-true}
 use Rattle.model.specs.Lists.{nodes}
 use Rattle.model.specs.Graph.{Graph}
 use Rattle.model.specs.Grouping.{falseTwins, similar, trueTwins}
 use Rattle.model.specs.Tables.{edgesOf, graphOf, keyPair, keysOf, nodeNumber, rowOf, tablesOf}
 use Rattle.model.specs.TestLaws.{and-fst, and-snd, and-true, decide, differ, iff-eq, or-left, or-right}
 use Rattle.model.specs.TwinLaws.{similar-N, similar-N+, similar-cases}
-use Rattle.model.specs.TableLaws.{Proper, read-back}
-use Rattle.rows.specs.Search.{Ready, edgesIn, firstFrom, graphIn, joins, keyAgrees, mayJoin, meets, ownBits, rowIn, tried}
+use Rattle.model.specs.TableLaws.{Proper, length-edges, length-keys, read-back}
+use Rattle.rows.specs.Search.{Ready, edgesIn, firstFrom, graphIn, joins, keyAgrees, keysAgree, mayJoin, meets, ownBit, ownBits, rowIn, tried}
 use Rattle.rows.specs.TwinRowLaws.{false-key, false-meet, keys-apart, meet-false, meet-true, true-key, true-meet}
 
 -- the first that passes
@@ -103,9 +103,10 @@ module _ (n : ℕ) (edges table keys : List ℕ) (ready : Ready n edges keys) (u
   similar-of (inr t) h = similar-N+ (nodes n) e u q (meet-true n edges keys ready u q hu hq (words true (rw t at h)))
 
   abbrev Found : Type 0
-  Found = ((keyAgrees keys 0 u q || keyAgrees keys 1 u q) ≡ true) × (meets (not open-key) u q (rowIn edges u) (rowIn edges q) 8 ≡ true)
+  Found = (keysAgree keys u q ≡ true) × (meets (not open-key) u q (rowIn edges u) (rowIn edges q) 8 ≡ true)
 
   of-similar : (q ≡ u → ⊥) → (open-key ≡ true) ⊎ (open-key ≡ false) → (falseTwins (nodes n) e u q ≡ true) ⊎ (trueTwins (nodes n) e u q ≡ true) → Found
+  unfolding keysAgree
   of-similar d (inl t) (inl h) = (or-left (keyAgrees keys 1 u q) t, rw t (by-words false (false-meet n edges keys ready u q hu hq h)))
   of-similar d (inr t) (inl h) = differ (false-key n edges keys ready u q hu hq h) t
   of-similar d (inl t) (inr h) = absurd (d (sym (keys-apart n edges keys ready u q hu hq t (true-key n edges keys ready u q hu hq h))))
@@ -119,7 +120,7 @@ module _ (n : ℕ) (edges table keys : List ℕ) (ready : Ready n edges keys) (u
       own = eqb (nodeNumber table q 0) q
 
       both-keys : Bool
-      both-keys = keyAgrees keys 0 u q || keyAgrees keys 1 u q
+      both-keys = keysAgree keys u q
 
       rows : Bool
       rows = meets (not open-key) u q (rowIn edges u) (rowIn edges q) 8
@@ -141,8 +142,22 @@ module _ (n : ℕ) (edges table keys : List ℕ) (ready : Ready n edges keys) (u
           and-true (and-true (f .0) (and-true a (and-true (and-fst (not (eqb q w)) (own && similar (nodes n) e u q) b) (and-fst own (similar (nodes n) e u q) d)))) (f .1)
 
 -- so the search among tried groups finds the group to join
-pub search-joins : (n : ℕ) (edges table keys : List ℕ) → Ready n edges keys → (u w m : ℕ) → u < n → m ≤ n → firstFrom (tried edges table keys u w (rowIn edges u)) 0 m ≡ firstFrom (joins n edges table u w) 0 m
-search-joins n edges table keys ready u w m hu hm = first-cong (tried edges table keys u w (rowIn edges u)) (joins n edges table u w) m 0 (λ q l. tried-joins n edges table keys ready u w q hu (omega arith))
+pub search-joins : (n : ℕ) (edges table keys : List ℕ) (u w m r : ℕ) → Ready n edges keys → u < n → m ≤ n
+    → r ≡ firstFrom (tried edges table keys u w (take (8 * u + 8 - 8 * u) (drop (8 * u) edges))) 0 m → r ≡ firstFrom (joins n edges table u w) 0 m
+search-joins n edges table keys u w m r ready hu hm e =
+    e
+    ∙ ap (λ (row : List ℕ). firstFrom (tried edges table keys u w row) 0 m) (row-part edges u)
+    ∙ first-cong (tried edges table keys u w (rowIn edges u)) (joins n edges table u w) m 0 (λ q l. tried-joins n edges table keys ready u w q hu (omega arith))
+
+-- the lengths of tables that are ready
+pub ready-edges : (n : ℕ) (edges keys : List ℕ) → Ready n edges keys → length edges ≡ 8 * n
+ready-edges n edges keys r = ap length (r .edges-of) ∙ length-edges (graphIn n edges)
+
+pub ready-keys : (n : ℕ) (edges keys : List ℕ) → Ready n edges keys → length keys ≡ 2 * n
+ready-keys n edges keys r = ap length (r .keys-of) ∙ length-keys (graphIn n edges)
+
+pub row-length : (edges : List ℕ) (p : ℕ) → 8 * p + 8 ≤ length edges → length (take (8 * p + 8 - 8 * p) (drop (8 * p) edges)) ≡ 8
+row-length edges p h = simp (length-take, length-drop) (omega arith)
 
 -- tables of a graph are ready, and their edges are its edges
 pub edges-in : (g : Graph) → Proper g → edgesIn (g .nodeCount) (edgesOf g) ≡ g .edge
@@ -168,3 +183,72 @@ ready g h = record {
   edges-of = edges-unhidden g ∙ ap (λ (f : ℕ → ℕ → Bool). edgesOf (unhidden (g .nodeCount) f)) (sym (edges-in g h));
   keys-of = keys-unhidden g ∙ ap (λ (f : ℕ → ℕ → Bool). keysOf (unhidden (g .nodeCount) f)) (sym (edges-in g h));
 }
+
+-- the steps of the code
+module _ (keys : List ℕ) (u q : ℕ) where
+  pub keys-first : (r : Bool) → r ≡ keyAgrees keys 0 u q → r ≡ true → true ≡ keysAgree keys u q
+  unfolding keysAgree
+  keys-first r e t = sym (or-left (keyAgrees keys 1 u q) (sym e ∙ t))
+
+  pub keys-second : (r s : Bool) → r ≡ keyAgrees keys 0 u q → r ≡ false → s ≡ keyAgrees keys 1 u q → s ≡ keysAgree keys u q
+  unfolding keysAgree
+  keys-second r s e t f = rw (sym e ∙ t) f
+
+least-at : (table : List ℕ) (q : ℕ) → nodeNumber table q 0 ≡ getD table (4 * q) 0
+unfolding nodeNumber
+least-at table q = let e : 4 * q + 0 ≡ 4 * q = omega arith in rw e
+
+module _ (table keys : List ℕ) (u w q : ℕ) where
+  pub may-no-key : (r : Bool) → r ≡ keysAgree keys u q → not r ≡ true → false ≡ mayJoin table keys u w q
+  unfolding mayJoin
+  may-no-key r e t = rw (sym e ∙ not-true r t)
+
+  pub may-not-self : q ≡ u → false ≡ mayJoin table keys u w q
+  unfolding mayJoin
+  may-not-self e = rw (eq-eqb q u e) (sym (and-false (keysAgree keys u q)))
+
+  pub may-not-other : q ≡ w → false ≡ mayJoin table keys u w q
+  unfolding mayJoin
+  may-not-other e = rw (eq-eqb q w e, and-false (not (eqb q u))) (sym (and-false (keysAgree keys u q)))
+
+  pub may-least : (r : Bool) (x : ℕ) → r ≡ keysAgree keys u q → not r ≡ false → (q ≡ u → ⊥) → (q ≡ w → ⊥) → x ≡ getD table (4 * q) 0 → eqb x q ≡ mayJoin table keys u w q
+  unfolding mayJoin
+  may-least r x e t a b f = rw (sym e ∙ not-false r t, ne-eqb q u a, ne-eqb q w b, f, least-at table q)
+
+pub own-here : (q i w m : ℕ) → w ≡ q / 64 → w ≡ i → m ≡ 2 ^ (q % 64) → m ≡ ownBit q i
+unfolding ownBit
+own-here q i w m e f g = rw (eq-eqb (q / 64) i (sym e ∙ f)) g
+
+pub own-elsewhere : (q i w : ℕ) → w ≡ q / 64 → (w ≡ i → ⊥) → 0 ≡ ownBit q i
+unfolding ownBit
+own-elsewhere q i w e f = rw (ne-eqb (q / 64) i (λ h. f (e ∙ h)))
+
+pub own-closed : (c : Bool) (u q i a b : ℕ) → c ≡ true → a ≡ ownBit u i → b ≡ ownBit q i → bitXor a b ≡ ownBits c u q i
+unfolding ownBits
+own-closed c u q i a b t e f = rw (t, e, f)
+
+pub own-open : (c : Bool) (u q i : ℕ) → c ≡ false → 0 ≡ ownBits c u q i
+unfolding ownBits
+own-open c u q i t = rw t
+
+pub tried-not : (edges table keys : List ℕ) (u w : ℕ) (row : List ℕ) (q : ℕ) (r : Bool) → r ≡ mayJoin table keys u w q → r ≡ false → tried edges table keys u w row q ≡ false
+unfolding tried
+tried-not edges table keys u w row q r e t = rw (sym e ∙ t)
+
+-- at the group whose row was lent as a part
+module _ (edges table keys : List ℕ) (u w : ℕ) (row : List ℕ) (start q : ℕ) (same : q ≡ start) (agrees : Bool) (agrees-is : agrees ≡ keyAgrees keys 0 u start) where
+  pub tried-differs : (i own : ℕ) → i < 8 → own ≡ ownBits (not agrees) u q i → (bitXor (getD row i 0) (getD (take (8 * start + 8 - 8 * start) (drop (8 * start) edges)) i 0) ≡ own → ⊥) → tried edges table keys u w row q ≡ false
+  unfolding tried
+  tried-differs i own l e d =
+      rw (same, ← agrees-is, meets-not (not agrees) u start row (rowIn edges start) 8 i l (λ h. d (rw row-part (h ∙ ap (λ (x : ℕ). ownBits (not agrees) u x i) (sym same) ∙ sym e))))
+      (and-false (mayJoin table keys u w start))
+
+  pub tried-agrees : (r : Bool) → r ≡ mayJoin table keys u w start → r ≡ true
+      → ((k : ℕ) → k < 8 → bitXor (getD row k 0) (getD (take (8 * start + 8 - 8 * start) (drop (8 * start) edges)) k 0) ≡ ownBits (not agrees) u start k)
+      → tried edges table keys u w row q ≡ true
+  unfolding tried
+  tried-agrees r e t h =
+      rw (same, ← agrees-is) (and-true (sym e ∙ t) (meets-all (not agrees) u start row (rowIn edges start) 8 (λ k l. rw row-part at (h k l))))
+
+pub word-met : (c : Bool) (u q start i own x : ℕ) → q ≡ start → own ≡ ownBits c u q i → x ≡ own → x ≡ ownBits c u start i
+word-met c u q start i own x same e f = f ∙ e ∙ ap (λ (y : ℕ). ownBits c u y i) same

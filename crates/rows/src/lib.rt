@@ -3,10 +3,11 @@ ghost use mathlib.Core.Path.{_≡_};
 ghost use mathlib.Core.Bool.{not};
 ghost use Prim.Native.Nat.{ℕ, _+_, _*_, _/_, _%_, _^_, _≤_, _<_};
 ghost use lib.ListN.{length};
-ghost use Rattle.model.specs.Graph.{rowWords};
+ghost use Rattle.model.specs.Graph.{rowWords, nodeNumbers};
 ghost use Rattle.model.specs.Grouping.{cube};
 ghost use Rattle.model.specs.Tables.{edgeBit};
 ghost use Rattle.model.specs.Refusals.{lengths, wrongSize};
+ghost use Rattle.rows.specs.Search.{Ready, firstFrom, joins, keyAgrees, keysAgree, mayJoin, ownBit, ownBits, tried};
 ghost use Rattle.rows.specs.Rows.{Flipped, Changed, movedKey, KeysMoved, KeysChanged, lent};
 
 // A graph by value: how many nodes it has. Its tables are lent.
@@ -140,4 +141,119 @@ pub fn change_keys(keys: &mut [u32], u: usize, v: usize, insert: bool)
 {
     move_keys(keys, u, v, insert);
     move_keys(keys, v, u, insert);
+}
+
+// A node number as an index.
+pub fn wide(x: u16) -> usize
+    ensures { λ r. ⌜ r ≡ x ⌝ }
+{
+    x as usize
+}
+
+// Whether key k of u and of q agree: 0 the open one, 1 the closed one.
+fn key_agrees(keys: &[u32], k: usize, u: usize, q: usize) -> bool
+    requires { ⌜ (k < 2) × (u < 512) × (q < 512) × (2 * u + 2 ≤ length (now keys)) × (2 * q + 2 ≤ length (now keys)) ⌝ }
+    ensures { λ r. ⌜ r ≡ keyAgrees (now (keys .entry)) k u q ⌝ }
+{
+    keys[2 * u + k] == keys[2 * q + k]
+}
+
+// Whether the open or the closed keys of u and q agree.
+fn keys_agree(keys: &[u32], u: usize, q: usize) -> bool
+    requires { ⌜ (u < 512) × (q < 512) × (2 * u + 2 ≤ length (now keys)) × (2 * q + 2 ≤ length (now keys)) ⌝ }
+    ensures { λ r. ⌜ r ≡ keysAgree (now (keys .entry)) u q ⌝ }
+{
+    if key_agrees(keys, 0, u, q) {
+        return true;
+    }
+    key_agrees(keys, 1, u, q)
+}
+
+// Whether q, neither u nor w, is the least of a group that u may join by the keys.
+fn may_join(nodes: &[u16], keys: &[u32], u: usize, w: usize, q: usize) -> bool
+    requires { ⌜ (u < 512) × (q < 512) × (nodeNumbers * q + nodeNumbers ≤ length (now nodes)) × (2 * u + 2 ≤ length (now keys)) × (2 * q + 2 ≤ length (now keys)) ⌝ }
+    ensures { λ r. ⌜ r ≡ mayJoin (now (nodes .entry)) (now (keys .entry)) u w q ⌝ }
+{
+    if !keys_agree(keys, u, q) {
+        return false;
+    }
+    if q == u {
+        return false;
+    }
+    if q == w {
+        return false;
+    }
+    wide(nodes[Graph::NODE_NUMBERS * q]) == q
+}
+
+// Node q's own bit in word i of a row.
+fn own_bit(q: usize, i: usize) -> u64
+    ensures { λ r. ⌜ r ≡ ownBit q i ⌝ }
+{
+    if word_of(q) == i {
+        return mask(q);
+    }
+    0
+}
+
+// Where word i of the rows of u and q has to differ: nowhere for open rows, in their own bits for closed ones.
+fn own_bits(closed: bool, u: usize, q: usize, i: usize) -> u64
+    ensures { λ r. ⌜ r ≡ ownBits closed u q i ⌝ }
+{
+    if closed {
+        return own_bit(u, i) ^ own_bit(q, i);
+    }
+    0
+}
+
+// The least q below m that may join and whose row agrees with u's, as an open or as a closed one; m if there is none.
+fn find_twin(
+    edges: &[u64],
+    nodes: &[u16],
+    keys: &[u32],
+    m: usize,
+    u: usize,
+    w: usize,
+    row: &[u64],
+) -> usize
+    requires { ⌜ (m ≤ 512) × (u < 512) × (rowWords * m ≤ length (now edges)) × (nodeNumbers * m ≤ length (now nodes)) × (2 * m ≤ length (now keys)) × (2 * u + 2 ≤ length (now keys)) × (length (now row) ≡ rowWords) ⌝ }
+    ensures { λ r. ⌜ r ≡ firstFrom (tried (now (edges .entry)) (now (nodes .entry)) (now (keys .entry)) u w (now (row .entry))) 0 m ⌝ }
+{
+    let mut q = 0;
+    'groups: while q < m {
+        if may_join(nodes, keys, u, w, q) {
+            let closed = !key_agrees(keys, 0, u, q);
+            let a = Graph::ROW_WORDS * q;
+            let other = &edges[a..a + 8];
+            let mut i = 0;
+            while i < 8 {
+                if row[i] ^ other[i] != own_bits(closed, u, q, i) {
+                    q += 1;
+                    continue 'groups;
+                }
+                i += 1;
+            }
+            return q;
+        }
+        q += 1;
+    }
+    m
+}
+
+// The least member, below m, of the group that u joins, w left out; m if there is none.
+pub fn find_group(
+    edges: &[u64],
+    nodes: &[u16],
+    keys: &[u32],
+    n: usize,
+    m: usize,
+    u: usize,
+    w: usize,
+) -> usize
+    requires { ⌜ Ready n (now edges) (now keys) ⌝ }
+    requires { ⌜ (length (now nodes) ≡ nodeNumbers * n) × (m ≤ n) × (u < n) × (w < n) ⌝ }
+    ensures { λ r. ⌜ r ≡ firstFrom (joins n (now (edges .entry)) (now (nodes .entry)) u w) 0 m ⌝ }
+{
+    let a = Graph::ROW_WORDS * u;
+    find_twin(edges, nodes, keys, m, u, w, &edges[a..a + 8])
 }

@@ -1,24 +1,18 @@
-use Rattle.rows.specs.KeyLaws.{keys-changed}
+-- The keys of one end, then those of the other.
 use borrow.Author.Needs.{needs}
+use Rattle.rows.specs.KeyLaws.{keys-changed}
 use Rattle.rows.proofs.change_keys.Statement.{statement}
 use Rattle.rows.proofs.change_keys.Tie as tie
-use Rattle.rows.proofs.change_keys.Reads as reads
-use Rattle.rows.proofs.change_keys.Lts as lts
-use Rattle.rows.proofs.move_keys.Reads as move-keys-reads
 
--- src/lib.rt:141:5
 move-keys-requires : tie.Need-move-keys-requires
 move-keys-requires c κs = search needs
 
--- src/lib.rt:142:5
 move-keys-requires-2 : tie.Need-move-keys-requires-2
 move-keys-requires-2 c κs = search needs
 
--- src/lib.rt:137:1
 same-length : tie.Need-same-length
 same-length c = search needs
 
--- src/lib.rt:137:1
 returns : tie.Need-returns
 returns c =
     let start = c .before .before .before .before .before .before .before .before .before in

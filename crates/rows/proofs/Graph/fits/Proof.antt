@@ -1,35 +1,27 @@
-use Rattle.rows.specs.SizeLaws.{size-by-keys, wrong-count, wrong-edges, wrong-nodes}
+-- Each test that fails is one of the reasons of wrongSize.
 use borrow.Author.Needs.{needs}
+use Rattle.rows.specs.SizeLaws.{size-by-keys, wrong-count, wrong-edges, wrong-nodes}
 use Rattle.rows.proofs.Graph.fits.Statement.{statement}
 use Rattle.rows.proofs.Graph.fits.Tie as tie
-use Rattle.rows.proofs.Graph.fits.Reads as reads
-use Rattle.rows.proofs.Graph.fits.Lts as lts
 
--- src/lib.rt:39:13
 returns : tie.Need-returns
 returns c = wrong-count _ _ _ _ (c .if1 .taken)
 
--- src/lib.rt:41:27
 mul-if2 : tie.Need-mul-if2
 mul-if2 c = search needs
 
--- src/lib.rt:42:13
 returns-2 : tie.Need-returns-2
 returns-2 c = wrong-edges _ _ _ _ (c .before .if1 .left) (c .if2 .taken)
 
--- src/lib.rt:44:27
 mul-if3 : tie.Need-mul-if3
 mul-if3 c = search needs
 
--- src/lib.rt:45:13
 returns-3 : tie.Need-returns-3
 returns-3 c = wrong-nodes _ _ _ _ (c .before .before .if1 .left) (c .before .if2 .left) (c .if3 .taken)
 
--- src/lib.rt:47:23
 mul-result : tie.Need-mul-result
 mul-result c = search needs
 
--- src/lib.rt:34:5
 returns-4 : tie.Need-returns-4
 returns-4 c = size-by-keys _ _ _ _ (c .before .before .if1 .left) (c .before .if2 .left) (c .if3 .left)
 
