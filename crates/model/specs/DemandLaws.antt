@@ -28,6 +28,7 @@ use Rattle.model.specs.CallLaws.{judged-result, refused-whole}
 use Rattle.model.specs.HistoryLaws.{Kept, after-history, lengths-of, lengthsFor, right-size, size-right}
 use Rattle.model.specs.ReadingLaws.{marked, summary-encode, told-count, told-summarises}
 use Rattle.model.specs.ReadBackLaws.{decode-release, only-releases, release-is, visible-alike, visible-proper}
+use Rattle.model.specs.ProgramLaws.{program-fits}
 use Rattle.model.specs.Demands.{Demand1, Demand2, Demand3, GroupedExactly, ReadExactly, Refused}
 
 -- what a source's tables hold
@@ -81,6 +82,7 @@ demand1 = record {
   reading-refused = λ n t file h. refused-whole (readReasons n t file) (openRefused t) _ (λ (o : Opened). o .result) refl (λ r. refl) h;
   file-neighbours = λ file p out. record { listed = refl; first = judged-result (fileNeighboursReasons file p out) (listRefused out) _ (λ (o : Listed). o .result) refl (λ r. refl) };
   file-neighbours-refused = λ file p out h. refused-whole (fileNeighboursReasons file p out) (listRefused out) _ (λ (o : Listed). o .result) refl (λ r. refl) h;
+  program = program-fits;
 }
 
 -- the release call on tables that hold a graph

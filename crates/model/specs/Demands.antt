@@ -8,7 +8,7 @@ use Prim.Native.Nat.{ℕ, _+_, _*_, _≤_, _<_}
 use lib.IntN.{ℤ, pos, subℕ, natAbs}
 use lib.ListN.{length}
 use Rattle.model.specs.Lists.{nodes}
-use Rattle.model.specs.Graph.{Graph, Proper}
+use Rattle.model.specs.Graph.{Graph, Proper, emptyGraph}
 use Rattle.model.specs.Grouping.{algorithm1}
 use Rattle.model.specs.Summary.{Summarises, Summary, summaryOf}
 use Rattle.model.specs.Tables.{Tables, graphOf, groupsIn, tablesOf}
@@ -18,6 +18,7 @@ use Rattle.model.specs.Release.{release, superedgeCount, visible, visibl
 use Rattle.model.specs.Reading.{summaryIn}
 use Rattle.model.specs.Calls.{applyCall, applyReasons, applyRefused, fileNeighboursCall, fileNeighboursReasons, groupCall, groupReasons, groupRefused, listRefused, neighboursCall, neighboursReasons, onto, openCall, openReasons, openRefused, readCall, readReasons, releaseCall, releaseReasons, releaseRefused, released, tiedCall, tiedReasons, tiedRefused}
 use Rattle.model.specs.History.{Alike, CallsTold, Source, graphOfSource, tablesOfSource}
+use Rattle.model.specs.Program.{accepted, inputOf, maxBytes}
 
 -- DEMAND 1. A call is refused by the listed numbers, tested in this order, each for its listed reason; and a refused call
 -- leaves every table and buffer, and returns 0 and `no`.
@@ -31,32 +32,26 @@ Refused result = result ≡ 0 → ⊥
 pub record Demand1 : Type 0 where
   pub opening : (n : ℕ) (t : Tables) → Refuses (11 ∷ []) (openReasons n t) (openCall n t .result)
   pub opening-refused : (n : ℕ) (t : Tables) → Refused (openCall n t .result) → openCall n t ≡ openRefused t (openCall n t .result)
-
   pub batch : (n : ℕ) (t : Tables) (xs : List ℕ) (out : List ℤ) → Refuses (11 ∷ 12 ∷ 18 ∷ []) (applyReasons n t xs out) (applyCall n t xs out .result)
   pub batch-refused : (n : ℕ) (t : Tables) (xs : List ℕ) (out : List ℤ) → Refused (applyCall n t xs out .result) → applyCall n t xs out ≡ applyRefused t out (applyCall n t xs out .result)
-
   -- an update of a batch: a refused one only writes its number among the answers
   pub update : (g : Graph) (c : Update) → Refuses (13 ∷ 14 ∷ 15 ∷ 16 ∷ 17 ∷ []) (updateReasons g c) (refusal g c)
   pub update-refused : (g : Graph) (c : Update) (cs : List Update) → Refused (refusal g c)
       → (batchGraph g (c ∷ cs) ≡ batchGraph g cs) × (answers g (c ∷ cs) ≡ (pos (refusal g c) ∷ answers g cs))
-
   pub neighbours : (n : ℕ) (t : Tables) (p : ℕ) (out : List ℕ) → Refuses (11 ∷ 12 ∷ 14 ∷ 18 ∷ []) (neighboursReasons n t p out) (neighboursCall n t p out .result)
   pub neighbours-refused : (n : ℕ) (t : Tables) (p : ℕ) (out : List ℕ) → Refused (neighboursCall n t p out .result) → neighboursCall n t p out ≡ listRefused out (neighboursCall n t p out .result)
-
   pub tied : (n : ℕ) (t : Tables) (p q : ℕ) → Refuses (11 ∷ 12 ∷ 14 ∷ 15 ∷ []) (tiedReasons n t p q) (tiedCall n t p q .result)
   pub tied-refused : (n : ℕ) (t : Tables) (p q : ℕ) → Refused (tiedCall n t p q .result) → tiedCall n t p q ≡ tiedRefused (tiedCall n t p q .result)
-
   pub group : (n : ℕ) (t : Tables) (p : ℕ) → Refuses (11 ∷ 12 ∷ 14 ∷ []) (groupReasons n t p) (groupCall n t p .result)
   pub group-refused : (n : ℕ) (t : Tables) (p : ℕ) → Refused (groupCall n t p .result) → groupCall n t p ≡ groupRefused (groupCall n t p .result)
-
   pub releasing : (n : ℕ) (t : Tables) (out : List ℕ) → Refuses (11 ∷ 12 ∷ 18 ∷ []) (releaseReasons n t out) (releaseCall n t out .result)
   pub releasing-refused : (n : ℕ) (t : Tables) (out : List ℕ) → Refused (releaseCall n t out .result) → releaseCall n t out ≡ releaseRefused out (releaseCall n t out .result)
-
   pub reading : (n : ℕ) (t : Tables) (file : List ℕ) → Refuses (11 ∷ 19 ∷ 20 ∷ []) (readReasons n t file) (readCall n t file .result)
   pub reading-refused : (n : ℕ) (t : Tables) (file : List ℕ) → Refused (readCall n t file .result) → readCall n t file ≡ openRefused t (readCall n t file .result)
-
   pub file-neighbours : (file : List ℕ) (p : ℕ) (out : List ℕ) → Refuses (19 ∷ 14 ∷ 18 ∷ []) (fileNeighboursReasons file p out) (fileNeighboursCall file p out .result)
   pub file-neighbours-refused : (file : List ℕ) (p : ℕ) (out : List ℕ) → Refused (fileNeighboursCall file p out .result) → fileNeighboursCall file p out ≡ listRefused out (fileNeighboursCall file p out .result)
+  -- the program's release buffer is never too short
+  pub program : (bytes : List ℕ) (n : ℕ) (cs : List Update) → inputOf bytes ≡ accepted n cs → length (release (batchGraph (emptyGraph n) cs)) ≤ maxBytes
 
 -- DEMAND 2. What the tables of a source tell, for its plain graph g.
 pub record GroupedExactly (g : Graph) (t : Tables) : Type 0 where

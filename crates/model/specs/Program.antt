@@ -2,6 +2,8 @@
 use mathlib.Core.Bool.{Bool, true, false, not, _&&_, _||_, cond}
 use mathlib.Core.List.{List, [], _∷_, _++_, map}
 use Prim.Native.Nat.{ℕ, suc, zero, _+_, _*_, _/_, _%_, _-_}
+use Prim.Native.Char.{code}
+use Prim.Native.String.{String, [] as ended, _∷_ as _then_}
 use lib.Dec.{eqb, ltb, leb}
 use lib.IntN.{ℤ, pos, negsuc}
 use lib.ListN.{length, getD}
@@ -14,6 +16,11 @@ use Rattle.model.specs.Release.{visible, visibleEdge, visibleGroups, sup
 -- input longer than this is refused; the release buffer has as many bytes
 abbrev pub maxBytes : ℕ
 maxBytes = 65536
+
+-- the bytes of a text
+unfoldable pub text : String → List ℕ
+text ended = []
+text (c then cs) = code c ∷ text cs
 
 -- the pieces of a text between separators: each separator ends one piece and begins the next
 unfoldable pub before : ℕ → List (List ℕ) → List (List ℕ)
@@ -61,12 +68,12 @@ markLine kind fs =
     illFormed
 
 unfoldable pub lineOf : List ℕ → Line
-lineOf text =
-    let fs : List (List ℕ) = pieces 0x20 text in
-    cond (sameList (field fs 0) (0x74 ∷ [])) (edgeLine 1 fs)
-    (cond (sameList (field fs 0) (0x75 ∷ [])) (edgeLine 2 fs)
-    (cond (sameList (field fs 0) (0x77 ∷ [])) (markLine 3 fs)
-    (cond (sameList (field fs 0) (0x6F ∷ [])) (markLine 4 fs)
+lineOf line =
+    let fs : List (List ℕ) = pieces 0x20 line in
+    cond (sameList (field fs 0) (text "t")) (edgeLine 1 fs)
+    (cond (sameList (field fs 0) (text "u")) (edgeLine 2 fs)
+    (cond (sameList (field fs 0) (text "w")) (markLine 3 fs)
+    (cond (sameList (field fs 0) (text "o")) (markLine 4 fs)
     illFormed)))
 
 -- the input: refused at a line, or n and its changes
@@ -112,42 +119,33 @@ decimal x = digits (suc x) x
 
 unfoldable pub signed : ℤ → List ℕ
 signed (pos x) = decimal x
-signed (negsuc x) = 0x2D ∷ decimal (suc x)
+signed (negsuc x) = text "-" ++ decimal (suc x)
 
--- `input refused at line `
 unfoldable pub refusedLine : ℕ → List ℕ
-refusedLine k =
-    0x69 ∷ 0x6E ∷ 0x70 ∷ 0x75 ∷ 0x74 ∷ 0x20 ∷ 0x72 ∷ 0x65 ∷ 0x66 ∷ 0x75 ∷ 0x73 ∷ 0x65 ∷ 0x64 ∷ 0x20 ∷ 0x61 ∷ 0x74 ∷ 0x20 ∷ 0x6C ∷ 0x69 ∷ 0x6E ∷ 0x65 ∷ 0x20
-    ∷ (decimal k ++ (0x0A ∷ []))
+refusedLine k = text "input refused at line " ++ (decimal k ++ text "\n")
 
--- `change `, the position, `: `, the answer
+-- the position and the answer
 unfoldable pub changeLine : ℕ → ℤ → List ℕ
-changeLine i a = 0x63 ∷ 0x68 ∷ 0x61 ∷ 0x6E ∷ 0x67 ∷ 0x65 ∷ 0x20 ∷ (decimal i ++ (0x3A ∷ 0x20 ∷ (signed a ++ (0x0A ∷ []))))
+changeLine i a = text "change " ++ (decimal i ++ (text ": " ++ (signed a ++ text "\n")))
 
 unfoldable pub changeLines : ℕ → List ℤ → List ℕ
 changeLines i [] = []
 changeLines i (a ∷ as′) = changeLine i a ++ changeLines (suc i) as′
 
--- `open `, m, ` groups `, g, ` joins `, s
+-- m, g and s
 unfoldable pub openLine : ℕ → ℕ → ℕ → List ℕ
-openLine m g s =
-    0x6F ∷ 0x70 ∷ 0x65 ∷ 0x6E ∷ 0x20
-    ∷ (decimal m
-    ++ (0x20 ∷ 0x67 ∷ 0x72 ∷ 0x6F ∷ 0x75 ∷ 0x70 ∷ 0x73 ∷ 0x20
-    ∷ (decimal g
-    ++ (0x20 ∷ 0x6A ∷ 0x6F ∷ 0x69 ∷ 0x6E ∷ 0x73 ∷ 0x20
-    ∷ (decimal s ++ (0x0A ∷ []))))))
+openLine m g s = text "open " ++ (decimal m ++ (text " groups " ++ (decimal g ++ (text " joins " ++ (decimal s ++ text "\n")))))
 
 unfoldable pub spaced : ℕ → List ℕ
-spaced x = 0x20 ∷ decimal x
+spaced x = text " " ++ decimal x
 
--- `I` or `C`, the members
+-- `I` or `C`, the same bytes as in the file, and the members
 unfoldable pub groupLine : (ℕ → ℕ → Bool) → List ℕ → List ℕ
-groupLine e g = kindByte (kindOf e g) ∷ (concat (map spaced g) ++ (0x0A ∷ []))
+groupLine e g = kindByte (kindOf e g) ∷ (concat (map spaced g) ++ text "\n")
 
 -- `J i j`
 unfoldable pub superedgeLine : ℕ × ℕ → List ℕ
-superedgeLine ij = 0x4A ∷ (spaced (ij .0) ++ (spaced (ij .1) ++ (0x0A ∷ [])))
+superedgeLine ij = text "J" ++ (spaced (ij .0) ++ (spaced (ij .1) ++ text "\n"))
 
 unfoldable pub releaseLines : Graph → List ℕ
 releaseLines g =

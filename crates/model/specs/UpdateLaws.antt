@@ -3,7 +3,7 @@ use mathlib.Core.Path.{_≡_, refl, sym, ap, ap₂, _∙_}
 use mathlib.Core.Bool.{Bool, true, false, not, _&&_, _||_, cond, and-false, and-comm, or-comm}
 use mathlib.Core.List.{List, [], _∷_}
 use mathlib.Core.Logic.{_⊎_, inl, inr}
-use Prim.Native.Nat.{ℕ, suc, _+_, _≤_, _<_}
+use Prim.Native.Nat.{ℕ, suc, zero, _+_, _≤_, _<_}
 use native.Mathlib.Omega.{arith}
 use lib.Dec.{eqb, ltb}
 use lib.IntN.{subℕ, natAbs}
@@ -63,30 +63,30 @@ module _ (g : Graph) (c : Update) (h : Proper g) (ok : refusal g c ≡ 0) where
   unfolding updated
   proper-updated = record {
     small = h .small;
-    symmetric = λ p q. ap₂ (λ (x t : Bool). cond (onEdge c && x) (eqb (c .kind) 1) t) (pair-sym p q) (h .symmetric p q);
+    symmetric = λ p q. rw (pair-sym p q, h .symmetric p q, updated);
     irreflexive = λ p. self p (decide (onEdge c && isPair (c .u) (c .v) p p));
     inside = λ p q t. edge p q (decide (onEdge c && isPair (c .u) (c .v) p q)) t;
     held = λ p t. mark p (decide (not (onEdge c) && eqb p (c .u))) t;
   }
     where
       self : (p : ℕ) → ((onEdge c && isPair (c .u) (c .v) p p) ≡ true) ⊎ ((onEdge c && isPair (c .u) (c .v) p p) ≡ false)
-          → cond (onEdge c && isPair (c .u) (c .v) p p) (eqb (c .kind) 1) (g .edge p p) ≡ false
+          → updated g c .edge p p ≡ false
       self p (inl x) = absurd (no-self p x)
-      self p (inr x) = rw x (h .irreflexive p)
+      self p (inr x) = rw (x, updated) (h .irreflexive p)
 
       ends : (p q : ℕ) → onEdge c ≡ true → ((eqb p (c .u) && eqb q (c .v)) ≡ true) ⊎ ((eqb p (c .v) && eqb q (c .u)) ≡ true) → p < g .nodeCount
       ends p q k (inl x) = omega (arith, u-inside, eqb-true p (c .u) (and-fst (eqb p (c .u)) _ x))
       ends p q k (inr x) = omega (arith, v-inside k, eqb-true p (c .v) (and-fst (eqb p (c .v)) _ x))
 
       edge : (p q : ℕ) → ((onEdge c && isPair (c .u) (c .v) p q) ≡ true) ⊎ ((onEdge c && isPair (c .u) (c .v) p q) ≡ false)
-          → cond (onEdge c && isPair (c .u) (c .v) p q) (eqb (c .kind) 1) (g .edge p q) ≡ true → p < g .nodeCount
+          → updated g c .edge p q ≡ true → p < g .nodeCount
       edge p q (inl x) t = ends p q (and-fst (onEdge c) _ x) (or-cases (eqb p (c .u) && eqb q (c .v)) (eqb p (c .v) && eqb q (c .u)) (and-snd (onEdge c) _ x))
-      edge p q (inr x) t = h .inside p q (rw x at t)
+      edge p q (inr x) t = h .inside p q (rw (x, updated) at t)
 
       mark : (p : ℕ) → ((not (onEdge c) && eqb p (c .u)) ≡ true) ⊎ ((not (onEdge c) && eqb p (c .u)) ≡ false)
-          → cond (not (onEdge c) && eqb p (c .u)) (eqb (c .kind) 3) (g .hidden p) ≡ true → p < g .nodeCount
+          → updated g c .hidden p ≡ true → p < g .nodeCount
       mark p (inl x) t = omega (arith, u-inside, eqb-true p (c .u) (and-snd (not (onEdge c)) _ x))
-      mark p (inr x) t = h .held p (rw x at t)
+      mark p (inr x) t = h .held p (rw (x, updated) at t)
 
   pub rows-kept : (p r : ℕ) → (p ≡ c .u → ⊥) → (p ≡ c .v → ⊥) → updated g c .edge p r ≡ g .edge p r
   unfolding updated
@@ -137,3 +137,32 @@ answer-accepted g c ok = rw (eq-eqb (refusal g c) 0 ok, answer)
 
 pub answer-near : (g : Graph) (c : Update) → Proper g → refusal g c ≡ 0 → natAbs (answer g c) ≤ 2
 answer-near g c h ok = rw (answer-accepted g c ok) (near (groupCount (updated g c)) (groupCount g) (answer-range g c h ok .0) (answer-range g c h ok .1))
+
+-- the same update once more is refused: 16 where it is there already, 17 where it is not
+first-three : (t₁ t₂ t₃ t₄ t₅ s₄ s₅ : Bool) → firstOf ((t₁, 13) ∷ (t₂, 14) ∷ (t₃, 15) ∷ (t₄, 16) ∷ (t₅, 17) ∷ []) ≡ 0
+    → firstOf ((t₁, 13) ∷ (t₂, 14) ∷ (t₃, 15) ∷ (s₄, 16) ∷ (s₅, 17) ∷ []) ≡ cond s₄ 16 (cond s₅ 17 0)
+unfolding firstOf
+first-three true t₂ t₃ t₄ t₅ s₄ s₅ z = absurd (omega arith)
+first-three false true t₃ t₄ t₅ s₄ s₅ z = absurd (omega arith)
+first-three false false true t₄ t₅ s₄ s₅ z = absurd (omega arith)
+first-three false false false t₄ t₅ s₄ s₅ z = refl
+
+pub again : (g : Graph) (c : Update) → refusal g c ≡ 0 → refusal (updated g c) c ≡ cond (eqb (c .kind) 1 || eqb (c .kind) 3) 16 17
+unfolding refusal updateReasons updated
+again g c ok = first-three _ _ _ _ _ _ _ ok ∙ rw (eq-eqb (c .u) (c .u) refl, eq-eqb (c .v) (c .v) refl) (step (c .kind) (not-false _ (first-none _ 13 _ refl ok .0)))
+  where
+    -- the edge and the mark after an update of kind k
+    e : ℕ → Bool
+    e k = cond ((eqb k 1 || eqb k 2) && true) (eqb k 1) (g .edge (c .u) (c .v))
+
+    m : ℕ → Bool
+    m k = cond (not (eqb k 1 || eqb k 2) && true) (eqb k 3) (g .hidden (c .u))
+
+    step : (k : ℕ) → (ltb 0 k && ltb k 5) ≡ true
+        → _≡_ {A = ℕ} (cond ((eqb k 1 && e k) || (eqb k 3 && m k)) 16 (cond ((eqb k 2 && not (e k)) || (eqb k 4 && not (m k))) 17 0)) (cond (eqb k 1 || eqb k 3) 16 17)
+    step zero h = differ h refl
+    step (suc zero) h = refl
+    step (suc (suc zero)) h = refl
+    step (suc (suc (suc zero))) h = refl
+    step (suc (suc (suc (suc zero)))) h = refl
+    step (suc (suc (suc (suc (suc k))))) h = absurd (omega (arith, ltb-true (suc (suc (suc (suc (suc k))))) 5 (and-snd (ltb 0 (suc (suc (suc (suc (suc k)))))) _ h)))

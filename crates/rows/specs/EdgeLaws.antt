@@ -11,11 +11,11 @@ use lib.Pow.{pow-pos}
 use lib.Seq.{ext-getD}
 use borrow.Author.Tests.{eqb-true, ltb-true, ltb-false, not-false}
 use Rattle.model.specs.Lists.{nodes}
-use Rattle.model.specs.Graph.{Graph}
+use Rattle.model.specs.Graph.{Graph, Proper}
 use Rattle.model.specs.Tables.{bitAt, edgeBit, edgesOf, rowOf, word}
 use Rattle.model.specs.Updates.{Update, isPair, onEdge, refusal, updateReasons, updated}
 use Rattle.model.specs.TestLaws.{and-fst, and-snd, decide, differ, or-cases, or-none}
-use Rattle.model.specs.TableLaws.{Proper, edge-bit, getD-blocks, getD-nodes, length-edges, length-nodes, length-row, row-at}
+use Rattle.model.specs.TableLaws.{edge-bit, getD-blocks, getD-nodes, length-edges, length-nodes, length-row, row-at}
 use Rattle.model.specs.UpdateLaws.{first-none}
 use Rattle.rows.specs.Rows.{Words, Changed}
 use Rattle.rows.specs.BitLaws.{word-bits, word-cong, word-lt}

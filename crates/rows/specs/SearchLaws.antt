@@ -11,12 +11,12 @@ use lib.ListN.{length, getD, take, drop, length-take, length-drop}
 use lib.Seq.{getD-drop, getD-take}
 use borrow.Author.Tests.{eqb-true, eqb-false, eq-eqb, ne-eqb, not-false, not-true}
 use Rattle.model.specs.Lists.{nodes}
-use Rattle.model.specs.Graph.{Graph}
+use Rattle.model.specs.Graph.{Graph, Proper}
 use Rattle.model.specs.Grouping.{falseTwins, similar, trueTwins}
 use Rattle.model.specs.Tables.{edgesOf, graphOf, keyPair, keysOf, nodeNumber, rowOf, tablesOf}
 use Rattle.model.specs.TestLaws.{and-fst, and-snd, and-true, decide, differ, iff-eq, or-left, or-right}
 use Rattle.model.specs.TwinLaws.{similar-N, similar-N+, similar-cases}
-use Rattle.model.specs.TableLaws.{Proper, length-edges, length-keys, read-back}
+use Rattle.model.specs.TableLaws.{length-edges, length-keys, read-back}
 use Rattle.rows.specs.Search.{Ready, edgesIn, firstFrom, graphIn, joins, keyAgrees, keysAgree, mayJoin, meets, ownBit, ownBits, rowIn, tried}
 use Rattle.rows.specs.TwinRowLaws.{false-key, false-meet, keys-apart, meet-false, meet-true, true-key, true-meet}
 

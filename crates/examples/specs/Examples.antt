@@ -1,0 +1,199 @@
+-- Document 01's examples with a star, the examples of its table of refusals and the one of the program, as one list of
+-- equations: on the left what the definitions of `model` give, on the right what the document says.
+use mathlib.Core.Path.{_≡_}
+use mathlib.Core.Bool.{Bool, true, false, _&&_}
+use mathlib.Core.List.{List, [], _∷_, _++_, map}
+use Prim.Native.Nat.{ℕ, _+_, _*_}
+use lib.Dec.{eqb}
+use lib.IntN.{ℤ, pos, negsuc}
+use lib.ListN.{length, getD, replicate}
+use Rattle.model.specs.Lists.{nodes}
+use Rattle.model.specs.Graph.{Graph, emptyGraph, rowWords, nodeNumbers}
+use Rattle.model.specs.Grouping.{Kind, singleton, independent, clique, kindOf, similar}
+use Rattle.model.specs.Tables.{Tables, tablesOf, keysOf, nodesOf, groupsIn}
+use Rattle.model.specs.Updates.{Update, batchGraph, updateCount}
+use Rattle.model.specs.Release.{visibleEdge, visibleGroups, superedgeCount, release}
+use Rattle.model.specs.Calls.{openCall, applyCall, neighboursCall, tiedCall, groupCall, releaseCall, readCall, fileNeighboursCall}
+use Rattle.model.specs.Program.{text, program}
+
+-- an equation between two of the things that the document speaks of: bytes of a file or a text, a number, groups, kinds of
+-- groups, answers, a yes or no
+pub data Claim : Type 0 where
+  bytes : List ℕ → List ℕ → Claim
+  number : ℕ → ℕ → Claim
+  groups : List (List ℕ) → List (List ℕ) → Claim
+  kinds : List Kind → List Kind → Claim
+  answers : List ℤ → List ℤ → Claim
+  test : Bool → Bool → Claim
+
+abbrev pub Holds : Claim → Type 0
+Holds (bytes a b) = a ≡ b
+Holds (number a b) = a ≡ b
+Holds (groups a b) = a ≡ b
+Holds (kinds a b) = a ≡ b
+Holds (answers a b) = a ≡ b
+Holds (test a b) = a ≡ b
+
+abbrev pub AllHold : List Claim → Type 0
+AllHold [] = Unit {0}
+AllHold (c ∷ cs) = Holds c × AllHold cs
+
+-- updates: tie, untie and withhold
+abbrev insert : ℕ → ℕ → Update
+insert u v = record { kind = 1; u = u; v = v }
+
+abbrev delete : ℕ → ℕ → Update
+delete u v = record { kind = 2; u = u; v = v }
+
+abbrev hide : ℕ → Update
+hide u = record { kind = 3; u = u; v = 0 }
+
+-- the graph of n nodes that updates lead to
+abbrev graph : ℕ → List Update → Graph
+graph n cs = batchGraph (emptyGraph n) cs
+
+unfoldable pub pair : Graph
+pair = graph 2 (insert 0 1 ∷ [])
+
+unfoldable pub path3 : Graph
+path3 = graph 3 (insert 0 1 ∷ insert 1 2 ∷ [])
+
+unfoldable pub triangle : Graph
+triangle = graph 3 (insert 0 1 ∷ insert 1 2 ∷ insert 0 2 ∷ [])
+
+unfoldable pub path4 : Graph
+path4 = graph 4 (insert 0 1 ∷ insert 1 2 ∷ insert 2 3 ∷ [])
+
+-- each of 0, 1, 2 tied to each of 3, 4, 5
+unfoldable pub threeByThree : Graph
+threeByThree =
+    graph 6
+    (insert 0 3 ∷ insert 0 4 ∷ insert 0 5 ∷ insert 1 3 ∷ insert 1 4 ∷ insert 1 5 ∷ insert 2 3 ∷ insert 2 4 ∷ insert 2 5 ∷ [])
+
+unfoldable pub deleted03 : Graph
+deleted03 = batchGraph threeByThree (delete 0 3 ∷ [])
+
+unfoldable pub hidden3 : Graph
+hidden3 = batchGraph threeByThree (hide 3 ∷ [])
+
+unfoldable pub hidden3deleted03 : Graph
+hidden3deleted03 = batchGraph hidden3 (delete 0 3 ∷ [])
+
+unfoldable pub equalKeys : Graph
+equalKeys = graph 22 (insert 20 0 ∷ insert 20 11 ∷ insert 21 8 ∷ insert 21 9 ∷ [])
+
+-- the bytes of a release, and the kinds of its groups
+abbrev size : Graph → ℕ
+size g = length (release g)
+
+abbrev kindsOf : Graph → List Kind
+kindsOf g = map (kindOf (visibleEdge g)) (visibleGroups g)
+
+-- the groups in the office's node table, and the keys of node p in its key table
+abbrev officeGroups : Graph → List (List ℕ)
+officeGroups g = groupsIn (g .nodeCount) (nodesOf g)
+
+abbrev openKeyIn : Graph → ℕ → ℕ
+openKeyIn g p = getD (keysOf g) (2 * p) 0
+
+abbrev closedKeyIn : Graph → ℕ → ℕ
+closedKeyIn g p = getD (keysOf g) (2 * p + 1) 0
+
+-- tables as they may be lent for n nodes, and those of a new bundle
+abbrev lent : ℕ → Tables
+lent n = record { edges = replicate (rowWords * n) 7; nodes = replicate (nodeNumbers * n) 7; keys = replicate (2 * n) 7 }
+
+abbrev opened : ℕ → Tables
+opened n = openCall n (lent n) .tables
+
+-- the answers to a sheet, in a buffer of their number
+abbrev answersOn : ℕ → Tables → List ℕ → List ℤ
+answersOn n t xs = applyCall n t xs (replicate (updateCount xs) (pos 7)) .answers
+
+-- the tables of node 0 tied to itself
+unfoldable pub selfTied : Tables
+selfTied = tablesOf (record { nodeCount = 1; edge = λ p q. eqb p 0 && eqb q 0; hidden = λ p. false })
+
+unfoldable pub examples : List Claim
+examples =
+    -- 1. n 0
+    bytes (release (emptyGraph 0)) (0x48 ∷ 0x44 ∷ 0x00 ∷ 0x00 ∷ 0x00 ∷ 0x00 ∷ 0x00 ∷ 0x00 ∷ 0x45 ∷ 0x4E ∷ [])
+    -- 2. n 1
+    ∷ groups (visibleGroups (emptyGraph 1)) ((0 ∷ []) ∷ [])
+    ∷ kinds (kindsOf (emptyGraph 1)) (singleton ∷ [])
+    ∷ number (size (emptyGraph 1)) 16
+    -- 2. n 512 without ties
+    ∷ groups (visibleGroups (emptyGraph 512)) (nodes 512 ∷ [])
+    ∷ number (size (emptyGraph 512)) 1038
+    -- 3. n 2, tied
+    ∷ groups (visibleGroups pair) ((0 ∷ 1 ∷ []) ∷ [])
+    ∷ kinds (kindsOf pair) (clique ∷ [])
+    ∷ number (size pair) 18
+    -- 3. n 2, untied
+    ∷ groups (visibleGroups (emptyGraph 2)) ((0 ∷ 1 ∷ []) ∷ [])
+    ∷ kinds (kindsOf (emptyGraph 2)) (independent ∷ [])
+    ∷ number (size (emptyGraph 2)) 18
+    -- 4. path 0-1-2, and the keys of 1
+    ∷ groups (visibleGroups path3) ((0 ∷ 2 ∷ []) ∷ (1 ∷ []) ∷ [])
+    ∷ groups (officeGroups path3) ((0 ∷ 2 ∷ []) ∷ (1 ∷ []) ∷ [])
+    ∷ number (superedgeCount path3) 1
+    ∷ number (size path3) 30
+    ∷ number (openKeyIn path3 1) 28
+    ∷ number (closedKeyIn path3 1) 36
+    -- 5. triangle
+    ∷ groups (visibleGroups triangle) ((0 ∷ 1 ∷ 2 ∷ []) ∷ [])
+    ∷ kinds (kindsOf triangle) (clique ∷ [])
+    ∷ number (size triangle) 20
+    -- 6. path 0-1-2-3
+    ∷ groups (visibleGroups path4) ((0 ∷ []) ∷ (1 ∷ []) ∷ (2 ∷ []) ∷ (3 ∷ []) ∷ [])
+    ∷ kinds (kindsOf path4) (singleton ∷ singleton ∷ singleton ∷ singleton ∷ [])
+    ∷ number (size path4) 52
+    -- 7. each of 0, 1, 2 tied to each of 3, 4, 5
+    ∷ bytes (release threeByThree) (0x48 ∷ 0x44 ∷ 0x06 ∷ 0x00 ∷ 0x06 ∷ 0x00 ∷ 0x02 ∷ 0x00 ∷ 0x47 ∷ 0x49 ∷ 0x03 ∷ 0x00 ∷ 0x00 ∷ 0x00 ∷ 0x01 ∷ 0x00 ∷ 0x02 ∷ 0x00 ∷ 0x47 ∷ 0x49 ∷ 0x03 ∷ 0x00 ∷ 0x03 ∷ 0x00 ∷ 0x04 ∷ 0x00 ∷ 0x05 ∷ 0x00 ∷ 0x53 ∷ 0x45 ∷ 0x00 ∷ 0x00 ∷ 0x01 ∷ 0x00 ∷ 0x45 ∷ 0x4E ∷ [])
+    -- 8. from 7, untie 0 3, then tie 0 3 again
+    ∷ answers (answersOn 6 (tablesOf threeByThree) (2 ∷ 0 ∷ 3 ∷ 1 ∷ 0 ∷ 3 ∷ [])) (pos 2 ∷ negsuc 1 ∷ [])
+    ∷ groups (visibleGroups deleted03) ((0 ∷ []) ∷ (1 ∷ 2 ∷ []) ∷ (3 ∷ []) ∷ (4 ∷ 5 ∷ []) ∷ [])
+    ∷ groups (officeGroups deleted03) ((0 ∷ []) ∷ (1 ∷ 2 ∷ []) ∷ (3 ∷ []) ∷ (4 ∷ 5 ∷ []) ∷ [])
+    ∷ number (superedgeCount deleted03) 3
+    ∷ number (size deleted03) 56
+    -- 9. from 7, withhold 3, then untie 0 3
+    ∷ number (size hidden3) 34
+    ∷ answers (answersOn 6 (tablesOf hidden3) (2 ∷ 0 ∷ 3 ∷ [])) (pos 2 ∷ [])
+    ∷ bytes (release hidden3deleted03) (release hidden3)
+    ∷ groups (visibleGroups hidden3deleted03) ((0 ∷ 1 ∷ 2 ∷ []) ∷ (4 ∷ 5 ∷ []) ∷ [])
+    ∷ groups (officeGroups hidden3deleted03) ((0 ∷ []) ∷ (1 ∷ 2 ∷ []) ∷ (3 ∷ []) ∷ (4 ∷ 5 ∷ []) ∷ [])
+    -- 10. ties 20-0, 20-11, 21-8, 21-9
+    ∷ number (openKeyIn equalKeys 20) 1729
+    ∷ number (openKeyIn equalKeys 21) 1729
+    ∷ test (similar (nodes 22) (equalKeys .edge) 20 21) false
+    ∷ groups (officeGroups equalKeys) ((0 ∷ 11 ∷ []) ∷ (1 ∷ 2 ∷ 3 ∷ 4 ∷ 5 ∷ 6 ∷ 7 ∷ 10 ∷ 12 ∷ 13 ∷ 14 ∷ 15 ∷ 16 ∷ 17 ∷ 18 ∷ 19 ∷ []) ∷ (8 ∷ 9 ∷ []) ∷ (20 ∷ []) ∷ (21 ∷ []) ∷ [])
+    ∷ number (length (visibleGroups equalKeys)) 5
+    ∷ number (size equalKeys) 86
+    -- number 11: n 513
+    ∷ number (openCall 513 (lent 513) .result) 11
+    -- number 12: n 1, person 0 tied to 0
+    ∷ number (applyCall 1 selfTied [] [] .result) 12
+    ∷ number (neighboursCall 1 selfTied 0 (0 ∷ []) .result) 12
+    ∷ number (tiedCall 1 selfTied 0 0 .result) 12
+    ∷ number (groupCall 1 selfTied 0 .result) 12
+    ∷ number (releaseCall 1 selfTied (replicate 16 0) .result) 12
+    -- number 13: 5 0 1
+    ∷ answers (answersOn 3 (opened 3) (5 ∷ 0 ∷ 1 ∷ [])) (pos 13 ∷ [])
+    -- number 14: n 3: 1 0 3
+    ∷ answers (answersOn 3 (opened 3) (1 ∷ 0 ∷ 3 ∷ [])) (pos 14 ∷ [])
+    -- number 15: 1 2 2
+    ∷ answers (answersOn 3 (opened 3) (1 ∷ 2 ∷ 2 ∷ [])) (pos 15 ∷ [])
+    -- number 16: 1 0 1 twice
+    ∷ answers (answersOn 3 (opened 3) (1 ∷ 0 ∷ 1 ∷ 1 ∷ 0 ∷ 1 ∷ [])) (pos 1 ∷ pos 16 ∷ [])
+    -- number 17: 4 0 0 in a new bundle
+    ∷ answers (answersOn 3 (opened 3) (4 ∷ 0 ∷ 0 ∷ [])) (pos 17 ∷ [])
+    -- number 18: release of n 0 into 9 bytes
+    ∷ number (releaseCall 0 (opened 0) (replicate 9 0) .result) 18
+    -- number 19: empty file
+    ∷ number (readCall 0 (lent 0) [] .result) 19
+    ∷ number (fileNeighboursCall [] 0 [] .result) 19
+    -- number 20: n 0 file, tables for n 1
+    ∷ number (readCall 1 (lent 1) (release (emptyGraph 0)) .result) 20
+    -- the program
+    ∷ bytes (program (text "3\nt 0 1\nt 1 2\nw 0\n")) (text "change 1: 1\nchange 2: 0\nchange 3: 0\nopen 2 groups 1 joins 0\nC 1 2\n")
+    ∷ []

@@ -1,0 +1,1 @@
+// The examples of document 01 as one theorem; no code.
