@@ -4,6 +4,9 @@ ghost use mathlib.Core.Bool.{Bool};
 ghost use Prim.Native.Nat.{_+_, _*_, _≤_, _<_};
 ghost use lib.ListN.{length};
 ghost use Rattle.model.specs.Reading.{u16At};
+ghost use Rattle.model.specs.Graph.{rowWords};
+ghost use Rattle.reader.specs.Drawing.{Added, oneBit, oneEdge, fan, across, joined, inner, membersAt, GroupHere};
+ghost use Rattle.reader.specs.Decoding.{numbersAt, MembersRead, GroupTaken};
 ghost use Rattle.reader.specs.Records.{lessMember, lessGroup, spent, markAt, malformedAt, headAt, groupAt, superedgeAt, recordAt};
 
 // What the head still promises: members and groups not yet read.
@@ -175,4 +178,112 @@ pub fn read_record(file: &[u8], at: usize) -> Read
         };
     }
     malformed(at)
+}
+
+// The number at a place, as an index.
+fn node_at(file: &[u8], at: usize) -> usize
+    requires { ⌜ at + 2 ≤ length (now file) ⌝ }
+    ensures { λ r. ⌜ r ≡ u16At (now (file .entry)) at ⌝ }
+{
+    u16_at(file, at) as usize
+}
+
+// Node q's bit set in node p's row.
+fn set_bit(edges: &mut [u64], p: usize, q: usize)
+    requires { ⌜ (p < 512) × (q < 512) × (rowWords * p + rowWords ≤ length (now edges)) ⌝ }
+    ensures { λ _. ⌜ Added (oneBit p q) (now (edges .entry)) (now (edges .exit)) ⌝ }
+{
+    let i = rows::place(p, q);
+    edges[i] = edges[i] | rows::mask(q);
+}
+
+// The edge from p to q, none from a node to itself.
+fn draw_edge(edges: &mut [u64], p: usize, q: usize)
+    requires { ⌜ (p < 512) × (q < 512) × (4096 ≤ length (now edges)) ⌝ }
+    ensures { λ _. ⌜ Added (oneEdge p q) (now (edges .entry)) (now (edges .exit)) ⌝ }
+{
+    if p == q {
+        return;
+    }
+    set_bit(edges, p, q);
+}
+
+// Edges from p to each member of the group at a place.
+fn draw_fan(edges: &mut [u64], p: usize, file: &[u8], group: usize)
+    requires { ⌜ (p < 512) × (4096 ≤ length (now edges)) × GroupHere 512 (now file) group ⌝ }
+    ensures { λ _. ⌜ Added (fan p (membersAt (now (file .entry)) group)) (now (edges .entry)) (now (edges .exit)) ⌝ }
+{
+    let count = node_at(file, group + 2);
+    let at = group + 4;
+    for k in 0..count {
+        draw_edge(edges, p, node_at(file, at + 2 * k));
+    }
+}
+
+// Edges from each member of one group to each member of another, or of the same.
+fn draw_across(edges: &mut [u64], file: &[u8], first: usize, second: usize)
+    requires { ⌜ (4096 ≤ length (now edges)) × GroupHere 512 (now file) first × GroupHere 512 (now file) second ⌝ }
+    ensures { λ _. ⌜ Added (across (membersAt (now (file .entry)) first) (membersAt (now (file .entry)) second)) (now (edges .entry)) (now (edges .exit)) ⌝ }
+{
+    let count = node_at(file, first + 2);
+    let at = first + 4;
+    for k in 0..count {
+        draw_fan(edges, node_at(file, at + 2 * k), file, second);
+    }
+}
+
+// All edges between the members of two groups, both ways.
+fn draw_superedge(edges: &mut [u64], file: &[u8], first: usize, second: usize)
+    requires { ⌜ (4096 ≤ length (now edges)) × GroupHere 512 (now file) first × GroupHere 512 (now file) second ⌝ }
+    ensures { λ _. ⌜ Added (joined (membersAt (now (file .entry)) first) (membersAt (now (file .entry)) second)) (now (edges .entry)) (now (edges .exit)) ⌝ }
+{
+    draw_across(edges, file, first, second);
+    draw_across(edges, file, second, first);
+}
+
+// A clique's edges between its own members.
+fn draw_clique(edges: &mut [u64], file: &[u8], group: usize, clique: bool)
+    requires { ⌜ (4096 ≤ length (now edges)) × GroupHere 512 (now file) group ⌝ }
+    ensures { λ _. ⌜ Added (inner clique (membersAt (now (file .entry)) group)) (now (edges .entry)) (now (edges .exit)) ⌝ }
+{
+    if clique {
+        draw_across(edges, file, group, group);
+    }
+}
+
+// A group just taken: whether a clique, the place after it, and what is left of the counts.
+pub enum Grouped {
+    Taken {
+        clique: bool,
+        next: usize,
+        left: Counts,
+    },
+    Missing,
+}
+
+// The members of a group: each is a node, uses up one of the head's members, and is visible.
+fn read_members(
+    file: &[u8],
+    at: usize,
+    count: usize,
+    n: usize,
+    counts: Counts,
+    hidden: &mut [u16],
+) -> Lessened
+    requires { ⌜ (at + 2 * count ≤ length (now file)) × (n ≤ length (now hidden)) ⌝ }
+    ensures { λ r. ⌜ MembersRead n counts (numbersAt (now (file .entry)) at count) (now (hidden .entry)) (now (hidden .exit)) r ⌝ }
+{
+    let mut left = counts;
+    for k in 0..count {
+        let p = node_at(file, at + 2 * k);
+        if p >= n {
+            return Lessened::Over;
+        }
+        let Lessened::Left(c) = left.member() else {
+            return Lessened::Over;
+        };
+        left = c;
+        hidden[p] = 0;
+    }
+    Lessened::Left(left)
 }

@@ -1,0 +1,104 @@
+-- Laws of members and groups taken one after the other.
+use mathlib.Core.Path.{_≡_, refl, sym, ap, ap₂, subst, _∙_}
+use mathlib.Core.Bool.{Bool, true, false, not, _&&_, _||_, cond, or-false}
+use mathlib.Core.List.{List, [], _∷_}
+use mathlib.Core.Logic.{_⊎_, inl, inr}
+use Prim.Native.Nat.{ℕ, zero, suc, _+_, _*_, _-_, _≤_, _<_}
+use native.Mathlib.Omega.{arith}
+use lib.Dec.{eqb, ltb, leb}
+use lib.ListN.{length, getD, drop, set, length-set, length-drop}
+use lib.Seq.{getD-drop, getD-set-same, getD-set-other}
+use borrow.Author.Tests.{eqb-true, eqb-false, eq-eqb, ne-eqb, ltb-true, ltb-false, lt-ltb, le-ltb, leb-true, leb-false, le-leb, lt-leb}
+use Rattle.model.specs.Lists.{any, member}
+use Rattle.model.specs.Reading.{u16At, u16s}
+use Rattle.model.specs.TestLaws.{decide, differ, and-fst, and-snd}
+use Rattle.reader.specs.declared.Counts.{Counts}
+use Rattle.reader.specs.declared.Lessened.{Lessened}
+use Rattle.reader.specs.declared.Lessened.the-variants.{Left, Over}
+use Rattle.reader.specs.declared.Record.{Record}
+use Rattle.reader.specs.declared.Record.the-variants.{Head, Group, Superedge, End, Malformed}
+use Rattle.reader.specs.declared.Read.{Read}
+use Rattle.reader.specs.declared.Grouped.{Grouped}
+use Rattle.reader.specs.declared.Grouped.the-variants.{Taken, Missing}
+use Rattle.reader.specs.Records.{groupItem, headItem, isMark, itemIn, lessGroup, lessMember, readAs, recordAt, sizeOf, spent, superedgeItem, whole}
+use Rattle.reader.specs.Drawing.{GroupHere, countAt, membersAt, restAt}
+use Rattle.reader.specs.Decoding.{Cleared, Clearing, GroupTaken, MembersRead, groupTaken, membersRead, numbersAt, onLess, within}
+use Rattle.reader.specs.RecordLaws.{u16-drop}
+use Rattle.reader.specs.DrawingLaws.{rest-end, rest-start, rest-step}
+
+-- marks cleared one after the other
+cond-or : (u v : Bool) (x : ℕ) → cond (u || v) 0 x ≡ cond v 0 (cond u 0 x)
+cond-or true true x = refl
+cond-or true false x = refl
+cond-or false v x = refl
+
+pub clearing-start : (f g : ℕ → Bool) (t : List ℕ) → ((p : ℕ) → g p ≡ f p) → Clearing f g t t
+clearing-start f g t e = record { size = refl; marks = λ p. ap (λ (x : Bool). cond x 0 (getD t p 0)) (e p) }
+
+pub clearing-step : {all rest f more : ℕ → Bool} {t now after : List ℕ} → Clearing all rest t now → Cleared f now after → ((p : ℕ) → rest p ≡ (f p || more p)) → Clearing all more t after
+clearing-step {f = f} {more = more} {now = now} x y e = record {
+  size = y .size ∙ x .size;
+  marks =
+      λ p.
+      ap (λ (z : ℕ). cond (more p) 0 z) (y .marks p)
+      ∙ sym (cond-or (f p) (more p) (getD now p 0))
+      ∙ ap (λ (z : Bool). cond z 0 (getD now p 0)) (sym (e p))
+      ∙ x .marks p;
+}
+
+pub clearing-done : {all rest : ℕ → Bool} {t now : List ℕ} → Clearing all rest t now → ((p : ℕ) → rest p ≡ false) → Cleared all t now
+clearing-done {now = now} x e = record { size = x .size; marks = λ p. sym (ap (λ (z : Bool). cond z 0 (getD now p 0)) (e p)) ∙ x .marks p }
+
+one-cleared : (q : ℕ) (t : List ℕ) → q < length t → Cleared (λ p. eqb p q) t (set t q 0)
+one-cleared q t l = record { size = length-set t q 0; marks = λ p. at p (decide (eqb p q)) }
+  where
+    at : (p : ℕ) → (eqb p q ≡ true) ⊎ (eqb p q ≡ false) → getD (set t q 0) p 0 ≡ cond (eqb p q) 0 (getD t p 0)
+    at p (inl e) = rw (e, eqb-true p q e) (getD-set-same t q 0 0 l)
+    at p (inr e) = rw e (getD-set-other t q p 0 0 (eqb-false p q e))
+
+-- the members' loop
+module _ (n : ℕ) (s : List ℕ) (at count k q : ℕ) (inside : k < count) (read : q ≡ u16At s (at + 2 * k)) where
+  pub member-clears : {all : ℕ → Bool} {t now : List ℕ} → q < length now → Clearing all (within (restAt s at count k)) t now → Clearing all (within (restAt s at count (k + 1))) t (set now q 0)
+  unfolding within member any
+  member-clears {now = now} l x = clearing-step x (one-cleared q now l) (λ p. rw (rest-step s at count k inside, ← read))
+
+  pub member-counts : (c d : Counts) (o r : Lessened) → q < n → o ≡ lessMember c → o ≡ Left d → membersRead n c (restAt s at count k) ≡ r → membersRead n d (restAt s at count (k + 1)) ≡ r
+  unfolding membersRead
+  member-counts c d o r l e f h = rw (rest-step s at count k inside, ← read, lt-ltb q n l, ← e, f) at h
+
+  pub member-over : (c : Counts) (o r : Lessened) → q < n → o ≡ lessMember c → o ≡ Over → membersRead n c (restAt s at count k) ≡ r → Over ≡ r
+  unfolding membersRead
+  member-over c o r l e f h = rw (rest-step s at count k inside, ← read, lt-ltb q n l, ← e, f) at h
+
+  pub member-large : (c : Counts) (r : Lessened) → n ≤ q → membersRead n c (restAt s at count k) ≡ r → Over ≡ r
+  unfolding membersRead
+  member-large c r l h = rw (rest-step s at count k inside, ← read, le-ltb q n l) at h
+
+module _ (s : List ℕ) (at count : ℕ) where
+  pub numbers-start : restAt s at count 0 ≡ numbersAt s at count
+  unfolding numbersAt
+  numbers-start = rest-start s at count
+
+  pub members-hold : (n : ℕ) (c : Counts) → membersRead n c (restAt s at count 0) ≡ membersRead n c (numbersAt s at count)
+  members-hold n c = ap (membersRead n c) numbers-start
+
+  pub marks-hold : (t : List ℕ) → Clearing (within (numbersAt s at count)) (within (restAt s at count 0)) t t
+  marks-hold t = clearing-start (within (numbersAt s at count)) (within (restAt s at count 0)) t (λ p. ap (λ (l : List ℕ). within l p) numbers-start)
+
+  pub members-end : (n k : ℕ) (c : Counts) (r : Lessened) → count ≤ k → membersRead n c (restAt s at count k) ≡ r → Left c ≡ r
+  unfolding membersRead
+  members-end n k c r l h = rw (rest-end s at count k l) at h
+
+  pub marks-end : (k : ℕ) {all : ℕ → Bool} {t now : List ℕ} → count ≤ k → Clearing all (within (restAt s at count k)) t now → Cleared all t now
+  unfolding within member any
+  marks-end k l x = clearing-done x (λ p. rw (rest-end s at count k l))
+
+  -- what the function hands back: all members, or none
+  pub members-over : (n : ℕ) (c : Counts) (t now : List ℕ) → length now ≡ length t → Over ≡ membersRead n c (numbersAt s at count) → MembersRead n c (numbersAt s at count) t now Over
+  members-over n c t now size e = record { result = e; size = size; marks = λ d f. over f }
+    where
+      over : {d : Counts} → Over ≡ Left d → Cleared (within (numbersAt s at count)) t now
+      over f = let z : _≡_ {A = ℕ} 0 1 = cc in absurd (omega arith)
+
+  pub members-done : (n : ℕ) (c left : Counts) (t now : List ℕ) → Left left ≡ membersRead n c (numbersAt s at count) → Cleared (within (numbersAt s at count)) t now → MembersRead n c (numbersAt s at count) t now (Left left)
+  members-done n c left t now e x = record { result = e; size = x .size; marks = λ d f. x }
