@@ -102,3 +102,33 @@ module _ (s : List ℕ) (at count : ℕ) where
 
   pub members-done : (n : ℕ) (c left : Counts) (t now : List ℕ) → Left left ≡ membersRead n c (numbersAt s at count) → Cleared (within (numbersAt s at count)) t now → MembersRead n c (numbersAt s at count) t now (Left left)
   members-done n c left t now e x = record { result = e; size = x .size; marks = λ d f. x }
+
+-- what a record that was read tells of the bytes
+abbrev pub Fits : List ℕ → Record → Type 0
+Fits r (Head n m g) = (8 ≤ length r) × (n ≡ u16At r 2) × (m ≡ u16At r 4) × (g ≡ u16At r 6)
+Fits r (Group q count) = (4 ≤ length r) × (count ≡ u16At r 2) × (q ≡ eqb (getD r 1 0) 0x43)
+Fits r (Superedge i j) = (6 ≤ length r) × (i ≡ u16At r 2) × (j ≡ u16At r 4) × (getD r 0 0 ≡ 0x53)
+Fits r End = (2 ≤ length r) × (getD r 0 0 ≡ 0x45)
+Fits r Malformed = Unit {0}
+
+whole-fits : (r : List ℕ) (size : ℕ) (i : Record) → (size ≤ length r → Fits r i) → Fits r (whole r size i)
+unfolding whole
+whole-fits r size i f = step (decide (leb size (length r)))
+  where
+    step : (leb size (length r) ≡ true) ⊎ (leb size (length r) ≡ false) → Fits r (cond (leb size (length r)) i Malformed)
+    step (inl t) = rw t (f (leb-true size (length r) t))
+    step (inr t) = rw t tt
+
+cond-fits : (r : List ℕ) (t : Bool) (i j : Record) → (t ≡ true → Fits r i) → (t ≡ false → Fits r j) → Fits r (cond t i j)
+cond-fits r true i j f g = f refl
+cond-fits r false i j f g = g refl
+
+pub item-fits : (r : List ℕ) → Fits r (itemIn r)
+unfolding itemIn isMark superedgeItem groupItem headItem
+item-fits r =
+    cond-fits r (ltb (length r) 2) Malformed _ (λ t. tt) (λ room.
+    cond-fits r (eqb (getD r 0 0) 0x53 && eqb (getD r 1 0) 0x45) (superedgeItem r) _ (λ t. whole-fits r 6 (Superedge (u16At r 2) (u16At r 4)) (λ l. (l, refl, refl, eqb-true (getD r 0 0) 0x53 (and-fst (eqb (getD r 0 0) 0x53) (eqb (getD r 1 0) 0x45) t)))) (λ _.
+    cond-fits r (eqb (getD r 0 0) 0x47 && eqb (getD r 1 0) 0x49) (groupItem false r) _ (λ t. whole-fits r 4 (Group false (u16At r 2)) (λ l. (l, refl, sym (ne-eqb (getD r 1 0) 0x43 (λ e. omega (arith, eqb-true (getD r 1 0) 0x49 (and-snd (eqb (getD r 0 0) 0x47) (eqb (getD r 1 0) 0x49) t))))))) (λ _.
+    cond-fits r (eqb (getD r 0 0) 0x47 && eqb (getD r 1 0) 0x43) (groupItem true r) _ (λ t. whole-fits r 4 (Group true (u16At r 2)) (λ l. (l, refl, sym (and-snd (eqb (getD r 0 0) 0x47) (eqb (getD r 1 0) 0x43) t)))) (λ _.
+    cond-fits r (eqb (getD r 0 0) 0x48 && eqb (getD r 1 0) 0x44) (headItem r) _ (λ t. whole-fits r 8 (Head (u16At r 2) (u16At r 4) (u16At r 6)) (λ l. (l, refl, refl, refl))) (λ _.
+    cond-fits r (eqb (getD r 0 0) 0x45 && eqb (getD r 1 0) 0x4E) End Malformed (λ t. (ltb-false (length r) 2 room, eqb-true (getD r 0 0) 0x45 (and-fst (eqb (getD r 0 0) 0x45) (eqb (getD r 1 0) 0x4E) t))) (λ _. tt))))))

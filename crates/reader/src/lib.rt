@@ -287,3 +287,31 @@ fn read_members(
     }
     Lessened::Left(left)
 }
+
+// A group record at a place, with its members.
+fn take_group(file: &[u8], at: usize, n: usize, counts: Counts, hidden: &mut [u16]) -> Grouped
+    requires { ⌜ n ≤ length (now hidden) ⌝ }
+    ensures { λ r. ⌜ GroupTaken n counts (now (file .entry)) at (now (hidden .entry)) (now (hidden .exit)) r ⌝ }
+{
+    let read = read_record(file, at);
+    let from = read.next;
+    let item = read.item;
+    let Record::Group { clique, count } = item else {
+        return Grouped::Missing;
+    };
+    let members = count as usize;
+    if file.len() - from < 2 * members {
+        return Grouped::Missing;
+    }
+    let Lessened::Left(c) = counts.group() else {
+        return Grouped::Missing;
+    };
+    let Lessened::Left(left) = read_members(file, from, members, n, c, hidden) else {
+        return Grouped::Missing;
+    };
+    Grouped::Taken {
+        clique,
+        next: from + 2 * members,
+        left,
+    }
+}
