@@ -53,7 +53,7 @@ pub record MembersRead (n : ℕ) (c : Counts) (ms t after : List ℕ) (r : Lesse
   pub marks : (d : Counts) → r ≡ Left d → Cleared (within ms) t after
 
 -- a group record taken, with its members
-abbrev groupBy : ℕ → Counts → List ℕ → ℕ → Record → Grouped
+abbrev pub groupBy : ℕ → Counts → List ℕ → ℕ → Record → Grouped
 groupBy n c s at (Group clique count) =
     cond (leb (at + 4 + 2 * count) (length s))
     (onLess (lessGroup c) (λ d. onLess (membersRead n d (numbersAt s (at + 4) count)) (λ e. Taken clique (at + 4 + 2 * count) e) Missing) Missing)

@@ -22,7 +22,7 @@ use Rattle.reader.specs.declared.Grouped.{Grouped}
 use Rattle.reader.specs.declared.Grouped.the-variants.{Taken, Missing}
 use Rattle.reader.specs.Records.{groupItem, headItem, isMark, itemIn, lessGroup, lessMember, readAs, recordAt, sizeOf, spent, superedgeItem, whole}
 use Rattle.reader.specs.Drawing.{GroupHere, countAt, membersAt, restAt}
-use Rattle.reader.specs.Decoding.{Cleared, Clearing, GroupTaken, MembersRead, groupTaken, membersRead, numbersAt, onLess, within}
+use Rattle.reader.specs.Decoding.{Cleared, Clearing, GroupTaken, MembersRead, groupBy, groupTaken, membersRead, numbersAt, onLess, within}
 use Rattle.reader.specs.RecordLaws.{u16-drop}
 use Rattle.reader.specs.DrawingLaws.{rest-end, rest-start, rest-step}
 
@@ -132,3 +132,81 @@ item-fits r =
     cond-fits r (eqb (getD r 0 0) 0x47 && eqb (getD r 1 0) 0x43) (groupItem true r) _ (λ t. whole-fits r 4 (Group true (u16At r 2)) (λ l. (l, refl, sym (and-snd (eqb (getD r 0 0) 0x47) (eqb (getD r 1 0) 0x43) t)))) (λ _.
     cond-fits r (eqb (getD r 0 0) 0x48 && eqb (getD r 1 0) 0x44) (headItem r) _ (λ t. whole-fits r 8 (Head (u16At r 2) (u16At r 4) (u16At r 6)) (λ l. (l, refl, refl, refl))) (λ _.
     cond-fits r (eqb (getD r 0 0) 0x45 && eqb (getD r 1 0) 0x4E) End Malformed (λ t. (ltb-false (length r) 2 room, eqb-true (getD r 0 0) 0x45 (and-fst (eqb (getD r 0 0) 0x45) (eqb (getD r 1 0) 0x4E) t))) (λ _. tt))))))
+
+-- a record that was read at a place
+module _ (s : List ℕ) (at : ℕ) (r : Read) (read : r ≡ recordAt s at) where
+  item-is : r .item ≡ itemIn (drop at s)
+  unfolding recordAt readAs
+  item-is = ap (λ (x : Read). x .item) read
+
+  next-is : r .next ≡ at + sizeOf (r .item)
+  unfolding recordAt readAs
+  next-is = ap (λ (x : Read). x .next) read ∙ ap (λ (x : Record). at + sizeOf x) (sym item-is)
+
+  fits-at : (i : Record) → r .item ≡ i → Fits (drop at s) i
+  fits-at i e = subst (Fits (drop at s)) (sym item-is ∙ e) (item-fits (drop at s))
+
+  -- a group: its count, its kind and its room
+  pub group-told : (q : Bool) (count : ℕ) → r .item ≡ Group q count → (r .next ≡ at + 4) × (at + 4 ≤ length s) × (count ≡ countAt s at) × (q ≡ eqb (getD s (at + 1) 0) 0x43)
+  unfolding countAt sizeOf
+  group-told q count e =
+      let f = fits-at (Group q count) e in
+      let g : r .next ≡ at + 4 = next-is ∙ ap (λ (x : Record). at + sizeOf x) e in
+      (g, omega (arith, f .0, length-drop at s), f .1 ∙ u16-drop s at 2, f .2 ∙ ap (λ (x : ℕ). eqb x 0x43) (getD-drop at s 1 0))
+
+  module _ (n : ℕ) (c : Counts) where
+    by-item : (i : Record) → r .item ≡ i → groupBy n c s at i ≡ groupTaken n c s at
+    unfolding groupTaken
+    by-item i e = ap (groupBy n c s at) (sym e ∙ item-is)
+
+    pub other-record : ((q : Bool) (count : ℕ) → r .item ≡ Group q count → ⊥) → Missing ≡ groupTaken n c s at
+    other-record h = step (r .item) refl
+      where
+        step : (i : Record) → r .item ≡ i → Missing ≡ groupTaken n c s at
+        step (Group q count) e = absurd (h q count e)
+        step (Head x y z) e = by-item (Head x y z) e
+        step (Superedge x y) e = by-item (Superedge x y) e
+        step End e = by-item End e
+        step Malformed e = by-item Malformed e
+
+pub numbers-members : (s : List ℕ) (at count : ℕ) → count ≡ countAt s at → numbersAt s (at + 4) count ≡ membersAt s at
+unfolding numbersAt membersAt
+numbers-members s at count e = rw e
+
+-- what the function hands back: the group, or none
+pub group-missing : (n : ℕ) (c : Counts) (s : List ℕ) (at : ℕ) (t now : List ℕ) → length now ≡ length t → Missing ≡ groupTaken n c s at → GroupTaken n c s at t now Missing
+group-missing n c s at t now size e = record { result = e; size = size; marks = λ q x d f. none f }
+  where
+    none : {q : Bool} {x : ℕ} {d : Counts} → Missing ≡ Taken q x d → Cleared (within (membersAt s at)) t now
+    none f = let z : _≡_ {A = ℕ} 0 1 = cc in absurd (omega arith)
+
+module _ (s : List ℕ) (at : ℕ) (r : Read) (read : r ≡ recordAt s at) (n : ℕ) (c : Counts) (t : List ℕ) (q : Bool) (count : ℕ) (item : r .item ≡ Group q count) where
+  four : r .next ≡ at + 4
+  four = group-told s at r read q count item .0
+
+  inside : at + 4 ≤ length s
+  inside = group-told s at r read q count item .1
+
+  pub no-room : length s - r .next < 2 * count → GroupTaken n c s at t t Missing
+  no-room l = group-missing n c s at t t refl (sym (unfold groupTaken in rw (← item-is s at r read, item, lt-leb (at + 4 + 2 * count) (length s) (omega (arith, four, inside)))))
+
+  module _ (o : Lessened) (room : 2 * count ≤ length s - r .next) (less : o ≡ lessGroup c) where
+    roomy : leb (at + 4 + 2 * count) (length s) ≡ true
+    roomy = le-leb (at + 4 + 2 * count) (length s) (omega (arith, four, inside))
+
+    pub no-group : o ≡ Over → GroupTaken n c s at t t Missing
+    no-group e = group-missing n c s at t t refl (sym (unfold groupTaken in rw (← item-is s at r read, item, roomy, ← less, e)))
+
+    module _ (d : Counts) (left : o ≡ Left d) (now : List ℕ) (p : Lessened) (members : MembersRead n d (numbersAt s (r .next) count) t now p) where
+      by-members : p ≡ membersRead n d (numbersAt s (at + 4) count)
+      by-members = members .result ∙ ap (λ (x : ℕ). membersRead n d (numbersAt s x count)) four
+
+      pub no-members : p ≡ Over → GroupTaken n c s at t now Missing
+      no-members e = group-missing n c s at t now (members .size) (sym (unfold groupTaken in rw (← item-is s at r read, item, roomy, ← less, left, ← by-members, e)))
+
+      pub all-members : (d′ : Counts) → p ≡ Left d′ → GroupTaken n c s at t now (Taken q (r .next + 2 * count) d′)
+      all-members d′ e = record {
+        result = sym (unfold groupTaken in rw (← item-is s at r read, item, roomy, ← less, left, ← by-members, e, four));
+        size = members .size;
+        marks = λ x y z f. rw (← numbers-members s at count (group-told s at r read q count item .2), ← four) (members .marks d′ e);
+      }
