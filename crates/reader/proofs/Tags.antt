@@ -17,3 +17,15 @@ not-a-group i t q count e = go (rw e at t)
   where
     go : OneOf (0 ∷ 2 ∷ 3 ∷ 4 ∷ []) (tagOf the-type (Group q count)) → ⊥
     go = ⊎-elim (λ x. omega arith) (⊎-elim (λ x. omega arith) (⊎-elim (λ x. omega arith) (λ x. omega arith)))
+
+pub not-a-superedge : (r : Record) → OneOf (0 ∷ 1 ∷ 4 ∷ []) (tagOf the-type r) → (i j : ℕ) → r ≡ Superedge i j → ⊥
+not-a-superedge r t i j e = go (rw e at t)
+  where
+    go : OneOf (0 ∷ 1 ∷ 4 ∷ []) (tagOf the-type (Superedge i j)) → ⊥
+    go = ⊎-elim (λ x. omega arith) (⊎-elim (λ x. omega arith) (λ x. omega arith))
+
+pub not-the-end : (r : Record) → OneOf (0 ∷ 1 ∷ 4 ∷ []) (tagOf the-type r) → r ≡ End → ⊥
+not-the-end r t e = go (rw e at t)
+  where
+    go : OneOf (0 ∷ 1 ∷ 4 ∷ []) (tagOf the-type End) → ⊥
+    go = ⊎-elim (λ x. omega arith) (⊎-elim (λ x. omega arith) (λ x. omega arith))

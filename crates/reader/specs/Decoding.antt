@@ -17,8 +17,10 @@ use Rattle.reader.specs.declared.Record.{Record}
 use Rattle.reader.specs.declared.Record.the-variants.{Head, Group, Superedge, End, Malformed}
 use Rattle.reader.specs.declared.Grouped.{Grouped}
 use Rattle.reader.specs.declared.Grouped.the-variants.{Taken, Missing}
+use Rattle.reader.specs.declared.Groups.{Groups}
+use Rattle.reader.specs.declared.Groups.the-variants.{Whole, Broken}
 use Rattle.reader.specs.Records.{itemIn, lessGroup, lessMember, spent}
-use Rattle.reader.specs.Drawing.{Added, GroupHere, inner, joined, membersAt}
+use Rattle.reader.specs.Drawing.{Added, Adding, GroupHere, inner, joined, membersAt}
 
 -- what is done with lessened counts, or without
 abbrev pub onLess : {A : Type 0} → Lessened → (Counts → A) → A → A
@@ -70,3 +72,101 @@ pub record GroupTaken (n : ℕ) (c : Counts) (s : List ℕ) (at : ℕ) (t after 
   pub result : r ≡ groupTaken n c s at
   pub size : length after ≡ length t
   pub marks : (clique : Bool) (next : ℕ) (d : Counts) → r ≡ Taken clique next d → Cleared (within (membersAt s at)) t after
+
+-- k groups taken one after the other
+abbrev pub onTaken : Grouped → (ℕ → Counts → Groups) → Groups
+onTaken (Taken clique next left) f = f next left
+onTaken Missing f = Broken
+
+unfoldable pub groupsRead : ℕ → ℕ → Counts → List ℕ → ℕ → Groups
+groupsRead n zero c s at = Whole at c
+groupsRead n (suc k) c s at = onTaken (groupTaken n c s at) (λ next d. groupsRead n k d s next)
+
+-- k groups from a place on, and what follows them
+unfoldable pub groupsFrom : List ℕ → ℕ → ℕ → List (Bool × List ℕ)
+groupsFrom s at k = groupsAt k (drop at s)
+
+unfoldable pub restFrom : List ℕ → ℕ → ℕ → List ℕ
+restFrom s at k = afterGroups k (drop at s)
+
+-- the edges that cliques among groups tell, and the nodes that groups have
+unfoldable pub inside : List (Bool × List ℕ) → ℕ → ℕ → Bool
+inside [] a b = false
+inside (g ∷ gs) a b = inner (g .0) (g .1) a b || inside gs a b
+
+unfoldable pub placed : List (Bool × List ℕ) → ℕ → Bool
+placed [] p = false
+placed (g ∷ gs) p = member p (g .1) || placed gs p
+
+-- the members of the group at a position
+unfoldable pub membersOf : List (Bool × List ℕ) → ℕ → List ℕ
+membersOf [] i = []
+membersOf (g ∷ gs) zero = g .1
+membersOf (g ∷ gs) (suc i) = membersOf gs i
+
+-- the first i groups stand at the places that were kept
+pub record Found (n : ℕ) (s : List ℕ) (gs : List (Bool × List ℕ)) (starts : List ℕ) (i : ℕ) : Type 0 where
+  pub here : (t : ℕ) → t < i → GroupHere n s (getD starts t 0)
+  pub members : (t : ℕ) → t < i → membersAt s (getD starts t 0) ≡ membersOf gs t
+
+-- underway: i groups are read
+pub record GroupsLeft (n g : ℕ) (c : Counts) (s : List ℕ) (from i : ℕ) (left : Counts) (at : ℕ) (starts edges₀ edges hidden₀ hidden : List ℕ) : Type 0 where
+  pub result : groupsRead n (g - i) left s at ≡ groupsRead n g c s from
+  pub drawn : Adding (inside (groupsFrom s from g)) (inside (groupsFrom s at (g - i))) edges₀ edges
+  pub marks : Clearing (placed (groupsFrom s from g)) (placed (groupsFrom s at (g - i))) hidden₀ hidden
+  pub found : Found n s (groupsFrom s from g) starts i
+  pub shifted : (t : ℕ) → membersOf (groupsFrom s from g) (i + t) ≡ membersOf (groupsFrom s at (g - i)) t
+  pub rest : restFrom s at (g - i) ≡ restFrom s from g
+
+-- all groups are read: their edges, their nodes, their places, and the place after them
+pub record GroupsHeld (n g : ℕ) (s : List ℕ) (from next : ℕ) (starts edges₀ edges hidden₀ hidden : List ℕ) : Type 0 where
+  pub drawn : Added (inside (groupsFrom s from g)) edges₀ edges
+  pub marks : Cleared (placed (groupsFrom s from g)) hidden₀ hidden
+  pub found : Found n s (groupsFrom s from g) starts g
+  pub rest : drop next s ≡ restFrom s from g
+
+pub record GroupsRead (n g : ℕ) (c : Counts) (s : List ℕ) (from : ℕ) (starts₀ starts edges₀ edges hidden₀ hidden : List ℕ) (r : Groups) : Type 0 where
+  pub result : r ≡ groupsRead n g c s from
+  pub places : length starts ≡ length starts₀
+  pub rows : length edges ≡ length edges₀
+  pub size : length hidden ≡ length hidden₀
+  pub held : (next : ℕ) (left : Counts) → r ≡ Whole next left → GroupsHeld n g s from next starts edges₀ edges hidden₀ hidden
+
+-- superedges stand by first, then second position, the lower position first
+unfoldable pub keyOf : ℕ → ℕ → ℕ
+keyOf i j = i * 65536 + j
+
+unfoldable pub follows : ℕ → ℕ → ℕ → ℕ → Bool
+follows g last i j = ltb i j && (ltb j g && ltb last (keyOf i j))
+
+-- superedges, at most k, up to the end record, with which the bytes and the counts end
+abbrev pub onSuperedge : Record → (ℕ → ℕ → Bool) → Bool → Bool
+onSuperedge (Superedge i j) f t = f i j
+onSuperedge End f t = t
+onSuperedge (Head n m g) f t = false
+onSuperedge (Group q count) f t = false
+onSuperedge Malformed f t = false
+
+unfoldable pub superedgesFit : ℕ → Counts → List ℕ → ℕ → ℕ → ℕ → Bool
+superedgesFit g c s last zero at = false
+superedgesFit g c s last (suc k) at = onSuperedge (itemIn (drop at s)) (λ i j. follows g last i j && superedgesFit g c s (keyOf i j) k (at + 6)) (spent c && eqb (at + 2) (length s))
+
+unfoldable pub pairsFrom : List ℕ → ℕ → ℕ → List (ℕ × ℕ)
+pairsFrom s at k = superedgesAt k (drop at s)
+
+-- the edges that superedges between groups tell
+unfoldable pub crossed : List (Bool × List ℕ) → List (ℕ × ℕ) → ℕ → ℕ → Bool
+crossed gs [] a b = false
+crossed gs (x ∷ xs) a b = joined (membersOf gs (x .0)) (membersOf gs (x .1)) a b || crossed gs xs a b
+
+-- underway: the superedges before a place are read
+pub record SuperedgesLeft (g : ℕ) (c : Counts) (s : List ℕ) (gs : List (Bool × List ℕ)) (from last at : ℕ) (edges₀ edges : List ℕ) : Type 0 where
+  pub most : ℕ
+  pub enough : length s ≤ at + most
+  pub result : superedgesFit g c s last most at ≡ superedgesFit g c s 0 (length s) from
+  pub drawn : Adding (crossed gs (pairsFrom s from (length s))) (crossed gs (pairsFrom s at most)) edges₀ edges
+
+pub record SuperedgesRead (g : ℕ) (c : Counts) (s : List ℕ) (gs : List (Bool × List ℕ)) (from : ℕ) (edges₀ edges : List ℕ) (r : Bool) : Type 0 where
+  pub result : r ≡ superedgesFit g c s 0 (length s) from
+  pub size : length edges ≡ length edges₀
+  pub drawn : r ≡ true → Added (crossed gs (pairsFrom s from (length s))) edges₀ edges

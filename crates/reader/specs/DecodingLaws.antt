@@ -135,15 +135,15 @@ item-fits r =
 
 -- a record that was read at a place
 module _ (s : List ℕ) (at : ℕ) (r : Read) (read : r ≡ recordAt s at) where
-  item-is : r .item ≡ itemIn (drop at s)
+  pub item-is : r .item ≡ itemIn (drop at s)
   unfolding recordAt readAs
   item-is = ap (λ (x : Read). x .item) read
 
-  next-is : r .next ≡ at + sizeOf (r .item)
+  pub next-is : r .next ≡ at + sizeOf (r .item)
   unfolding recordAt readAs
   next-is = ap (λ (x : Read). x .next) read ∙ ap (λ (x : Record). at + sizeOf x) (sym item-is)
 
-  fits-at : (i : Record) → r .item ≡ i → Fits (drop at s) i
+  pub fits-at : (i : Record) → r .item ≡ i → Fits (drop at s) i
   fits-at i e = subst (Fits (drop at s)) (sym item-is ∙ e) (item-fits (drop at s))
 
   -- a group: its count, its kind and its room

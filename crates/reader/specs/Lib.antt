@@ -5,3 +5,5 @@ pub mod RecordLaws
 pub mod BitLaws
 pub mod DrawingLaws
 pub mod DecodingLaws
+pub mod GroupLaws
+pub mod SuperedgeLaws

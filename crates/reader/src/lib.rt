@@ -6,7 +6,7 @@ ghost use lib.ListN.{length};
 ghost use Rattle.model.specs.Reading.{u16At};
 ghost use Rattle.model.specs.Graph.{rowWords};
 ghost use Rattle.reader.specs.Drawing.{Added, oneBit, oneEdge, fan, across, joined, inner, membersAt, GroupHere};
-ghost use Rattle.reader.specs.Decoding.{numbersAt, MembersRead, GroupTaken};
+ghost use Rattle.reader.specs.Decoding.{numbersAt, MembersRead, GroupTaken, GroupsRead, groupsFrom, Found, follows, SuperedgesRead};
 ghost use Rattle.reader.specs.Records.{lessMember, lessGroup, spent, markAt, malformedAt, headAt, groupAt, superedgeAt, recordAt};
 
 // What the head still promises: members and groups not yet read.
@@ -314,4 +314,100 @@ fn take_group(file: &[u8], at: usize, n: usize, counts: Counts, hidden: &mut [u1
         next: from + 2 * members,
         left,
     }
+}
+
+// All groups read: the place after them, and what is left of the counts.
+pub enum Groups {
+    Whole { next: usize, left: Counts },
+    Broken,
+}
+
+// The groups of a file. The place of each is kept, and a clique's edges are drawn.
+fn read_groups(
+    file: &[u8],
+    from: usize,
+    n: usize,
+    g: usize,
+    counts: Counts,
+    starts: &mut [usize],
+    edges: &mut [u64],
+    hidden: &mut [u16],
+) -> Groups
+    requires { ⌜ (n ≤ 512) × (g ≤ length (now starts)) × (4096 ≤ length (now edges)) × (n ≤ length (now hidden)) ⌝ }
+    ensures { λ r. ⌜ GroupsRead n g counts (now (file .entry)) from (now (starts .entry)) (now (starts .exit)) (now (edges .entry)) (now (edges .exit)) (now (hidden .entry)) (now (hidden .exit)) r ⌝ }
+{
+    let mut at = from;
+    let mut left = counts;
+    for i in 0..g {
+        let Grouped::Taken {
+            clique,
+            next,
+            left: less,
+        } = take_group(file, at, n, left, hidden)
+        else {
+            return Groups::Broken;
+        };
+        draw_clique(edges, file, at, clique);
+        starts[i] = at;
+        at = next;
+        left = less;
+    }
+    Groups::Whole { next: at, left }
+}
+
+// Whether a superedge stands after the last one, between two different groups, the lower position first.
+fn in_order(g: usize, last: usize, i: usize, j: usize) -> bool
+    requires { ⌜ (i < 65536) × (j < 65536) ⌝ }
+    ensures { λ r. ⌜ r ≡ follows g last i j ⌝ }
+{
+    if i >= j {
+        return false;
+    }
+    if j >= g {
+        return false;
+    }
+    last < i * 65536 + j
+}
+
+// The superedges of a file up to its end record, where the counts and the bytes end too.
+fn read_superedges(
+    file: &[u8],
+    from: usize,
+    n: usize,
+    g: usize,
+    counts: Counts,
+    starts: &[usize],
+    edges: &mut [u64],
+) -> bool
+    requires { ⌜ (n ≤ 512) × (g ≤ length (now starts)) × (4096 ≤ length (now edges)) × Found n (now file) (groupsFrom (now file) 8 g) (now starts) g ⌝ }
+    ensures { λ r. ⌜ SuperedgesRead g counts (now (file .entry)) (groupsFrom (now (file .entry)) 8 g) from (now (edges .entry)) (now (edges .exit)) r ⌝ }
+{
+    let mut at = from;
+    let mut last = 0;
+    while at < file.len() {
+        let read = read_record(file, at);
+        let item = read.item;
+        match item {
+            Record::Superedge { first, second } => {
+                let i = first as usize;
+                let j = second as usize;
+                if !in_order(g, last, i, j) {
+                    return false;
+                }
+                draw_superedge(edges, file, starts[i], starts[j]);
+                last = i * 65536 + j;
+                at = read.next;
+            }
+            Record::End => {
+                if !counts.is_spent() {
+                    return false;
+                }
+                return read.next == file.len();
+            }
+            _ => {
+                return false;
+            }
+        }
+    }
+    false
 }
