@@ -29,3 +29,9 @@ not-the-end r t e = go (rw e at t)
   where
     go : OneOf (0 ∷ 1 ∷ 4 ∷ []) (tagOf the-type End) → ⊥
     go = ⊎-elim (λ x. omega arith) (⊎-elim (λ x. omega arith) (λ x. omega arith))
+
+pub not-a-head : (r : Record) → OneOf (1 ∷ 2 ∷ 3 ∷ 4 ∷ []) (tagOf the-type r) → (n m g : ℕ) → r ≡ Head n m g → ⊥
+not-a-head r t n m g e = go (rw e at t)
+  where
+    go : OneOf (1 ∷ 2 ∷ 3 ∷ 4 ∷ []) (tagOf the-type (Head n m g)) → ⊥
+    go = ⊎-elim (λ x. omega arith) (⊎-elim (λ x. omega arith) (⊎-elim (λ x. omega arith) (λ x. omega arith)))

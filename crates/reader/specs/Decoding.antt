@@ -19,6 +19,8 @@ use Rattle.reader.specs.declared.Grouped.{Grouped}
 use Rattle.reader.specs.declared.Grouped.the-variants.{Taken, Missing}
 use Rattle.reader.specs.declared.Groups.{Groups}
 use Rattle.reader.specs.declared.Groups.the-variants.{Whole, Broken}
+use Rattle.reader.specs.declared.Decoded.{Decoded}
+use Rattle.reader.specs.declared.Decoded.the-variants as answer
 use Rattle.reader.specs.Records.{itemIn, lessGroup, lessMember, spent}
 use Rattle.reader.specs.Drawing.{Added, Adding, GroupHere, inner, joined, membersAt}
 
@@ -170,3 +172,54 @@ pub record SuperedgesRead (g : ℕ) (c : Counts) (s : List ℕ) (gs : List (Bool
   pub result : r ≡ superedgesFit g c s 0 (length s) from
   pub size : length edges ≡ length edges₀
   pub drawn : r ≡ true → Added (crossed gs (pairsFrom s from (length s))) edges₀ edges
+
+-- at most 512 nodes, at most all of them visible, at most as many groups as visible nodes
+unfoldable pub sized : ℕ → ℕ → ℕ → Bool
+sized n m g = leb n maxNodes && (leb m n && leb g m)
+
+abbrev pub onHead : {A : Type 0} → Record → (ℕ → ℕ → ℕ → A) → A → A
+onHead (Head n m g) f a = f n m g
+onHead (Group q count) f a = a
+onHead (Superedge i j) f a = a
+onHead End f a = a
+onHead Malformed f a = a
+
+abbrev pub onWhole : Groups → (ℕ → Counts → Bool) → Bool
+onWhole (Whole next left) f = f next left
+onWhole Broken f = false
+
+-- after the head, which has 8 bytes: all groups, then all superedges
+unfoldable pub bodyFits : List ℕ → ℕ → ℕ → ℕ → Bool
+bodyFits s n m g = onWhole (groupsRead n g (record { members = m; groups = g }) s 8) (λ next left. superedgesFit g left s 0 (length s) next)
+
+unfoldable pub accepted : List ℕ → Bool
+accepted s = onHead (itemIn s) (λ n m g. sized n m g && bodyFits s n m g) false
+
+unfoldable pub decoded : List ℕ → Decoded
+decoded s = cond (accepted s) (answer.Graph (u16At s 2)) answer.NoRelease
+
+-- what an accepted file tells: groups, superedges, edges
+unfoldable pub toldGroups : List ℕ → List (Bool × List ℕ)
+toldGroups s = groupsFrom s 8 (u16At s 6)
+
+unfoldable pub toldPairs : List ℕ → List (ℕ × ℕ)
+toldPairs s = superedgesAt (length s) (restFrom s 8 (u16At s 6))
+
+unfoldable pub toldEdge : List ℕ → ℕ → ℕ → Bool
+toldEdge s a b = inside (toldGroups s) a b || crossed (toldGroups s) (toldPairs s) a b
+
+-- the body of a file drawn: edges and marks are what it tells
+pub record Drawn (s : List ℕ) (n m g : ℕ) (edges₀ edges hidden₀ hidden : List ℕ) (r : Bool) : Type 0 where
+  pub result : r ≡ bodyFits s n m g
+  pub rows : length edges ≡ length edges₀
+  pub size : length hidden ≡ length hidden₀
+  pub drawn : r ≡ true → Added (λ a b. inside (groupsFrom s 8 g) a b || crossed (groupsFrom s 8 g) (superedgesAt (length s) (restFrom s 8 g)) a b) edges₀ edges
+  pub marks : r ≡ true → Cleared (placed (groupsFrom s 8 g)) hidden₀ hidden
+
+-- the answer, and what the tables hold then
+pub record Decodes (s edges hidden : List ℕ) (r : Decoded) : Type 0 where
+  pub result : r ≡ decoded s
+  pub rows : length edges ≡ 4096
+  pub size : length hidden ≡ 512
+  pub bits : accepted s ≡ true → (a b : ℕ) → b < 512 → edgeBit edges a b ≡ toldEdge s a b
+  pub marks : accepted s ≡ true → (p : ℕ) → p < 512 → getD hidden p 0 ≡ cond (placed (toldGroups s) p) 0 1

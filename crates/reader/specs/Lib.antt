@@ -7,3 +7,4 @@ pub mod DrawingLaws
 pub mod DecodingLaws
 pub mod GroupLaws
 pub mod SuperedgeLaws
+pub mod DecodedLaws

@@ -2,11 +2,11 @@
 ghost use mathlib.Core.Path.{_≡_};
 ghost use mathlib.Core.Bool.{Bool};
 ghost use Prim.Native.Nat.{_+_, _*_, _≤_, _<_};
-ghost use lib.ListN.{length};
+ghost use lib.ListN.{length, replicate};
 ghost use Rattle.model.specs.Reading.{u16At};
 ghost use Rattle.model.specs.Graph.{rowWords};
 ghost use Rattle.reader.specs.Drawing.{Added, oneBit, oneEdge, fan, across, joined, inner, membersAt, GroupHere};
-ghost use Rattle.reader.specs.Decoding.{numbersAt, MembersRead, GroupTaken, GroupsRead, groupsFrom, Found, follows, SuperedgesRead};
+ghost use Rattle.reader.specs.Decoding.{numbersAt, MembersRead, GroupTaken, GroupsRead, groupsFrom, Found, follows, SuperedgesRead, sized, Drawn, Decodes};
 ghost use Rattle.reader.specs.Records.{lessMember, lessGroup, spent, markAt, malformedAt, headAt, groupAt, superedgeAt, recordAt};
 
 // What the head still promises: members and groups not yet read.
@@ -410,4 +410,79 @@ fn read_superedges(
         }
     }
     false
+}
+
+// The graph that a file tells, in the lent arrays, or bytes that are no release.
+pub enum Decoded {
+    Graph { n: usize },
+    NoRelease,
+}
+
+// Whether a graph can have the head's numbers.
+fn head_fits(n: usize, m: usize, g: usize) -> bool
+    ensures { λ r. ⌜ r ≡ sized n m g ⌝ }
+{
+    if n > rows::Graph::NODES {
+        return false;
+    }
+    if m > n {
+        return false;
+    }
+    g <= m
+}
+
+// What follows the head: all groups, then all superedges.
+fn draw(
+    file: &[u8],
+    from: usize,
+    n: usize,
+    m: usize,
+    g: usize,
+    edges: &mut [u64],
+    hidden: &mut [u16],
+) -> bool
+    requires { ⌜ (from ≡ 8) × (n ≤ 512) × (g ≤ 512) × (4096 ≤ length (now edges)) × (n ≤ length (now hidden)) ⌝ }
+    ensures { λ r. ⌜ Drawn (now (file .entry)) n m g (now (edges .entry)) (now (edges .exit)) (now (hidden .entry)) (now (hidden .exit)) r ⌝ }
+{
+    let mut starts = [0usize; 512];
+    let counts = Counts {
+        members: m,
+        groups: g,
+    };
+    let Groups::Whole { next, left } = read_groups(
+        file,
+        from,
+        n,
+        g,
+        counts,
+        &mut starts,
+        edges,
+        hidden,
+    ) else {
+        return false;
+    };
+    read_superedges(file, next, n, g, left, &starts, edges)
+}
+
+// A release file read into the lent arrays: no edge bit is set before, and every mark is 1.
+pub fn decode(file: &[u8], edges: &mut [u64], hidden: &mut [u16]) -> Decoded
+    requires { ⌜ (now edges ≡ replicate 4096 0) × (now hidden ≡ replicate 512 1) ⌝ }
+    ensures { λ r. ⌜ Decodes (now (file .entry)) (now (edges .exit)) (now (hidden .exit)) r ⌝ }
+{
+    let read = read_record(file, 0);
+    let from = read.next;
+    let item = read.item;
+    let Record::Head { n, m, g } = item else {
+        return Decoded::NoRelease;
+    };
+    let nodes = n as usize;
+    let visible = m as usize;
+    let groups = g as usize;
+    if !head_fits(nodes, visible, groups) {
+        return Decoded::NoRelease;
+    }
+    if !draw(file, from, nodes, visible, groups, edges, hidden) {
+        return Decoded::NoRelease;
+    }
+    Decoded::Graph { n: nodes }
 }

@@ -73,11 +73,12 @@ shared-slice-read-draw-superedge-2 c = let e = sym (not-false _ (c .before .befo
 
 -- src/lib.rt:397:17
 draw-superedge-requires : tie.Need-draw-superedge-requires Inv-loop μ-loop
-draw-superedge-requires c κs =     let e = sym (not-false _ (c .before .before .before .if1 .left)) ∙ c .before .before .before .before .in-order .ensures in
-    let f = c .before .before .before .before .before .before .before .before .before .before .before .before .before .before .pre .3 in
-    (omega (arith, c .before .before .before .before .before .before .before .before .before .before .loop .inv .drawn .size, c .before .before .before .before .before .before .before .before .before .before .before .before .before .before .pre .2),
-    here-most _ _ _ (c .before .before .before .before .before .before .before .before .before .before .before .before .before .before .pre .0) (f .here _ (omega (arith, upward _ _ _ _ e, positioned _ _ _ _ e))),
-    here-most _ _ _ (c .before .before .before .before .before .before .before .before .before .before .before .before .before .before .pre .0) (f .here _ (positioned _ _ _ _ e)))
+draw-superedge-requires c κs = let e = sym (not-false _ (c .before .before .before .if1 .left)) ∙ c .before .before .before .before .in-order .ensures in
+    let f = c .before .before .before .before .before .before .before .before .before .before .before .before .before .before .pre .3 in (
+      omega (arith, c .before .before .before .before .before .before .before .before .before .before .loop .inv .drawn .size, c .before .before .before .before .before .before .before .before .before .before .before .before .before .before .pre .2),
+      here-most _ _ _ (c .before .before .before .before .before .before .before .before .before .before .before .before .before .before .pre .0) (f .here _ (omega (arith, upward _ _ _ _ e, positioned _ _ _ _ e))),
+      here-most _ _ _ (c .before .before .before .before .before .before .before .before .before .before .before .before .before .before .pre .0) (f .here _ (positioned _ _ _ _ e)),
+    )
 
 -- src/lib.rt:398:24
 mul-last : tie.Need-mul-last Inv-loop μ-loop
