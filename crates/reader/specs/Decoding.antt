@@ -223,3 +223,11 @@ pub record Decodes (s edges hidden : List ℕ) (r : Decoded) : Type 0 where
   pub size : length hidden ≡ 512
   pub bits : accepted s ≡ true → (a b : ℕ) → b < 512 → edgeBit edges a b ≡ toldEdge s a b
   pub marks : accepted s ≡ true → (p : ℕ) → p < 512 → getD hidden p 0 ≡ cond (placed (toldGroups s) p) 0 1
+
+-- the graph that the arrays hold: by edge bits and marks
+unfoldable pub graphIn : ℕ → List ℕ → List ℕ → Graph
+graphIn n edges hidden = record {
+  nodeCount = n;
+  edge = λ p q. ltb p n && (ltb q n && edgeBit edges p q);
+  hidden = λ p. ltb p n && eqb (getD hidden p 0) 1;
+}

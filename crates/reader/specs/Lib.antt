@@ -8,3 +8,4 @@ pub mod DecodingLaws
 pub mod GroupLaws
 pub mod SuperedgeLaws
 pub mod DecodedLaws
+pub mod ToldLaws
