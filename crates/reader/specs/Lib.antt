@@ -9,3 +9,4 @@ pub mod GroupLaws
 pub mod SuperedgeLaws
 pub mod DecodedLaws
 pub mod ToldLaws
+pub mod AcceptLaws
