@@ -231,3 +231,17 @@ graphIn n edges hidden = record {
   edge = λ p q. ltb p n && (ltb q n && edgeBit edges p q);
   hidden = λ p. ltb p n && eqb (getD hidden p 0) 1;
 }
+
+-- the graph that an accepted file tells: nodes missing from all groups are hidden and without edges
+unfoldable pub toldGraph : List ℕ → Graph
+toldGraph s = record {
+  nodeCount = u16At s 2;
+  edge = toldEdge s;
+  hidden = λ p. ltb p (u16At s 2) && not (placed (toldGroups s) p);
+}
+
+-- arrays that hold a graph of n nodes, whatever the bytes were: nothing is set outside its nodes
+pub record HoldsGraph (n : ℕ) (edges hidden : List ℕ) : Type 0 where
+  pub proper : Proper (graphIn n edges hidden)
+  pub outside : (p q : ℕ) → q < 512 → edgeBit edges p q ≡ true → (p < n) × (q < n)
+  pub marks : (p : ℕ) → p < 512 → getD hidden p 0 ≤ 1

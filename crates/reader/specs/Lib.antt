@@ -10,3 +10,4 @@ pub mod SuperedgeLaws
 pub mod DecodedLaws
 pub mod ToldLaws
 pub mod AcceptLaws
+pub mod HeldLaws
