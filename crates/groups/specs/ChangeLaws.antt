@@ -1,0 +1,181 @@
+-- The three tables before, within and after the update of an edge, and the table built from nothing.
+use mathlib.Core.Path.{_≡_, refl, sym, subst, _∙_, ap}
+use mathlib.Core.Logic.{_≢_, _⊎_, inl, inr}
+use mathlib.Core.Bool.{Bool, true, false, cond}
+use mathlib.Core.List.{List}
+use Prim.Native.Nat.{ℕ, _+_, _*_, _≤_, _<_, min, max}
+use native.Mathlib.Omega.{arith}
+use lib.Dec.{eqb, ltb}
+use lib.ListN.{length}
+use lib.IntN.{subℕ}
+use borrow.Author.Tests.{eqb-true, eqb-false, ltb-true, ltb-false, lt-ltb}
+use Rattle.model.specs.Lists.{nodes}
+use Rattle.model.specs.Graph.{Graph, Proper, maxNodes, nodeNumbers, rowWords}
+use Rattle.model.specs.Grouping.{similar}
+use Rattle.model.specs.Tables.{Tables, edgesOf, graphOf, keysOf, nodeNumber, nodesOf, tablesOf}
+use Rattle.model.specs.Updates.{Update, answer, onEdge, refusal, updated}
+use Rattle.model.specs.TestLaws.{decide}
+use Rattle.model.specs.TableLaws.{length-edges, length-keys, length-nodes-of, read-back}
+use Rattle.model.specs.UpdateLaws.{apart, proper-updated, u-inside, v-inside}
+use Rattle.rows.specs.Rows.{Changed, KeysChanged, lent}
+use Rattle.rows.specs.Search.{Ready, edgesIn}
+use Rattle.rows.specs.SearchLaws.{edges-in, ready}
+use Rattle.rows.specs.EdgeLaws.{edges-updated}
+use Rattle.rows.specs.KeyLaws.{keys-updated}
+use Rattle.rings.specs.Steps.{Back, Lone, Parted, Sound, Taken}
+use Rattle.rings.specs.UpdateLaws.{sound₀, sound₁, sound₂, sound₃}
+use Rattle.rings.specs.BuildLaws.{Built, built-more, built-none, built-sound}
+use Rattle.rings.specs.NodesLaws.{graph-parts}
+use Rattle.rings.specs.GraphLaws.{EdgeUpdate, Ends, build-nodes, update-answer, update-nodes, update-shift}
+use Rattle.groups.specs.Groups.{Asked, Bare, edgeUpdate, similarIn}
+
+edge-kind : (insert : Bool) (u v : ℕ) → onEdge (edgeUpdate insert u v) ≡ true
+edge-kind true u v = refl
+edge-kind false u v = refl
+
+inserts : (insert : Bool) → eqb (cond insert 1 2) 1 ≡ insert
+inserts true = refl
+inserts false = refl
+
+-- the tables of a graph are read as it
+pub tables-read : {g : Graph} {t : Tables} → Proper g → t ≡ tablesOf g → graphOf (g .nodeCount) t ≡ g
+tables-read {g} h e = ap (graphOf (g .nodeCount)) e ∙ read-back g h
+
+pub asked : {g : Graph} {t : Tables} {u v : ℕ} {insert : Bool} → Proper g → t ≡ tablesOf g → refusal g (edgeUpdate insert u v) ≡ 0 → Asked (g .nodeCount) u v insert t
+asked {g} {t} {u} {v} {insert} h e ok =
+    let r : graphOf (g .nodeCount) t ≡ g = tables-read h e in
+    record { proper = subst Proper (sym r) h; same = e ∙ ap tablesOf (sym r); accepted = ap (λ (x : Graph). refusal x (edgeUpdate insert u v)) r ∙ ok }
+
+module _ {n u v : ℕ} {insert : Bool} {t : Tables} (a : Asked n u v insert t) where
+  abbrev g : Graph
+  g = graphOf n t
+
+  abbrev c : Update
+  c = edgeUpdate insert u v
+
+  new : Proper (updated (graphOf n t) (edgeUpdate insert u v))
+  new = proper-updated g c (a .proper) (a .accepted)
+
+  pub asked-ends : (u < n) × (v < n) × (u ≢ v)
+  unfolding graphOf
+  asked-ends = (u-inside g c (a .proper) (a .accepted), v-inside g c (a .proper) (a .accepted) (edge-kind insert u v), apart g c (a .proper) (a .accepted) (edge-kind insert u v))
+
+  pub asked-sizes : (n ≤ maxNodes) × (length (t .edges) ≡ rowWords * n) × (length (t .nodes) ≡ nodeNumbers * n) × (length (t .keys) ≡ 2 * n)
+  unfolding graphOf tablesOf
+  asked-sizes =
+      (a .proper .small, ap (λ (s : Tables). length (s .edges)) (a .same) ∙ length-edges g, ap (λ (s : Tables). length (s .nodes)) (a .same) ∙ length-nodes-of g, ap (λ (s : Tables). length (s .keys)) (a .same) ∙ length-keys g)
+
+  pub asked-lesser : {x : ℕ} → x ≡ min u v → x < n
+  asked-lesser e = let h = asked-ends in omega (arith, h .0, h .1)
+
+  pub asked-greater : {x : ℕ} → x ≡ max u v → x < n
+  asked-greater e = let h = asked-ends in omega (arith, h .0, h .1)
+
+  -- the lesser and the greater of u and v are the edge's ends
+  ends : {x y : ℕ} → x ≡ min u v → y ≡ max u v → Ends (edgeUpdate insert u v) x y
+  ends {x} {y} e f = step (decide (ltb u v))
+    where
+      step : (ltb u v ≡ true) ⊎ (ltb u v ≡ false) → ((x ≡ u) × (y ≡ v)) ⊎ ((x ≡ v) × (y ≡ u))
+      step (inl t) = let h = ltb-true u v t in inl (omega arith, omega arith)
+      step (inr t) = let h = ltb-false u v t in inr (omega arith, omega arith)
+
+  asked-update : {x y : ℕ} → x ≡ min u v → y ≡ max u v → EdgeUpdate (graphOf n t) (edgeUpdate insert u v) x y (t .nodes)
+  asked-update e f = record { proper = a .proper; accepted = a .accepted; edge = edge-kind insert u v; ends = ends e f; table = unfold tablesOf in ap (λ (s : Tables). s .nodes) (a .same) }
+
+  module _ {x y : ℕ} (lx : x ≡ min u v) (my : y ≡ max u v) where
+    pub asked₀ : Sound n (t .nodes)
+    unfolding graphOf
+    asked₀ = sound₀ (update-shift (asked-update lx my))
+
+    module _ {t₁ : List ℕ} (x₁ : Taken n x (t .nodes) t₁) where
+      pub asked₁ : Sound n t₁
+      unfolding graphOf
+      asked₁ = sound₁ (update-shift (asked-update lx my)) x₁
+
+      module _ {t₂ : List ℕ} (x₂ : Taken n y t₁ t₂) where
+        pub asked₂ : Sound n t₂
+        unfolding graphOf
+        asked₂ = sound₂ (update-shift (asked-update lx my)) x₁ x₂
+
+        module _ {es ks : List ℕ} (d : Changed u v (t .edges) es) (k : KeysChanged insert u v (t .keys) ks) where
+          edges-after : es ≡ edgesOf (updated (graphOf n t) (edgeUpdate insert u v))
+          unfolding tablesOf
+          edges-after = edges-updated g c (a .proper) (a .accepted) (edge-kind insert u v) es (subst (λ s. Changed u v s es) (ap (λ (s : Tables). s .edges) (a .same)) d)
+
+          keys-after : ks ≡ keysOf (updated (graphOf n t) (edgeUpdate insert u v))
+          unfolding tablesOf
+          keys-after =
+              keys-updated g c (a .proper) (a .accepted) (edge-kind insert u v) ks
+              (subst (λ b. KeysChanged b u v (keysOf g) ks) (sym (inserts insert)) (subst (λ s. KeysChanged insert u v s ks) (ap (λ (s : Tables). s .keys) (a .same)) k))
+
+          pub asked-ready : Ready n es ks
+          unfolding graphOf updated
+          asked-ready = rw (edges-after, keys-after) (ready (updated g c) new)
+
+          alike : (p : ℕ) → similarIn n es p ≡ similar (nodes n) (updated (graphOf n t) (edgeUpdate insert u v) .edge) p
+          unfolding graphOf updated
+          alike p = ap (λ (s : List ℕ). similar (nodes n) (edgesIn n s) p) edges-after ∙ ap (λ (f : ℕ → ℕ → Bool). similar (nodes n) f p) (edges-in (updated g c) new)
+
+          module _ {z₃ : ℕ} {t₃ : List ℕ} (x₃ : Back n n x y z₃ (similarIn n es x) t₂ t₃) where
+            back₃ : Back n n x y z₃ (similar (nodes n) (updated (graphOf n t) (edgeUpdate insert u v) .edge) x) t₂ t₃
+            back₃ = subst (λ s. Back n n x y z₃ s t₂ t₃) (alike x) x₃
+
+            pub asked₃ : Sound n t₃
+            unfolding graphOf
+            asked₃ = sound₃ (update-shift (asked-update lx my)) x₁ x₂ back₃
+
+            module _ {z₄ : ℕ} {t₄ : List ℕ} (x₄ : Back n n y y z₄ (similarIn n es y) t₃ t₄) where
+              back₄ : Back n n y y z₄ (similar (nodes n) (updated (graphOf n t) (edgeUpdate insert u v) .edge) y) t₃ t₄
+              back₄ = subst (λ s. Back n n y y z₄ s t₃ t₄) (alike y) x₄
+
+              pub asked-tables : lent es t₄ ks ≡ tablesOf (updated (graphOf n t) (edgeUpdate insert u v))
+              unfolding graphOf tablesOf
+              asked-tables =
+                  let e₁ = edges-after in
+                  let e₂ = update-nodes (asked-update lx my) x₁ x₂ back₃ back₄ in
+                  let e₃ = keys-after in
+                  λ i. record { edges = e₁ i; nodes = e₂ i; keys = e₃ i }
+
+              pub asked-answer : {z₁ z₂ : ℕ} → Parted (nodeNumber (t .nodes) x 1) x z₁ → Parted (nodeNumber t₁ y 1) y z₂ → subℕ (z₁ + z₂) (z₃ + z₄) ≡ answer (graphOf n t) (edgeUpdate insert u v)
+              unfolding graphOf
+              asked-answer p₁ p₂ = update-answer (asked-update lx my) x₁ x₂ back₃ back₄ p₁ p₂
+
+-- the table built from nothing
+module _ {n : ℕ} {t : Tables} (a : Bare n t) where
+  pub bare-ready : Ready n (t .edges) (t .keys)
+  unfolding graphOf
+  bare-ready = rw (a .edges, a .keys) (ready (graphOf n t) (a .proper))
+
+  pub bare-small : n ≤ maxNodes
+  unfolding graphOf
+  bare-small = a .proper .small
+
+  alike-bare : similar (nodes n) (graphOf n t .edge) ≡ similarIn n (t .edges)
+  unfolding graphOf edgesIn
+  alike-bare = refl
+
+  mark : (p : ℕ) → p < n → nodeNumber (t .nodes) p 3 ≡ cond (graphOf n t .hidden p) 1 0
+  unfolding graphOf
+  mark p hp = step (lt-ltb p n hp) (decide (eqb (nodeNumber (t .nodes) p 3) 1))
+    where
+      step : ltb p n ≡ true → (eqb (nodeNumber (t .nodes) p 3) 1 ≡ true) ⊎ (eqb (nodeNumber (t .nodes) p 3) 1 ≡ false) → nodeNumber (t .nodes) p 3 ≡ cond (graphOf n t .hidden p) 1 0
+      step l (inl e) = rw (l, e) (eqb-true _ _ e)
+      step l (inr e) = rw (l, e) (omega (arith, a .marks p hp, eqb-false (nodeNumber (t .nodes) p 3) 1 e))
+
+  module _ {t₁ : List ℕ} (l : Lone n (t .nodes) t₁) where
+    pub bare-start : Built n 0 (similarIn n (t .edges)) t₁ t₁
+    unfolding graphOf edgesIn
+    bare-start = built-none _ (graph-parts (graphOf n t) (a .proper)) bare-small (a .size) l
+
+    module _ {m : ℕ} {t₂ : List ℕ} (b : Built n m (similarIn n (t .edges)) t₁ t₂) where
+      pub bare-sound : m < n → Sound n t₂
+      unfolding graphOf edgesIn
+      bare-sound h = built-sound _ (graph-parts (graphOf n t) (a .proper)) b h
+
+      pub bare-more : m < n → {z : ℕ} {t₃ : List ℕ} → Back n m m m z (similarIn n (t .edges) m) t₂ t₃ → Built n (m + 1) (similarIn n (t .edges)) t₁ t₃
+      unfolding graphOf edgesIn
+      bare-more h x = built-more _ (graph-parts (graphOf n t) (a .proper)) b h x
+
+      pub bare-done : n ≤ m → t₂ ≡ nodesOf (graphOf n t)
+      unfolding graphOf edgesIn
+      bare-done h = build-nodes (graphOf n t) (a .proper) l b h mark

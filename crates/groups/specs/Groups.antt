@@ -1,0 +1,34 @@
+-- What the calls on the node table ask of the three tables.
+use mathlib.Core.Path.{_≡_}
+use mathlib.Core.Bool.{Bool, cond}
+use mathlib.Core.List.{List}
+use Prim.Native.Nat.{ℕ, _*_, _<_}
+use lib.ListN.{length}
+use Rattle.model.specs.Lists.{nodes}
+use Rattle.model.specs.Graph.{Proper, nodeNumbers}
+use Rattle.model.specs.Grouping.{similar}
+use Rattle.model.specs.Tables.{Tables, edgesOf, graphOf, keysOf, nodeNumber, tablesOf}
+use Rattle.model.specs.Updates.{Update, refusal}
+use Rattle.rows.specs.Search.{edgesIn}
+
+-- who shares a group, by an edge table
+abbrev pub similarIn : ℕ → List ℕ → ℕ → ℕ → Bool
+similarIn n edges = similar (nodes n) (edgesIn n edges)
+
+-- edges and keys are those of the graph that edges and marks tell; the other numbers of the node table are free
+pub record Bare (n : ℕ) (t : Tables) : Type 0 where
+  pub proper : Proper (graphOf n t)
+  pub edges : t .edges ≡ edgesOf (graphOf n t)
+  pub keys : t .keys ≡ keysOf (graphOf n t)
+  pub size : length (t .nodes) ≡ nodeNumbers * n
+  pub marks : (p : ℕ) → p < n → nodeNumber (t .nodes) p 3 < 2
+
+-- the update that inserts or deletes the edge between u and v
+abbrev pub edgeUpdate : Bool → ℕ → ℕ → Update
+edgeUpdate insert u v = record { kind = cond insert 1 2; u = u; v = v }
+
+-- the tables are those of the graph that they are read as, and it does not refuse the update
+pub record Asked (n u v : ℕ) (insert : Bool) (t : Tables) : Type 0 where
+  pub proper : Proper (graphOf n t)
+  pub same : t ≡ tablesOf (graphOf n t)
+  pub accepted : refusal (graphOf n t) (edgeUpdate insert u v) ≡ 0

@@ -1,0 +1,236 @@
+// The node table kept in place: for each node the least member of its group, the next greater member, the previous one, the mark.
+ghost use mathlib.Core.Path.{_≡_};
+ghost use mathlib.Core.Logic.{_≢_, _⊎_};
+ghost use Prim.Native.Nat.{_+_, _*_, _≤_, _<_, min, max};
+ghost use lib.ListN.{length};
+ghost use lib.IntN.{subℕ};
+ghost use Rattle.model.specs.Graph.{maxNodes, nodeNumbers};
+ghost use Rattle.model.specs.Tables.{graphOf, nodeNumber, nodesOf, tablesOf};
+ghost use Rattle.model.specs.Updates.{answer, updated};
+ghost use Rattle.rows.specs.Rows.{lent};
+ghost use Rattle.rows.specs.Search.{Ready};
+ghost use Rattle.rings.specs.Steps.{
+  Back,
+  Before,
+  Heir,
+  Linked,
+  Lone,
+  Parted,
+  Placed,
+  Renamed,
+  Sound,
+  Stored,
+  Taken,
+  rising,
+};
+ghost use Rattle.groups.specs.Groups.{Asked, Bare, edgeUpdate, similarIn};
+use rows::Graph;
+
+const LEAST: usize = 0;
+
+const NEXT: usize = 1;
+
+const PREVIOUS: usize = 2;
+
+fn wide(x: u16) -> usize
+    ensures { λ r. ⌜ r ≡ x ⌝ }
+{
+    x as usize
+}
+
+// Number k of node p.
+fn number(nodes: &[u16], p: usize, k: usize) -> usize
+    requires { ⌜ nodeNumbers * p + k < length (now nodes) ⌝ }
+    ensures { λ r. ⌜ r ≡ nodeNumber (now (nodes .entry)) p k ⌝ }
+{
+    wide(nodes[Graph::NODE_NUMBERS * p + k])
+}
+
+fn store(nodes: &mut [u16], p: usize, k: usize, v: usize)
+    requires { ⌜ (nodeNumbers * p + k < length (now nodes)) × (v < 65536) ⌝ }
+    ensures { λ _. ⌜ Stored p k v (now (nodes .entry)) (now (nodes .exit)) ⌝ }
+{
+    nodes[Graph::NODE_NUMBERS * p + k] = v as u16;
+}
+
+// b follows a.
+fn link(nodes: &mut [u16], n: usize, a: usize, b: usize)
+    requires { ⌜ (n ≤ maxNodes) × (length (now nodes) ≡ nodeNumbers * n) × (a < n) × (b < n) ⌝ }
+    ensures { λ _. ⌜ Linked a b (now (nodes .entry)) (now (nodes .exit)) ⌝ }
+{
+    store(nodes, a, NEXT, b);
+    store(nodes, b, PREVIOUS, a);
+}
+
+// The next greater member of p's group, n if there is none.
+fn next_greater(nodes: &[u16], n: usize, p: usize) -> usize
+    requires { ⌜ (length (now nodes) ≡ nodeNumbers * n) × (p < n) ⌝ }
+    ensures { λ r. ⌜ r ≡ rising n (now (nodes .entry)) p ⌝ }
+{
+    let b = number(nodes, p, NEXT);
+    if p < b { b } else { n }
+}
+
+// Who had x for its least member has y: x leads its group, which is walked upwards.
+fn rename(nodes: &mut [u16], n: usize, x: usize, y: usize)
+    requires { ⌜ Sound n (now nodes) × (x < n) × (y < n) × (x ≢ y → nodeNumber (now nodes) x 0 ≡ x) ⌝ }
+    ensures { λ _. ⌜ Renamed n x y (now (nodes .entry)) (now (nodes .exit)) ⌝ }
+{
+    if x == y {
+        return;
+    }
+    let mut p = x;
+    while p < n {
+        store(nodes, p, LEAST, y);
+        p = next_greater(nodes, n, p);
+    }
+}
+
+// The last member before u of the group that g leads: the greatest below u, else the greatest of all.
+fn last_before(nodes: &[u16], n: usize, u: usize, g: usize) -> usize
+    requires { ⌜ Sound n (now nodes) × (u < n) × (g < n) × (g ≢ u) × (nodeNumber (now nodes) g 0 ≡ g) ⌝ }
+    ensures { λ r. ⌜ Before u g r (now (nodes .entry)) ⌝ }
+{
+    if u < g {
+        return number(nodes, g, PREVIOUS);
+    }
+    let mut a = g;
+    let mut b = next_greater(nodes, n, g);
+    while b < u {
+        a = b;
+        b = next_greater(nodes, n, b);
+    }
+    a
+}
+
+fn parted(b: usize, u: usize) -> usize
+    ensures { λ r. ⌜ Parted b u r ⌝ }
+{
+    if b == u { 0 } else { 1 }
+}
+
+fn heir(l: usize, u: usize, b: usize) -> usize
+    ensures { λ r. ⌜ Heir l u b r ⌝ }
+{
+    if l == u { b } else { u }
+}
+
+// u leaves its group and is alone. 1 if it had a fellow, else 0.
+pub fn take_out(nodes: &mut [u16], n: usize, u: usize) -> usize
+    requires { ⌜ Sound n (now nodes) × (u < n) ⌝ }
+    ensures { λ r. ⌜ Taken n u (now (nodes .entry)) (now (nodes .exit)) × Parted (nodeNumber (now (nodes .entry)) u 1) u r ⌝ }
+{
+    let a = number(nodes, u, PREVIOUS);
+    let b = number(nodes, u, NEXT);
+    let l = number(nodes, u, LEAST);
+    let left = parted(b, u);
+    let y = heir(l, u, b);
+    rename(nodes, n, u, y);
+    link(nodes, n, a, b);
+    link(nodes, n, u, u);
+    store(nodes, u, LEAST, u);
+    left
+}
+
+fn lesser(x: usize, y: usize) -> usize
+    ensures { λ r. ⌜ r ≡ min x y ⌝ }
+{
+    if x < y { x } else { y }
+}
+
+fn greater(x: usize, y: usize) -> usize
+    ensures { λ r. ⌜ r ≡ max x y ⌝ }
+{
+    if x < y { y } else { x }
+}
+
+// u, which is alone, joins the group that g leads.
+fn put_in(nodes: &mut [u16], n: usize, u: usize, g: usize)
+    requires { ⌜ Sound n (now nodes) × (u < n) × (g < n) × (g ≢ u) × (nodeNumber (now nodes) g 0 ≡ g) ⌝ }
+    ensures { λ _. ⌜ Placed n u g (now (nodes .entry)) (now (nodes .exit)) ⌝ }
+{
+    let a = last_before(nodes, n, u, g);
+    let b = number(nodes, a, NEXT);
+    let h = lesser(u, g);
+    rename(nodes, n, g, h);
+    store(nodes, u, LEAST, h);
+    link(nodes, n, a, u);
+    link(nodes, n, u, b);
+}
+
+// Every node is alone.
+fn part_all(nodes: &mut [u16], n: usize)
+    requires { ⌜ (n ≤ maxNodes) × (length (now nodes) ≡ nodeNumbers * n) ⌝ }
+    ensures { λ _. ⌜ Lone n (now (nodes .entry)) (now (nodes .exit)) ⌝ }
+{
+    for p in 0..n {
+        store(nodes, p, LEAST, p);
+        link(nodes, n, p, p);
+    }
+}
+
+// u, which is alone, joins its group, if one is led by a node below m other than w. 1 if it does, else 0.
+pub fn put_back(
+    edges: &[u64],
+    nodes: &mut [u16],
+    keys: &[u32],
+    n: usize,
+    m: usize,
+    u: usize,
+    w: usize,
+) -> usize
+    requires { ⌜ Sound n (now nodes) × Ready n (now edges) (now keys) × (m ≤ n) × (u < n) × (w < n) ⌝ }
+    ensures { λ r. ⌜ Back n m u w r (similarIn n (now (edges .entry)) u) (now (nodes .entry)) (now (nodes .exit)) ⌝ }
+{
+    let g = rows::find_group(edges, nodes, keys, n, m, u, w);
+    if g < m {
+        put_in(nodes, n, u, g);
+        return 1;
+    }
+    0
+}
+
+// The groups made from nothing: whatever stood there, and the marks kept.
+pub fn build(edges: &[u64], nodes: &mut [u16], keys: &[u32], n: usize)
+    requires { ⌜ Bare n (lent (now edges) (now nodes) (now keys)) ⌝ }
+    ensures { λ _. ⌜ now (nodes .exit) ≡ nodesOf (graphOf n (lent (now (edges .entry)) (now (nodes .entry)) (now (keys .entry)))) ⌝ }
+{
+    part_all(nodes, n);
+    for u in 0..n {
+        let _ = put_back(edges, nodes, keys, n, u, u, u);
+    }
+}
+
+fn difference(x: usize, y: usize) -> i16
+    requires { ⌜ (x ≤ 2) × (y ≤ 2) ⌝ }
+    ensures { λ r. ⌜ r ≡ subℕ x y ⌝ }
+{
+    x as i16 - y as i16
+}
+
+// The edge between u and v inserted or deleted in the three tables: both nodes are taken out, edges and keys changed, and the
+// lesser is put back before the greater. How many groups more there are.
+pub fn update_edge(
+    edges: &mut [u64],
+    nodes: &mut [u16],
+    keys: &mut [u32],
+    n: usize,
+    u: usize,
+    v: usize,
+    insert: bool,
+) -> i16
+    requires { ⌜ Asked n u v insert (lent (now edges) (now nodes) (now keys)) ⌝ }
+    ensures { λ r. ⌜ (lent (now (edges .exit)) (now (nodes .exit)) (now (keys .exit)) ≡ tablesOf (updated (graphOf n (lent (now (edges .entry)) (now (nodes .entry)) (now (keys .entry)))) (edgeUpdate insert u v))) × (r ≡ answer (graphOf n (lent (now (edges .entry)) (now (nodes .entry)) (now (keys .entry)))) (edgeUpdate insert u v)) ⌝ }
+{
+    let a = lesser(u, v);
+    let b = greater(u, v);
+    let a_left = take_out(nodes, n, a);
+    let b_left = take_out(nodes, n, b);
+    rows::change_edge(edges, u, v);
+    rows::change_keys(keys, u, v, insert);
+    let a_joined = put_back(edges, nodes, keys, n, n, a, b);
+    let b_joined = put_back(edges, nodes, keys, n, n, b, b);
+    let left = a_left + b_left;
+    let joined = a_joined + b_joined;
+    difference(left, joined)
+}

@@ -1,0 +1,147 @@
+-- An update of a graph, carried out on its node table: two nodes taken out and put back give the new graph's table and the answer.
+use mathlib.Core.Path.{_≡_, refl, sym, subst, _∙_, ap}
+use mathlib.Core.Logic.{_≢_, _⊎_, inl, inr, ⊎-elim}
+use mathlib.Core.Bool.{Bool, true, false, not, _&&_, cond}
+use mathlib.Core.List.{List, _∷_}
+use Prim.Native.Nat.{ℕ, suc, zero, _+_, _-_, _≤_, _<_}
+use native.Mathlib.Omega.{arith}
+use native.Mathlib.Nat.{le-antisymm}
+use lib.Dec.{eqb, ltb}
+use lib.ListN.{length}
+use lib.IntN.{subℕ}
+use borrow.Author.Tests.{ltb-true, ltb-false, lt-ltb, le-ltb}
+use Rattle.model.specs.Lists.{filter, from, nodes}
+use Rattle.model.specs.Graph.{Graph, Proper}
+use Rattle.model.specs.Grouping.{leaders, least, similar}
+use Rattle.model.specs.Tables.{nodeNumber, nodesOf}
+use Rattle.model.specs.Updates.{Update, answer, groupCount, onEdge, refusal, updated}
+use Rattle.model.specs.TestLaws.{decide}
+use Rattle.model.specs.ListLaws.{nodes-ascending}
+use Rattle.model.specs.SummaryLaws.{length-groups}
+use Rattle.model.specs.TableLaws.{least-at, length-nodes-of, mark-at, proper-simple}
+use Rattle.model.specs.BoundLaws.{similar-cong}
+use Rattle.model.specs.UpdateLaws.{answer-accepted, apart, proper-updated, rows-kept, u-inside, v-inside}
+use Rattle.rings.specs.Ring.{Table, Of}
+use Rattle.rings.specs.Steps.{Back, Lone, Parted, Taken}
+use Rattle.rings.specs.CountLaws.{bit, count, count-same, leads}
+use Rattle.rings.specs.UpdateLaws.{Shift, counted, moved, moved-rest, moved-size}
+use Rattle.rings.specs.BuildLaws.{Built, built}
+use Rattle.rings.specs.NodesLaws.{graph-parts, is-nodes, of-nodes}
+
+count-from : (f : ℕ → Bool) (a k : ℕ) → length (filter f (from a k)) + count a f ≡ count (a + k) f
+unfolding filter from
+count-from f a zero = let e : a ≡ a + 0 = omega arith in let c = ap (λ (i : ℕ). count i f) e in omega arith
+count-from f a (suc k) = step (f a) refl (count-from f (suc a) k) ∙ ap (λ (i : ℕ). count i f) (omega arith)
+  where
+    step : (b : Bool) → f a ≡ b → length (filter f (from (suc a) k)) + count (suc a) f ≡ count (suc a + k) f
+        → length (cond b (a ∷ filter f (from (suc a) k)) (filter f (from (suc a) k))) + count a f ≡ count (suc a + k) f
+    step true e below = let c = one true e in omega arith
+      where
+        one : (b : Bool) → f a ≡ b → count (suc a) f ≡ count a f + bit b
+        one b e = unfold count in ap (λ (x : Bool). count a f + bit x) e
+    step false e below = let c = one false e in omega arith
+      where
+        one : (b : Bool) → f a ≡ b → count (suc a) f ≡ count a f + bit b
+        one b e = unfold count in ap (λ (x : Bool). count a f + bit x) e
+
+pub count-nodes : (f : ℕ → Bool) (n : ℕ) → length (filter f (nodes n)) ≡ count n f
+unfolding nodes
+count-nodes f n = let z = none in let c = count-from f 0 n in let e : 0 + n ≡ n = omega arith in let d = ap (λ (i : ℕ). count i f) e in omega arith
+  where
+    none : count 0 f ≡ 0
+    none = unfold count in refl
+
+-- a table of the graph's groups leads with as many nodes as there are groups
+module _ (g : Graph) (h : Proper g) where
+  least-of : {t : List ℕ} → Table (g .nodeCount) (Of (g .nodeCount) (similar (nodes (g .nodeCount)) (g .edge))) t → (p : ℕ) → p < g .nodeCount → nodeNumber t p 0 ≡ least (nodes (g .nodeCount)) (similar (nodes (g .nodeCount)) (g .edge)) p
+  least-of a p hp =
+      let b = of-nodes g h in
+      le-antisymm (a .least p hp .near _ (b .least p hp .mem)) (b .least p hp .near _ (a .least p hp .mem)) ∙ least-at g p hp
+
+  pub count-groups : {t : List ℕ} → Table (g .nodeCount) (Of (g .nodeCount) (similar (nodes (g .nodeCount)) (g .edge))) t → count (g .nodeCount) (leads t) ≡ groupCount g
+  unfolding groupCount leaders
+  count-groups a =
+      count-same (g .nodeCount) (λ p hp. ap (λ (v : ℕ). eqb v p) (least-of a p hp))
+      ∙ sym (count-nodes _ (g .nodeCount))
+      ∙ sym (length-groups (nodes (g .nodeCount)) (g .edge) (proper-simple g h) (nodes-ascending (g .nodeCount)))
+
+-- equal sums have equal differences
+pub same-difference : (a b c d : ℕ) → a + d ≡ b + c → subℕ a b ≡ subℕ c d
+same-difference a b c d e = step (decide (ltb c d))
+  where
+    step : (ltb c d ≡ true) ⊎ (ltb c d ≡ false) → subℕ a b ≡ subℕ c d
+    step (inl t) =
+        let l = ltb-true c d t in
+        let s : b - suc a ≡ d - suc c = omega arith in
+        rw (lt-ltb a b (omega arith), t, s) refl
+    step (inr t) =
+        let l = ltb-false c d t in
+        let s : a - b ≡ c - d = omega arith in
+        rw (le-ltb a b (omega arith), t, s) refl
+
+-- u and v are the ends of the update's edge, in either order
+abbrev pub Ends : Update → ℕ → ℕ → Type 0
+Ends c u v = ((u ≡ c .u) × (v ≡ c .v)) ⊎ ((u ≡ c .v) × (v ≡ c .u))
+
+-- an accepted update of an edge of g, whose node table is t
+pub record EdgeUpdate (g : Graph) (c : Update) (u v : ℕ) (t : List ℕ) : Type 0 where
+  pub proper : Proper g
+  pub accepted : refusal g c ≡ 0
+  pub edge : onEdge c ≡ true
+  pub ends : Ends c u v
+  pub table : t ≡ nodesOf g
+
+module _ {g : Graph} {c : Update} {u v : ℕ} {t : List ℕ} (a : EdgeUpdate g c u v t) where
+  old : Table (g .nodeCount) (Of (g .nodeCount) (similar (nodes (g .nodeCount)) (g .edge))) t
+  old = subst (λ x. Table (g .nodeCount) (Of (g .nodeCount) (similar (nodes (g .nodeCount)) (g .edge))) x) (sym (a .table)) (of-nodes g (a .proper))
+
+  new : Proper (updated g c)
+  new = proper-updated g c (a .proper) (a .accepted)
+
+  row : (p : ℕ) → p ≢ u → p ≢ v → (r : ℕ) → g .edge p r ≡ updated g c .edge p r
+  row p nu nv r = ⊎-elim (λ x. kept (λ i. nu (i ∙ sym (x .0))) (λ i. nv (i ∙ sym (x .1)))) (λ x. kept (λ i. nv (i ∙ sym (x .1))) (λ i. nu (i ∙ sym (x .0)))) (a .ends)
+    where
+      kept : p ≢ c .u → p ≢ c .v → g .edge p r ≡ updated g c .edge p r
+      kept x y = sym (rows-kept g c (a .proper) (a .accepted) p r x y)
+
+  pub update-shift : Shift (g .nodeCount) u v (similar (nodes (g .nodeCount)) (g .edge)) (similar (nodes (g .nodeCount)) (updated g c .edge)) t
+  unfolding updated
+  update-shift =
+      record {
+        small = a .proper .small;
+        parts = graph-parts g (a .proper);
+        parts′ = graph-parts (updated g c) new;
+        hu = ⊎-elim (λ x. subst (λ z. z < g .nodeCount) (sym (x .0)) (u-inside g c (a .proper) (a .accepted))) (λ x. subst (λ z. z < g .nodeCount) (sym (x .0)) (v-inside g c (a .proper) (a .accepted) (a .edge))) (a .ends);
+        hv = ⊎-elim (λ x. subst (λ z. z < g .nodeCount) (sym (x .1)) (v-inside g c (a .proper) (a .accepted) (a .edge))) (λ x. subst (λ z. z < g .nodeCount) (sym (x .1)) (u-inside g c (a .proper) (a .accepted))) (a .ends);
+        ne = ⊎-elim (λ x i. apart g c (a .proper) (a .accepted) (a .edge) (sym (x .0) ∙ i ∙ x .1)) (λ x i. apart g c (a .proper) (a .accepted) (a .edge) (sym (x .1) ∙ sym i ∙ x .0)) (a .ends);
+        agree = λ p q pu pv qu qv. similar-cong (nodes (g .nodeCount)) (g .edge) (updated g c .edge) p q (row p pu pv) (row q qu qv);
+        size = ap length (a .table) ∙ length-nodes-of g;
+        table = old;
+      }
+
+  module _ {t₁ t₂ t₃ t₄ : List ℕ} {z₃ z₄ : ℕ} (x₁ : Taken (g .nodeCount) u t t₁) (x₂ : Taken (g .nodeCount) v t₁ t₂)
+      (x₃ : Back (g .nodeCount) (g .nodeCount) u v z₃ (similar (nodes (g .nodeCount)) (updated g c .edge) u) t₂ t₃)
+      (x₄ : Back (g .nodeCount) (g .nodeCount) v v z₄ (similar (nodes (g .nodeCount)) (updated g c .edge) v) t₃ t₄) where
+    pub update-nodes : t₄ ≡ nodesOf (updated g c)
+    unfolding updated
+    update-nodes =
+        is-nodes (updated g c) new (moved update-shift x₁ x₂ x₃ x₄) (moved-size update-shift x₁ x₂ x₃ x₄)
+        (λ p hp. moved-rest update-shift x₁ x₂ x₃ x₄ p 3 hp (omega arith) (omega arith) ∙ ap (λ x. nodeNumber x p 3) (a .table) ∙ mark-at g p hp ∙ marks p)
+      where
+        marks : (p : ℕ) → _≡_ {A = ℕ} (cond (g .hidden p) 1 0) (cond (cond (not (onEdge c) && eqb p (c .u)) (eqb (c .kind) 3) (g .hidden p)) 1 0)
+        marks p = rw (a .edge) refl
+
+    pub update-answer : {z₁ z₂ : ℕ} → Parted (nodeNumber t u 1) u z₁ → Parted (nodeNumber t₁ v 1) v z₂ → subℕ (z₁ + z₂) (z₃ + z₄) ≡ answer g c
+    unfolding updated
+    update-answer {z₁} {z₂} p₁ p₂ =
+        let b = count-groups g (a .proper) old in
+        let d = count-groups (updated g c) new (moved update-shift x₁ x₂ x₃ x₄) in
+        let s = counted update-shift x₁ x₂ x₃ x₄ refl p₁ refl p₂ in
+        sym (same-difference (groupCount (updated g c)) (groupCount g) (z₁ + z₂) (z₃ + z₄) (omega arith)) ∙ sym (answer-accepted g c (a .accepted))
+
+-- the table built from nothing
+pub build-nodes : (g : Graph) → Proper g → {m : ℕ} {t t₁ t′ : List ℕ} → Lone (g .nodeCount) t t₁ → Built (g .nodeCount) m (similar (nodes (g .nodeCount)) (g .edge)) t₁ t′ → g .nodeCount ≤ m
+    → ((p : ℕ) → p < g .nodeCount → nodeNumber t p 3 ≡ cond (g .hidden p) 1 0) → t′ ≡ nodesOf g
+build-nodes g h {m} {t} b a l ms =
+    is-nodes g h (built (similar (nodes (g .nodeCount)) (g .edge)) (graph-parts g h) a l) (a .size)
+    (λ p hp. a .rest p 3 hp (omega arith) (omega arith) ∙ b .rest p 3 (omega arith) (omega arith) ∙ ms p hp)
