@@ -1,5 +1,5 @@
 -- Records of another kind than the one asked for.
-use mathlib.Core.Path.{_≡_, ap}
+use mathlib.Core.Path.{_≡_}
 use mathlib.Core.Logic.{⊎-elim}
 use mathlib.Core.Bool.{Bool}
 use mathlib.Core.List.{[], _∷_}
@@ -8,7 +8,7 @@ use native.Mathlib.Omega.{arith}
 use denote.Enum.Declared.{tagOf}
 use types.Run.{OneOf}
 use Rattle.reader.specs.declared.Record.{Record}
-use Rattle.reader.specs.declared.Record.the-variants.{Head, Group, Superedge, End, Malformed}
+use Rattle.reader.specs.declared.Record.the-variants.{Head, Group, Superedge, End}
 use Rattle.reader.proofs.Record.{the-type}
 
 -- by the numbers of their variants

@@ -1,33 +1,26 @@
 -- Every release is accepted.
-use mathlib.Core.Path.{_≡_, refl, sym, ap, ap₂, subst, _∙_}
-use mathlib.Core.Bool.{Bool, true, false, _&&_, cond}
+use mathlib.Core.Path.{_≡_, refl, sym, ap, _∙_}
+use mathlib.Core.Bool.{Bool, true, false, cond}
 use mathlib.Core.List.{List, [], _∷_, _++_, map, append-assoc, List·Memᴰ, List·Memᴰ·head, List·Memᴰ·tail}
-use mathlib.Core.Logic.{_⊎_, inl, inr}
 use Prim.Native.Nat.{ℕ, zero, suc, _+_, _*_, _-_, _/_, _%_, _≤_, _<_}
 use native.Mathlib.Omega.{arith}
-use lib.Dec.{eqb, ltb, leb}
-use lib.ListN.{length, getD, drop, length-append, length-drop}
+use lib.ListN.{length, drop, length-append, length-drop}
 use lib.Seq.{drop-at, drop-drop}
 use borrow.Author.Tests.{eq-eqb, ne-eqb, lt-ltb, le-ltb, le-leb}
-use Rattle.model.specs.Lists.{_∈_, concat, filter, nodes}
-use Rattle.model.specs.Graph.{Graph, Proper, maxNodes}
-use Rattle.model.specs.Grouping.{Kind, adjacent, algorithm1, clique, group, independent, isClique, kindOf, leaders, similar, singleton}
-use Rattle.model.specs.Release.{encode, endRecord, groupRecord, headRecord, kindByte, release, superedgeRecord, superedges, superedgesFrom, u16, visible, visibleEdge}
+use Rattle.model.specs.Lists.{_∈_, concat}
+use Rattle.model.specs.Grouping.{Kind, adjacent, clique, independent, isClique, kindOf, singleton}
+use Rattle.model.specs.Release.{endRecord, groupRecord, headRecord, kindByte, release, superedgeRecord, superedges, superedgesFrom, u16}
 use Rattle.model.specs.Reading.{u16At, u16s}
-use Rattle.model.specs.TestLaws.{and-true, decide}
-use Rattle.model.specs.ReleaseLaws.{length-group-record, length-u16s}
+use Rattle.model.specs.TestLaws.{and-true}
+use Rattle.model.specs.ReleaseLaws.{length-group-record}
 use Rattle.model.specs.ReadingLaws.{body, u16s-back}
 use Rattle.reader.specs.declared.Counts.{Counts}
-use Rattle.reader.specs.declared.Lessened.{Lessened}
-use Rattle.reader.specs.declared.Lessened.the-variants.{Left, Over}
-use Rattle.reader.specs.declared.Record.{Record}
-use Rattle.reader.specs.declared.Record.the-variants.{Head, Group, Superedge, End, Malformed}
-use Rattle.reader.specs.declared.Grouped.{Grouped}
-use Rattle.reader.specs.declared.Grouped.the-variants.{Taken, Missing}
-use Rattle.reader.specs.declared.Groups.{Groups}
-use Rattle.reader.specs.declared.Groups.the-variants.{Whole, Broken}
+use Rattle.reader.specs.declared.Lessened.the-variants.{Left}
+use Rattle.reader.specs.declared.Record.the-variants.{Head, Group, Superedge, End}
+use Rattle.reader.specs.declared.Grouped.the-variants.{Taken}
+use Rattle.reader.specs.declared.Groups.the-variants.{Whole}
 use Rattle.reader.specs.Records.{groupItem, headItem, isMark, itemIn, lessGroup, lessMember, spent, superedgeItem, whole}
-use Rattle.reader.specs.Decoding.{accepted, bodyFits, follows, groupTaken, groupsRead, keyOf, membersRead, numbersAt, onLess, sized, superedgesFit}
+use Rattle.reader.specs.Decoding.{accepted, follows, groupTaken, groupsRead, keyOf, membersRead, numbersAt, superedgesFit}
 use Rattle.reader.specs.GroupLaws.{read-none, read-taken}
 use Rattle.reader.specs.ToldLaws.{Ordered}
 

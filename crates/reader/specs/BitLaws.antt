@@ -10,7 +10,7 @@ use lib.Bits.{bitOr, or-step, or-shr}
 use lib.Dec.{eqb}
 use lib.ListN.{length, getD, set, length-set}
 use lib.Seq.{getD-set-same, getD-set-other}
-use borrow.Author.Tests.{eqb-true, eqb-false, eq-eqb, ne-eqb}
+use borrow.Author.Tests.{eqb-true, eqb-false, eq-eqb}
 use Rattle.model.specs.Tables.{bitAt, edgeBit}
 use Rattle.model.specs.TestLaws.{decide, iff-eq}
 use Rattle.rows.specs.BitLaws.{bit-pow}

@@ -1,14 +1,13 @@
 -- Laws of a whole file read.
 use mathlib.Core.Path.{_≡_, refl, sym, ap, ap₂, subst, _∙_}
 use mathlib.Core.Bool.{Bool, true, false, _&&_, _||_, cond}
-use mathlib.Core.List.{List, [], _∷_}
+use mathlib.Core.List.{List}
 use Prim.Native.Nat.{ℕ, zero, suc, _+_, _*_, _-_, _/_, _%_, _^_, _≤_, _<_}
 use native.Mathlib.Nat.{zero-div}
 use native.Mathlib.Omega.{arith}
-use lib.Dec.{eqb, ltb, leb}
-use lib.ListN.{length, getD, drop, replicate, length-replicate, getD-replicate}
+use lib.Dec.{leb}
+use lib.ListN.{length, getD, replicate, length-replicate, getD-replicate}
 use borrow.Author.Tests.{le-leb, lt-leb, leb-true}
-use Rattle.model.specs.Graph.{maxNodes}
 use Rattle.model.specs.Tables.{bitAt, edgeBit}
 use Rattle.model.specs.Reading.{superedgesAt, u16At}
 use Rattle.model.specs.TestLaws.{and-fst, and-snd, differ}
@@ -18,11 +17,9 @@ use Rattle.reader.specs.declared.Record.the-variants.{Head, Group, Super
 use Rattle.reader.specs.declared.Read.{Read}
 use Rattle.reader.specs.declared.Groups.{Groups}
 use Rattle.reader.specs.declared.Groups.the-variants.{Whole, Broken}
-use Rattle.reader.specs.declared.Decoded.{Decoded}
 use Rattle.reader.specs.declared.Decoded.the-variants as answer
 use Rattle.reader.specs.Records.{itemIn, recordAt, sizeOf}
-use Rattle.reader.specs.Drawing.{Added}
-use Rattle.reader.specs.Decoding.{Cleared, Decodes, Drawn, Found, GroupsRead, SuperedgesRead, accepted, bodyFits, crossed, decoded, groupsFrom, groupsRead, inside, onHead, onWhole, pairsFrom, placed, restFrom, sized, superedgesFit, toldEdge, toldGroups, toldPairs}
+use Rattle.reader.specs.Decoding.{Decodes, Drawn, Found, GroupsRead, SuperedgesRead, accepted, bodyFits, crossed, decoded, groupsFrom, inside, pairsFrom, placed, restFrom, sized, toldEdge, toldGroups, toldPairs}
 use Rattle.reader.specs.DrawingLaws.{added-then}
 use Rattle.reader.specs.DecodingLaws.{fits-at, item-is, next-is}
 

@@ -1,28 +1,27 @@
 -- Laws of members and groups taken one after the other.
-use mathlib.Core.Path.{_≡_, refl, sym, ap, ap₂, subst, _∙_}
-use mathlib.Core.Bool.{Bool, true, false, not, _&&_, _||_, cond, or-false}
-use mathlib.Core.List.{List, [], _∷_}
+use mathlib.Core.Path.{_≡_, refl, sym, ap, subst, _∙_}
+use mathlib.Core.Bool.{Bool, true, false, _&&_, _||_, cond}
+use mathlib.Core.List.{List}
 use mathlib.Core.Logic.{_⊎_, inl, inr}
-use Prim.Native.Nat.{ℕ, zero, suc, _+_, _*_, _-_, _≤_, _<_}
+use Prim.Native.Nat.{ℕ, _+_, _*_, _-_, _≤_, _<_}
 use native.Mathlib.Omega.{arith}
 use lib.Dec.{eqb, ltb, leb}
 use lib.ListN.{length, getD, drop, set, length-set, length-drop}
 use lib.Seq.{getD-drop, getD-set-same, getD-set-other}
-use borrow.Author.Tests.{eqb-true, eqb-false, eq-eqb, ne-eqb, ltb-true, ltb-false, lt-ltb, le-ltb, leb-true, leb-false, le-leb, lt-leb}
+use borrow.Author.Tests.{eqb-true, eqb-false, ne-eqb, ltb-false, lt-ltb, le-ltb, leb-true, le-leb, lt-leb}
 use Rattle.model.specs.Lists.{any, member}
-use Rattle.model.specs.Reading.{u16At, u16s}
-use Rattle.model.specs.TestLaws.{decide, differ, and-fst, and-snd}
+use Rattle.model.specs.Reading.{u16At}
+use Rattle.model.specs.TestLaws.{decide, and-fst, and-snd}
 use Rattle.reader.specs.declared.Counts.{Counts}
 use Rattle.reader.specs.declared.Lessened.{Lessened}
 use Rattle.reader.specs.declared.Lessened.the-variants.{Left, Over}
 use Rattle.reader.specs.declared.Record.{Record}
 use Rattle.reader.specs.declared.Record.the-variants.{Head, Group, Superedge, End, Malformed}
 use Rattle.reader.specs.declared.Read.{Read}
-use Rattle.reader.specs.declared.Grouped.{Grouped}
 use Rattle.reader.specs.declared.Grouped.the-variants.{Taken, Missing}
-use Rattle.reader.specs.Records.{groupItem, headItem, isMark, itemIn, lessGroup, lessMember, readAs, recordAt, sizeOf, spent, superedgeItem, whole}
-use Rattle.reader.specs.Drawing.{GroupHere, countAt, membersAt, restAt}
-use Rattle.reader.specs.Decoding.{Cleared, Clearing, GroupTaken, MembersRead, groupBy, groupTaken, membersRead, numbersAt, onLess, within}
+use Rattle.reader.specs.Records.{groupItem, headItem, isMark, itemIn, lessGroup, lessMember, readAs, recordAt, sizeOf, superedgeItem, whole}
+use Rattle.reader.specs.Drawing.{countAt, membersAt, restAt}
+use Rattle.reader.specs.Decoding.{Cleared, Clearing, GroupTaken, MembersRead, groupBy, groupTaken, membersRead, numbersAt, within}
 use Rattle.reader.specs.RecordLaws.{u16-drop}
 use Rattle.reader.specs.DrawingLaws.{rest-end, rest-start, rest-step}
 

@@ -1,15 +1,14 @@
 -- Laws of all groups of a file, read one after the other.
-use mathlib.Core.Path.{_≡_, refl, sym, ap, ap₂, subst, _∙_}
-use mathlib.Core.Bool.{Bool, true, false, not, _&&_, _||_, cond, or-false}
-use mathlib.Core.List.{List, [], _∷_}
+use mathlib.Core.Path.{_≡_, refl, sym, ap, subst, _∙_}
+use mathlib.Core.Bool.{Bool, true, false, _||_}
+use mathlib.Core.List.{List, _∷_}
 use mathlib.Core.Logic.{_⊎_, inl, inr}
 use Prim.Native.Nat.{ℕ, zero, suc, _+_, _*_, _-_, _≤_, _<_}
 use native.Mathlib.Omega.{arith}
 use lib.Dec.{eqb, ltb, leb}
-use lib.ListN.{length, getD, drop, set, length-set, length-drop}
+use lib.ListN.{length, getD, drop, set}
 use lib.Seq.{drop-drop, getD-drop, getD-set-same, getD-set-other}
-use borrow.Author.Tests.{eqb-true, eqb-false, ltb-true, leb-true, leb-false}
-use Rattle.model.specs.Lists.{any, member}
+use borrow.Author.Tests.{eqb-true, eqb-false, ltb-true, leb-true}
 use Rattle.model.specs.Reading.{afterGroups, groupsAt, u16At, u16s}
 use Rattle.model.specs.TestLaws.{decide}
 use Rattle.reader.specs.declared.Counts.{Counts}
@@ -19,11 +18,10 @@ use Rattle.reader.specs.declared.Record.{Record}
 use Rattle.reader.specs.declared.Record.the-variants.{Head, Group, Superedge, End, Malformed}
 use Rattle.reader.specs.declared.Grouped.{Grouped}
 use Rattle.reader.specs.declared.Grouped.the-variants.{Taken, Missing}
-use Rattle.reader.specs.declared.Groups.{Groups}
 use Rattle.reader.specs.declared.Groups.the-variants.{Whole, Broken}
 use Rattle.reader.specs.Records.{itemIn, lessGroup, lessMember}
 use Rattle.reader.specs.Drawing.{Added, GroupHere, countAt, inner, membersAt}
-use Rattle.reader.specs.Decoding.{Cleared, Found, GroupTaken, GroupsHeld, GroupsLeft, GroupsRead, groupBy, groupTaken, groupsFrom, groupsRead, inside, membersOf, membersRead, numbersAt, onLess, onTaken, placed, restFrom, within}
+use Rattle.reader.specs.Decoding.{Found, GroupTaken, GroupsHeld, GroupsLeft, GroupsRead, groupBy, groupTaken, groupsFrom, groupsRead, inside, membersOf, membersRead, numbersAt, onLess, placed, restFrom, within}
 use Rattle.reader.specs.RecordLaws.{u16-drop}
 use Rattle.reader.specs.DrawingLaws.{adding-done, adding-start, adding-step}
 use Rattle.reader.specs.DecodingLaws.{Fits, clearing-done, clearing-start, clearing-step, item-fits}

@@ -3,12 +3,12 @@ use mathlib.Core.Path.{_≡_, refl, sym, ap, ap₂, fun-ext, _∙_}
 use mathlib.Core.Bool.{Bool, true, false, not, _&&_, _||_, cond}
 use mathlib.Core.List.{List, [], _∷_, _++_, map, List·Memᴰ}
 use mathlib.Core.Logic.{_⊎_, inl, inr}
-use Prim.Native.Nat.{ℕ, zero, suc, _+_, _*_, _-_, _/_, _%_, _≤_, _<_}
+use Prim.Native.Nat.{ℕ, zero, suc, _+_, _-_, _≤_, _<_}
 use native.Mathlib.Omega.{arith}
-use lib.Dec.{eqb, ltb, leb}
+use lib.Dec.{eqb, ltb}
 use lib.ListN.{length, getD, drop}
-use borrow.Author.Tests.{eqb-true, eqb-false, eq-eqb, ne-eqb, ltb-true, ltb-false, lt-ltb, le-leb}
-use Rattle.model.specs.Lists.{_∈_, concat, filter, member, nodes}
+use borrow.Author.Tests.{eqb-true, eq-eqb, ne-eqb, ltb-true, ltb-false, lt-ltb, le-leb}
+use Rattle.model.specs.Lists.{_∈_, concat, member, nodes}
 use Rattle.model.specs.Graph.{Graph, Proper, maxNodes}
 use Rattle.model.specs.Grouping.{algorithm1, group, leaders, least, similar}
 use Rattle.model.specs.Summary.{position, summaryOf}
@@ -22,7 +22,6 @@ use Rattle.model.specs.SummaryLaws.{algorithm1-classes, algorithm1-summarises, 
 use Rattle.model.specs.ReleaseLaws.{length-concat-groups, length-encode, visible-ascending, visible-simple}
 use Rattle.model.specs.ReadingLaws.{groups-after, groups-back, marked, read-placed, superedges-back}
 use Rattle.model.specs.ReadBackLaws.{decode-release}
-use Rattle.reader.specs.declared.Counts.{Counts}
 use Rattle.reader.specs.declared.Record.the-variants.{Head}
 use Rattle.reader.specs.declared.Groups.the-variants.{Whole}
 use Rattle.reader.specs.declared.Decoded.{Decoded}

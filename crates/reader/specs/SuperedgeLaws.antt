@@ -1,5 +1,5 @@
 -- Laws of the superedges of a file, read one after the other up to its end.
-use mathlib.Core.Path.{_≡_, refl, sym, ap, ap₂, subst, _∙_}
+use mathlib.Core.Path.{_≡_, refl, sym, ap, _∙_}
 use mathlib.Core.Bool.{Bool, true, false, _&&_, _||_}
 use mathlib.Core.List.{List, [], _∷_}
 use Prim.Native.Nat.{ℕ, zero, suc, _+_, _*_, _-_, _≤_, _<_}
@@ -16,8 +16,8 @@ use Rattle.reader.specs.declared.Record.the-variants.{Head, Group, Super
 use Rattle.reader.specs.declared.Read.{Read}
 use Rattle.reader.specs.Records.{itemIn, recordAt, sizeOf, spent}
 use Rattle.reader.specs.Drawing.{Added, joined, membersAt}
-use Rattle.reader.specs.Decoding.{Found, SuperedgesLeft, SuperedgesRead, crossed, follows, keyOf, membersOf, onSuperedge, pairsFrom, superedgesFit}
-use Rattle.reader.specs.DrawingLaws.{added-as, adding-done, adding-start, adding-step}
+use Rattle.reader.specs.Decoding.{Found, SuperedgesLeft, SuperedgesRead, crossed, follows, keyOf, pairsFrom, superedgesFit}
+use Rattle.reader.specs.DrawingLaws.{adding-done, adding-start, adding-step}
 use Rattle.reader.specs.DecodingLaws.{fits-at, item-is, next-is}
 
 -- the order, tested one condition after the other

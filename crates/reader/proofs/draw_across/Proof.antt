@@ -1,14 +1,11 @@
-use Rattle.reader.specs.DrawingLaws.{across-start, across-step, across-done}
-use Rattle.reader.specs.Drawing.{Adding, across, countAt, membersAt, restAt}
+-- `reader::draw_across` meets its contract.
+use Prim.Native.Nat.{_-_, _≤_}
 use borrow.Author.Needs.{needs}
 use native.Mathlib.Omega.{arith}
-use Prim.Native.Nat.{_≤_, _-_, _+_}
+use Rattle.reader.specs.Drawing.{Adding, across, countAt, membersAt, restAt}
+use Rattle.reader.specs.DrawingLaws.{across-done, across-start, across-step}
 use Rattle.reader.proofs.draw_across.Statement.{statement}
 use Rattle.reader.proofs.draw_across.Tie as tie
-use Rattle.reader.proofs.draw_across.Reads as reads
-use Rattle.reader.proofs.draw_across.Lts as lts
-use Rattle.reader.proofs.draw_fan.Reads as draw-fan-reads
-use Rattle.reader.proofs.node_at.Reads as node-at-reads
 
 abbrev Inv-loop : tie.InvT-loop
 Inv-loop edges₀ file first second count at k₀ edges k =
@@ -17,63 +14,50 @@ Inv-loop edges₀ file first second count at k₀ edges k =
 abbrev μ-loop : tie.MeasureT-loop
 μ-loop edges₀ file first second count at k₀ edges k = count - k
 
--- src/lib.rt:227:31
 add-node-at : tie.Need-add-node-at Inv-loop μ-loop
 unfolding countAt
 add-node-at c = omega (arith, c .before .before .pre .1 .room)
 
--- src/lib.rt:227:9
 node-at-requires : tie.Need-node-at-requires Inv-loop μ-loop
 unfolding countAt
 node-at-requires c κs = omega (arith, c .before .before .pre .1 .room)
 
--- src/lib.rt:228:14
 add-at : tie.Need-add-at Inv-loop μ-loop
 unfolding countAt
 add-at c = omega (arith, c .before .before .before .pre .1 .room)
 
--- src/lib.rt:229:5
 loop-holds : tie.Need-loop-holds Inv-loop μ-loop
 unfolding countAt
 loop-holds c = (omega arith, across-start _ _ _ _ _ (c .node-at .ensures))
 
--- src/lib.rt:230:44
 mul-node-at : tie.Need-mul-node-at Inv-loop μ-loop
 unfolding countAt
 mul-node-at c = omega (arith, c .before .before .before .before .before .before .pre .1 .room)
 
--- src/lib.rt:230:39
 add-node-at-2 : tie.Need-add-node-at-2 Inv-loop μ-loop
 unfolding countAt
 add-node-at-2 c = omega (arith, c .before .before .before .before .before .before .pre .1 .room)
 
--- src/lib.rt:230:25
 node-at-requires-2 : tie.Need-node-at-requires-2 Inv-loop μ-loop
 unfolding countAt
 node-at-requires-2 c κs = omega (arith, c .before .before .before .before .before .before .pre .1 .room)
 
--- src/lib.rt:230:9
 draw-fan-requires : tie.Need-draw-fan-requires Inv-loop μ-loop
 unfolding countAt
 draw-fan-requires c κs = (omega (arith, c .before .before .before .before .before .before .before .pre .1 .small (c .before .before .before .loop .k) (omega arith)), omega (arith, c .before .before .before .loop .inv .1 .size), c .before .before .before .before .before .before .before .pre .2)
 
--- src/lib.rt:229:9
 add-k : tie.Need-add-k Inv-loop μ-loop
 add-k c = search needs
 
--- src/lib.rt:229:5
 loop-less : tie.Need-loop-less Inv-loop μ-loop
 loop-less c = search needs
 
--- src/lib.rt:229:5
 loop-again : tie.Need-loop-again Inv-loop μ-loop
 loop-again c = (omega arith, across-step _ _ _ _ _ _ (c .before .before .before .before .before .loop-test .taken) (c .before .before .before .node-at2 .ensures) (c .before .before .before .before .before .before .loop .inv .1) (c .before .before .draw-fan .ensures))
 
--- src/lib.rt:223:1
 same-length : tie.Need-same-length Inv-loop μ-loop
 same-length c = c .before .loop .inv .1 .size
 
--- src/lib.rt:223:1
 returns : tie.Need-returns Inv-loop μ-loop
 returns c = across-done _ _ _ _ _ (omega arith) (c .before .loop .inv .1)
 

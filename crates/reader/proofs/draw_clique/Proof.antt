@@ -1,24 +1,18 @@
-use Rattle.reader.specs.DrawingLaws.{inner-yes, inner-no}
+-- `reader::draw_clique` meets its contract.
 use borrow.Author.Needs.{needs}
+use Rattle.reader.specs.DrawingLaws.{inner-no, inner-yes}
 use Rattle.reader.proofs.draw_clique.Statement.{statement}
 use Rattle.reader.proofs.draw_clique.Tie as tie
-use Rattle.reader.proofs.draw_clique.Reads as reads
-use Rattle.reader.proofs.draw_clique.Lts as lts
-use Rattle.reader.proofs.draw_across.Reads as draw-across-reads
 
--- src/lib.rt:249:9
 draw-across-requires : tie.Need-draw-across-requires
 draw-across-requires c κs = search needs
 
--- src/lib.rt:244:1
 same-length : tie.Need-same-length
 same-length c = search needs
 
--- src/lib.rt:244:1
 returns : tie.Need-returns
 returns c = inner-yes _ _ (c .before .before .before .before .if1 .taken) (c .before .before .draw-across .ensures)
 
--- src/lib.rt:244:1
 returns-2 : tie.Need-returns-2
 returns-2 c = inner-no _ _ _ (c .if1 .left)
 

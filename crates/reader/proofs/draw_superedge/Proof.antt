@@ -1,24 +1,18 @@
-use Rattle.reader.specs.DrawingLaws.{joined-by}
+-- `reader::draw_superedge` meets its contract.
 use borrow.Author.Needs.{needs}
+use Rattle.reader.specs.DrawingLaws.{joined-by}
 use Rattle.reader.proofs.draw_superedge.Statement.{statement}
 use Rattle.reader.proofs.draw_superedge.Tie as tie
-use Rattle.reader.proofs.draw_superedge.Reads as reads
-use Rattle.reader.proofs.draw_superedge.Lts as lts
-use Rattle.reader.proofs.draw_across.Reads as draw-across-reads
 
--- src/lib.rt:239:5
 draw-across-requires : tie.Need-draw-across-requires
 draw-across-requires c κs = search needs
 
--- src/lib.rt:240:5
 draw-across-requires-2 : tie.Need-draw-across-requires-2
 draw-across-requires-2 c κs = search needs
 
--- src/lib.rt:235:1
 same-length : tie.Need-same-length
 same-length c = search needs
 
--- src/lib.rt:235:1
 returns : tie.Need-returns
 returns c = joined-by _ _ (c .before .before .before .before .before .before .draw-across .ensures) (c .before .before .draw-across2 .ensures)
 

@@ -1,55 +1,41 @@
-use Rattle.reader.specs.RecordLaws.{head-short, head-full}
-use native.Mathlib.Omega.{arith}
-use mathlib.Core.Path.{_∙_}
+-- `reader::head_at` meets its contract.
 use borrow.Author.Needs.{needs}
+use mathlib.Core.Path.{_∙_}
+use native.Mathlib.Omega.{arith}
+use Rattle.reader.specs.RecordLaws.{head-full, head-short}
 use Rattle.reader.proofs.head_at.Statement.{statement}
 use Rattle.reader.proofs.head_at.Tie as tie
-use Rattle.reader.proofs.head_at.Reads as reads
-use Rattle.reader.proofs.head_at.Lts as lts
-use Rattle.reader.proofs.malformed.Reads as malformed-reads
-use Rattle.reader.proofs.u16_at.Reads as u16-at-reads
 
--- src/lib.rt:108:8
 sub-if1 : tie.Need-sub-if1
 sub-if1 c = search needs
 
--- src/lib.rt:109:9
 malformed-requires : tie.Need-malformed-requires
 malformed-requires c κs = search needs
 
--- src/lib.rt:109:9
 returns : tie.Need-returns
 returns c = c .malformed .ensures ∙ head-short _ _ (omega arith) (omega arith)
 
--- src/lib.rt:111:26
 add-u16-at : tie.Need-add-u16-at
 add-u16-at c = search needs
 
--- src/lib.rt:111:9
 u16-at-requires : tie.Need-u16-at-requires
 u16-at-requires c κs = search needs
 
--- src/lib.rt:112:26
 add-u16-at-2 : tie.Need-add-u16-at-2
 add-u16-at-2 c = search needs
 
--- src/lib.rt:112:9
 u16-at-requires-2 : tie.Need-u16-at-requires-2
 u16-at-requires-2 c κs = search needs
 
--- src/lib.rt:113:26
 add-u16-at-3 : tie.Need-add-u16-at-3
 add-u16-at-3 c = search needs
 
--- src/lib.rt:113:9
 u16-at-requires-3 : tie.Need-u16-at-requires-3
 u16-at-requires-3 c κs = search needs
 
--- src/lib.rt:115:15
 add-t7 : tie.Need-add-t7
 add-t7 c = search needs
 
--- src/lib.rt:104:1
 returns-2 : tie.Need-returns-2
 returns-2 c = head-full _ _ _ _ _ (omega arith) (c .before .before .u16-at .ensures) (c .before .u16-at2 .ensures) (c .u16-at3 .ensures)
 

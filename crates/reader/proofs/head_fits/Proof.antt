@@ -1,19 +1,15 @@
-use Rattle.reader.specs.DecodedLaws.{too-many, too-visible, by-groups}
+-- `reader::head_fits` meets its contract.
 use native.Mathlib.Omega.{arith}
+use Rattle.reader.specs.DecodedLaws.{by-groups, too-many, too-visible}
 use Rattle.reader.proofs.head_fits.Statement.{statement}
 use Rattle.reader.proofs.head_fits.Tie as tie
-use Rattle.reader.proofs.head_fits.Reads as reads
-use Rattle.reader.proofs.head_fits.Lts as lts
 
--- src/lib.rt:426:9
 returns : tie.Need-returns
 returns c = too-many _ _ _ (c .if1 .taken)
 
--- src/lib.rt:429:9
 returns-2 : tie.Need-returns-2
 returns-2 c = too-visible _ _ _ (omega arith) (c .if2 .taken)
 
--- src/lib.rt:422:1
 returns-3 : tie.Need-returns-3
 returns-3 c = by-groups _ _ _ (omega arith) (omega arith)
 

@@ -1,35 +1,27 @@
-use Rattle.reader.specs.RecordLaws.{mark-no, mark-by}
+-- `reader::is_mark` meets its contract.
 use borrow.Author.Needs.{needs}
+use Rattle.reader.specs.RecordLaws.{mark-by, mark-no}
 use Rattle.reader.proofs.is_mark.Statement.{statement}
 use Rattle.reader.proofs.is_mark.Tie as tie
-use Rattle.reader.proofs.is_mark.Reads as reads
-use Rattle.reader.proofs.is_mark.Lts as lts
 
--- src/lib.rt:100:8
 shared-slice-read-if1 : tie.Need-shared-slice-read-if1
 shared-slice-read-if1 c = search needs
 
--- src/lib.rt:100:20
 element-copy-out-if1 : tie.Need-element-copy-out-if1
 element-copy-out-if1 c = search needs
 
--- src/lib.rt:101:9
 returns : tie.Need-returns
 returns c = mark-no _ _ _ (c .if1 .taken)
 
--- src/lib.rt:103:10
 add-result : tie.Need-add-result
 add-result c = search needs
 
--- src/lib.rt:103:5
 shared-slice-read-result : tie.Need-shared-slice-read-result
 shared-slice-read-result c = search needs
 
--- src/lib.rt:103:21
 element-copy-out-result : tie.Need-element-copy-out-result
 element-copy-out-result c = search needs
 
--- src/lib.rt:96:1
 returns-2 : tie.Need-returns-2
 returns-2 c = mark-by _ _ _ (c .before .before .if1 .left)
 

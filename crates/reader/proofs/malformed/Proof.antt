@@ -1,12 +1,10 @@
-use Rattle.reader.specs.RecordLaws.{malformed-is}
+-- `reader::malformed` meets its contract.
 use mathlib.Core.List.{[]}
 use mathlib.Core.Path.{refl}
+use Rattle.reader.specs.RecordLaws.{malformed-is}
 use Rattle.reader.proofs.malformed.Statement.{statement}
 use Rattle.reader.proofs.malformed.Tie as tie
-use Rattle.reader.proofs.malformed.Reads as reads
-use Rattle.reader.proofs.malformed.Lts as lts
 
--- src/lib.rt:106:1
 returns : tie.Need-returns
 returns c = malformed-is [] _ _ refl
 

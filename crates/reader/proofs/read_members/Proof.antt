@@ -1,16 +1,13 @@
-use Rattle.reader.specs.DecodingLaws.{member-clears, member-counts, member-large, member-over, members-done, members-end, members-hold, members-over, marks-end, marks-hold}
-use Rattle.reader.specs.Decoding.{Clearing, membersRead, numbersAt, within}
-use Rattle.reader.specs.Drawing.{restAt}
+-- `reader::read_members` meets its contract.
+use Prim.Native.Nat.{_-_, _≤_}
 use borrow.Author.Needs.{needs}
+use mathlib.Core.Path.{_≡_}
 use native.Mathlib.Omega.{arith}
-use mathlib.Core.Path.{_≡_, _∙_}
-use Prim.Native.Nat.{_≤_, _-_, _+_}
+use Rattle.reader.specs.Decoding.{Clearing, membersRead, numbersAt, within}
+use Rattle.reader.specs.DecodingLaws.{marks-end, marks-hold, member-clears, member-counts, member-large, member-over, members-done, members-end, members-hold, members-over}
+use Rattle.reader.specs.Drawing.{restAt}
 use Rattle.reader.proofs.read_members.Statement.{statement}
 use Rattle.reader.proofs.read_members.Tie as tie
-use Rattle.reader.proofs.read_members.Reads as reads
-use Rattle.reader.proofs.read_members.Lts as lts
-use Rattle.reader.proofs.Counts.member.Reads as member-reads
-use Rattle.reader.proofs.node_at.Reads as node-at-reads
 
 abbrev Inv-loop : tie.InvT-loop
 Inv-loop file at count n hidden₀ left₀ k₀ hidden left k =
@@ -21,75 +18,57 @@ Inv-loop file at count n hidden₀ left₀ k₀ hidden left k =
 abbrev μ-loop : tie.MeasureT-loop
 μ-loop file at count n hidden₀ left₀ k₀ hidden left k = count - k
 
--- src/lib.rt:277:5
 loop-holds : tie.Need-loop-holds Inv-loop μ-loop
 loop-holds c = (omega arith, members-hold _ _ _ _ _, marks-hold _ _ _ _)
 
--- src/lib.rt:278:36
 mul-node-at : tie.Need-mul-node-at Inv-loop μ-loop
 mul-node-at c = search needs
 
--- src/lib.rt:278:31
 add-node-at : tie.Need-add-node-at Inv-loop μ-loop
 add-node-at c = search needs
 
--- src/lib.rt:278:13
 node-at-requires : tie.Need-node-at-requires Inv-loop μ-loop
 node-at-requires c κs = search needs
 
--- src/lib.rt:280:13
 same-length : tie.Need-same-length Inv-loop μ-loop
 same-length c = c .before .before .before .loop .inv .2 .size
 
--- src/lib.rt:280:13
 returns : tie.Need-returns Inv-loop μ-loop
 returns c = members-over _ _ _ _ _ _ _ (c .before .before .before .loop .inv .2 .size) (member-large _ _ _ _ _ _ (c .before .before .loop-test .taken) (c .before .node-at .ensures) _ _ (c .if1 .taken) (c .before .before .before .loop .inv .1))
 
--- src/lib.rt:282:33
 member-requires : tie.Need-member-requires Inv-loop μ-loop
 member-requires c κs = search needs
 
--- src/lib.rt:282:28
 enum-known-c : tie.Need-enum-known-c Inv-loop μ-loop
 enum-known-c c = c .match .keys1
 
--- src/lib.rt:283:13
 enum-told : tie.Need-enum-told Inv-loop μ-loop
 enum-told c = c .match .keys2
 
--- src/lib.rt:283:13
 same-length-2 : tie.Need-same-length-2 Inv-loop μ-loop
 same-length-2 c = c .before .before .before .before .before .before .loop .inv .2 .size
 
--- src/lib.rt:283:13
 returns-2 : tie.Need-returns-2 Inv-loop μ-loop
 returns-2 c = members-over _ _ _ _ _ _ _ (c .before .before .before .before .before .before .loop .inv .2 .size) (member-over _ _ _ _ _ _ (c .before .before .before .before .before .loop-test .taken) (c .before .before .before .before .node-at .ensures) _ _ _ (omega arith) (c .before .before .member .ensures) (c .enum-told .given .1) (c .before .before .before .before .before .before .loop .inv .1))
 
--- src/lib.rt:286:9
 mul-hidden : tie.Need-mul-hidden Inv-loop μ-loop
 mul-hidden c = search needs
 
--- src/lib.rt:286:9
 slice-write-hidden : tie.Need-slice-write-hidden Inv-loop μ-loop
 slice-write-hidden c = omega (arith, c .before .before .before .before .before .before .before .loop .inv .2 .size)
 
--- src/lib.rt:277:9
 add-k : tie.Need-add-k Inv-loop μ-loop
 add-k c = search needs
 
--- src/lib.rt:277:5
 loop-less : tie.Need-loop-less Inv-loop μ-loop
 loop-less c = search needs
 
--- src/lib.rt:277:5
 loop-again : tie.Need-loop-again Inv-loop μ-loop
 loop-again c = (omega arith, member-counts _ _ _ _ _ _ (c .before .before .before .before .before .before .loop-test .taken) (c .before .before .before .before .before .node-at .ensures) _ _ _ _ (omega arith) (c .before .before .before .member .ensures) (c .before .c .given .1) (c .before .before .before .before .before .before .before .loop .inv .1), member-clears 0 _ _ _ _ _ (c .before .before .before .before .before .before .loop-test .taken) (c .before .before .before .before .before .node-at .ensures) (omega (arith, c .before .before .before .before .before .before .before .loop .inv .2 .size)) (c .before .before .before .before .before .before .before .loop .inv .2))
 
--- src/lib.rt:265:1
 same-length-3 : tie.Need-same-length-3 Inv-loop μ-loop
 same-length-3 c = c .before .loop .inv .2 .size
 
--- src/lib.rt:265:1
 returns-3 : tie.Need-returns-3 Inv-loop μ-loop
 returns-3 c = members-done _ _ _ _ _ _ _ _ (members-end _ _ _ _ _ _ _ (omega arith) (c .before .loop .inv .1)) (marks-end _ _ _ _ (omega arith) (c .before .loop .inv .2))
 

@@ -1,102 +1,74 @@
-use Rattle.reader.specs.RecordLaws.{no-mark, by-superedge, by-group, by-clique, by-head, by-end, by-none}
-use native.Mathlib.Omega.{arith}
-use mathlib.Core.Path.{_∙_, sym}
+-- `reader::read_record` meets its contract.
 use borrow.Author.Needs.{needs}
+use mathlib.Core.Path.{_∙_, sym}
+use native.Mathlib.Omega.{arith}
+use Rattle.reader.specs.RecordLaws.{by-clique, by-end, by-group, by-head, by-none, by-superedge, no-mark}
 use Rattle.reader.proofs.read_record.Statement.{statement}
 use Rattle.reader.proofs.read_record.Tie as tie
-use Rattle.reader.proofs.read_record.Reads as reads
-use Rattle.reader.proofs.read_record.Lts as lts
-use Rattle.reader.proofs.group_at.Reads as group-at-reads
-use Rattle.reader.proofs.head_at.Reads as head-at-reads
-use Rattle.reader.proofs.is_mark.Reads as is-mark-reads
-use Rattle.reader.proofs.malformed.Reads as malformed-reads
-use Rattle.reader.proofs.superedge_at.Reads as superedge-at-reads
 
--- src/lib.rt:154:9
 malformed-requires : tie.Need-malformed-requires
 malformed-requires c κs = search needs
 
--- src/lib.rt:154:9
 returns : tie.Need-returns
 returns c = c .malformed .ensures ∙ no-mark _ _ (omega arith)
 
--- src/lib.rt:156:8
 sub-if2 : tie.Need-sub-if2
 sub-if2 c = search needs
 
--- src/lib.rt:157:9
 malformed-requires-2 : tie.Need-malformed-requires-2
 malformed-requires-2 c κs = search needs
 
--- src/lib.rt:157:9
 returns-2 : tie.Need-returns-2
 returns-2 c = c .malformed2 .ensures ∙ no-mark _ _ (omega arith)
 
--- src/lib.rt:159:8
 is-mark-requires : tie.Need-is-mark-requires
 is-mark-requires c κs = search needs
 
--- src/lib.rt:160:9
 superedge-at-requires : tie.Need-superedge-at-requires
 superedge-at-requires c κs = search needs
 
--- src/lib.rt:160:9
 returns-3 : tie.Need-returns-3
 returns-3 c = c .superedge-at .ensures ∙ by-superedge _ _ (omega arith) (sym (c .before .if3 .taken) ∙ c .before .before .is-mark .ensures)
 
--- src/lib.rt:162:8
 is-mark-requires-2 : tie.Need-is-mark-requires-2
 is-mark-requires-2 c κs = search needs
 
--- src/lib.rt:163:9
 group-at-requires : tie.Need-group-at-requires
 group-at-requires c κs = search needs
 
--- src/lib.rt:163:9
 returns-4 : tie.Need-returns-4
 returns-4 c = c .group-at .ensures ∙ by-group _ _ (omega arith) (sym (c .before .before .before .before .if3 .left) ∙ c .before .before .before .before .before .is-mark .ensures) (sym (c .before .if4 .taken) ∙ c .before .before .is-mark2 .ensures)
 
--- src/lib.rt:165:8
 is-mark-requires-3 : tie.Need-is-mark-requires-3
 is-mark-requires-3 c κs = search needs
 
--- src/lib.rt:166:9
 group-at-requires-2 : tie.Need-group-at-requires-2
 group-at-requires-2 c κs = search needs
 
--- src/lib.rt:166:9
 returns-5 : tie.Need-returns-5
 returns-5 c = c .group-at2 .ensures ∙ by-clique _ _ (omega arith) (sym (c .before .before .before .before .before .before .before .if3 .left) ∙ c .before .before .before .before .before .before .before .before .is-mark .ensures) (sym (c .before .before .before .before .if4 .left) ∙ c .before .before .before .before .before .is-mark2 .ensures) (sym (c .before .if5 .taken) ∙ c .before .before .is-mark3 .ensures)
 
--- src/lib.rt:168:8
 is-mark-requires-4 : tie.Need-is-mark-requires-4
 is-mark-requires-4 c κs = search needs
 
--- src/lib.rt:169:9
 head-at-requires : tie.Need-head-at-requires
 head-at-requires c κs = search needs
 
--- src/lib.rt:169:9
 returns-6 : tie.Need-returns-6
 returns-6 c = c .head-at .ensures ∙ by-head _ _ (omega arith) (sym (c .before .before .before .before .before .before .before .before .before .before .if3 .left) ∙ c .before .before .before .before .before .before .before .before .before .before .before .is-mark .ensures) (sym (c .before .before .before .before .before .before .before .if4 .left) ∙ c .before .before .before .before .before .before .before .before .is-mark2 .ensures) (sym (c .before .before .before .before .if5 .left) ∙ c .before .before .before .before .before .is-mark3 .ensures) (sym (c .before .if6 .taken) ∙ c .before .before .is-mark4 .ensures)
 
--- src/lib.rt:171:8
 is-mark-requires-5 : tie.Need-is-mark-requires-5
 is-mark-requires-5 c κs = search needs
 
--- src/lib.rt:173:19
 add-t21 : tie.Need-add-t21
 add-t21 c = search needs
 
--- src/lib.rt:172:9
 returns-7 : tie.Need-returns-7
 returns-7 c = by-end _ _ (omega arith) (sym (c .before .before .before .before .before .before .before .before .before .before .before .before .if3 .left) ∙ c .before .before .before .before .before .before .before .before .before .before .before .before .before .is-mark .ensures) (sym (c .before .before .before .before .before .before .before .before .before .if4 .left) ∙ c .before .before .before .before .before .before .before .before .before .before .is-mark2 .ensures) (sym (c .before .before .before .before .before .before .if5 .left) ∙ c .before .before .before .before .before .before .before .is-mark3 .ensures) (sym (c .before .before .before .if6 .left) ∙ c .before .before .before .before .is-mark4 .ensures) (sym (c .if7 .taken) ∙ c .before .is-mark5 .ensures)
 
--- src/lib.rt:177:5
 malformed-requires-3 : tie.Need-malformed-requires-3
 malformed-requires-3 c κs = search needs
 
--- src/lib.rt:150:1
 returns-8 : tie.Need-returns-8
 returns-8 c = c .malformed3 .ensures ∙ by-none _ _ (omega arith) (sym (c .before .before .before .before .before .before .before .before .before .before .before .before .before .if3 .left) ∙ c .before .before .before .before .before .before .before .before .before .before .before .before .before .before .is-mark .ensures) (sym (c .before .before .before .before .before .before .before .before .before .before .if4 .left) ∙ c .before .before .before .before .before .before .before .before .before .before .before .is-mark2 .ensures) (sym (c .before .before .before .before .before .before .before .if5 .left) ∙ c .before .before .before .before .before .before .before .before .is-mark3 .ensures) (sym (c .before .before .before .before .if6 .left) ∙ c .before .before .before .before .before .is-mark4 .ensures) (sym (c .before .if7 .left) ∙ c .before .before .is-mark5 .ensures)
 

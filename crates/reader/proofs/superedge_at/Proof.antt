@@ -1,47 +1,35 @@
-use Rattle.reader.specs.RecordLaws.{superedge-short, superedge-full}
-use native.Mathlib.Omega.{arith}
-use mathlib.Core.Path.{_∙_}
+-- `reader::superedge_at` meets its contract.
 use borrow.Author.Needs.{needs}
+use mathlib.Core.Path.{_∙_}
+use native.Mathlib.Omega.{arith}
+use Rattle.reader.specs.RecordLaws.{superedge-full, superedge-short}
 use Rattle.reader.proofs.superedge_at.Statement.{statement}
 use Rattle.reader.proofs.superedge_at.Tie as tie
-use Rattle.reader.proofs.superedge_at.Reads as reads
-use Rattle.reader.proofs.superedge_at.Lts as lts
-use Rattle.reader.proofs.malformed.Reads as malformed-reads
-use Rattle.reader.proofs.u16_at.Reads as u16-at-reads
 
--- src/lib.rt:138:8
 sub-if1 : tie.Need-sub-if1
 sub-if1 c = search needs
 
--- src/lib.rt:139:9
 malformed-requires : tie.Need-malformed-requires
 malformed-requires c κs = search needs
 
--- src/lib.rt:139:9
 returns : tie.Need-returns
 returns c = c .malformed .ensures ∙ superedge-short _ _ (omega arith) (omega arith)
 
--- src/lib.rt:141:30
 add-u16-at : tie.Need-add-u16-at
 add-u16-at c = search needs
 
--- src/lib.rt:141:9
 u16-at-requires : tie.Need-u16-at-requires
 u16-at-requires c κs = search needs
 
--- src/lib.rt:142:31
 add-u16-at-2 : tie.Need-add-u16-at-2
 add-u16-at-2 c = search needs
 
--- src/lib.rt:142:9
 u16-at-requires-2 : tie.Need-u16-at-requires-2
 u16-at-requires-2 c κs = search needs
 
--- src/lib.rt:144:15
 add-t5 : tie.Need-add-t5
 add-t5 c = search needs
 
--- src/lib.rt:134:1
 returns-2 : tie.Need-returns-2
 returns-2 c = superedge-full _ _ _ _ (omega arith) (c .before .u16-at .ensures) (c .u16-at2 .ensures)
 

@@ -1,40 +1,30 @@
-use Rattle.reader.specs.RecordLaws.{u16-is}
+-- `reader::u16_at` meets its contract.
 use borrow.Author.Needs.{needs}
+use Rattle.reader.specs.RecordLaws.{u16-is}
 use Rattle.reader.proofs.u16_at.Statement.{statement}
 use Rattle.reader.proofs.u16_at.Tie as tie
-use Rattle.reader.proofs.u16_at.Reads as reads
-use Rattle.reader.proofs.u16_at.Lts as lts
-use Rattle.reader.proofs.wide.Reads as wide-reads
 
--- src/lib.rt:92:10
 shared-slice-read-wide : tie.Need-shared-slice-read-wide
 shared-slice-read-wide c = search needs
 
--- src/lib.rt:92:5
 wide-requires : tie.Need-wide-requires
 wide-requires c κs = search needs
 
--- src/lib.rt:92:38
 add-wide : tie.Need-add-wide
 add-wide c = search needs
 
--- src/lib.rt:92:33
 shared-slice-read-wide-2 : tie.Need-shared-slice-read-wide-2
 shared-slice-read-wide-2 c = search needs
 
--- src/lib.rt:92:28
 wide-requires-2 : tie.Need-wide-requires-2
 wide-requires-2 c κs = search needs
 
--- src/lib.rt:92:22
 mul-result : tie.Need-mul-result
 mul-result c = search needs
 
--- src/lib.rt:92:5
 add-result : tie.Need-add-result
 add-result c = search needs
 
--- src/lib.rt:88:1
 returns : tie.Need-returns
 returns c = u16-is _ _ _ _ (c .before .before .wide .ensures .0) (c .wide2 .ensures .0)
 
