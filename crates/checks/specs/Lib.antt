@@ -5,3 +5,5 @@ pub mod SlotLaws
 pub mod StepLaws
 pub mod CertificateLaws
 pub mod HoldLaws
+pub mod Dense
+pub mod BlockLaws
