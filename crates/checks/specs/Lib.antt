@@ -6,3 +6,5 @@ pub mod SumLaws
 pub mod StepLaws
 pub mod CertificateLaws
 pub mod HoldLaws
+pub mod Dense
+pub mod BlockLaws
