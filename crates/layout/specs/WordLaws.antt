@@ -342,11 +342,11 @@ module _ (position : List ℕ) (i b x : ℕ) where
     pub word-more : {s₀ : List ℕ} {at₀ : ℕ} {all s : List ℕ} {to : ℕ} {t : List ℕ} {next : ℕ} → Left s₀ at₀ all s to (superedgesTo i (positionsOf position b x)) → Wrote s to (superedgeRecord (i, getD position (b + z) 0)) t next → Left s₀ at₀ all t next (superedgesTo i (positionsOf position b (bitAnd x (x - 1))))
     word-more l v = left-step l v word-one
 
-    pub word-within : z < 64
-    word-within = omega (arith, lowest 64 x pos fits .0)
+pub word-within : (x z : ℕ) → 0 < x → x < 2 ^ 64 → z ≡ trailingZeros 64 x → z < 64
+word-within x z pos fits low = omega (arith, lowest 64 x pos fits .0)
 
-    pub word-less : bitAnd x (x - 1) < x
-    word-less = omega (arith, and-le-r x (x - 1))
+pub word-less : (x : ℕ) → 0 < x → bitAnd x (x - 1) < x
+word-less x pos = omega (arith, and-le-r x (x - 1))
 
 -- a set of bits while it is made: the nodes below p that P chooses
 pub record Marking (P : ℕ → Bool) (set : List ℕ) (p : ℕ) : Type 0 where
