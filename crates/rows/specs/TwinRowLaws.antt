@@ -35,7 +35,7 @@ bit-zero j = ne-eqb (0 / 2 ^ j % 2) 1 (omega (arith, div-zero j))
     div-zero j = zero-div (2 ^ j)
 
 -- the bits of the own word
-own-bit : (q i j : ℕ) → j < 64 → bitAt (ownBit q i) j ≡ eqb q (64 * i + j)
+pub own-bit : (q i j : ℕ) → j < 64 → bitAt (ownBit q i) j ≡ eqb q (64 * i + j)
 unfolding ownBit
 own-bit q i j l = step (decide (eqb (q / 64) i))
   where
@@ -47,7 +47,7 @@ own-bit q i j l = step (decide (eqb (q / 64) i))
         let d : q / 64 ≡ i → ⊥ = eqb-false (q / 64) i x in
         rw x (bit-zero j ∙ sym (ne-eqb q (64 * i + j) (λ e. d (omega arith))))
 
-own-bit-lt : (q i : ℕ) → ownBit q i < 2 ^ 64
+pub own-bit-lt : (q i : ℕ) → ownBit q i < 2 ^ 64
 unfolding ownBit
 own-bit-lt q i = step (eqb (q / 64) i)
   where
@@ -79,7 +79,7 @@ xor-same true = refl
 xor-same false = refl
 
 -- two pairs that differ alike, sorted the other way
-xor-swap : (a b c d : Bool) → xor a b ≡ xor c d → xor a c ≡ xor b d
+pub xor-swap : (a b c d : Bool) → xor a b ≡ xor c d → xor a c ≡ xor b d
 unfolding xor
 xor-swap true true true true h = refl
 xor-swap true true false false h = refl
@@ -138,7 +138,7 @@ module _ (n : ℕ) (edges keys : List ℕ) (ready : Ready n edges keys) where
   word-at : (p w : ℕ) → p < n → w < 8 → getD edges (8 * p + w) 0 ≡ word 64 (λ i. e p (64 * w + i))
   word-at p w hp hw = ap (λ (t : List ℕ). getD t (8 * p + w) 0) (ready .edges-of) ∙ edges-at (graphIn n edges) p w hp hw
 
-  word-small : (i : ℕ) → getD edges i 0 < 2 ^ 64
+  pub word-small : (i : ℕ) → getD edges i 0 < 2 ^ 64
   word-small i = rw (ready .edges-of) (edges-words (graphIn n edges) i)
 
   key-at : (p k : ℕ) → p < n → k < 2 → getD keys (2 * p + k) 0 ≡ keyOf (graphIn n edges) p k

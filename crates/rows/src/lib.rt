@@ -188,7 +188,7 @@ fn may_join(nodes: &[u16], keys: &[u32], u: usize, w: usize, q: usize) -> bool
 }
 
 // Node q's own bit in word i of a row.
-fn own_bit(q: usize, i: usize) -> u64
+pub fn own_bit(q: usize, i: usize) -> u64
     ensures { λ r. ⌜ r ≡ ownBit q i ⌝ }
 {
     if word_of(q) == i {

@@ -1,15 +1,15 @@
 -- Keys summed row by row.
 use mathlib.Core.Path.{_≡_, refl, sym, ap, _∙_}
 use mathlib.Core.Bool.{Bool, true, false, _&&_}
-use mathlib.Core.List.{List, _++_}
+use mathlib.Core.List.{List}
 use mathlib.Core.Logic.{_⊎_, inl, inr}
 use Prim.Native.Nat.{ℕ, zero, suc, _+_, _*_, _-_, _/_, _%_, _^_, _≤_, _<_}
 use native.Mathlib.Omega.{arith}
 use lib.Bits.{bitAnd}
 use lib.Count.{trailingZeros}
 use lib.Dec.{eqb, ltb}
-use lib.ListN.{getD, length, length-append, length-set, set, take}
-use lib.Seq.{ext-getD, length-take-le, take-append-seam, getD-set-other, getD-set-same}
+use lib.ListN.{getD, length, length-set, set}
+use lib.Seq.{ext-getD, getD-set-other, getD-set-same}
 use borrow.Author.Tests.{eqb-false, eqb-true, ltb-true}
 use Rattle.model.specs.Lists.{filter, nodes}
 use Rattle.model.specs.Grouping.{cube, openKey, sumCubes}
@@ -74,17 +74,3 @@ summed-all {n} {i} {edges} {t} {t₁} a l h = ext-getD 0 t₁ (keysOf (graphIn n
         let e : j ≡ 2 * (j / 2) + j % 2 = omega arith in
         let b : j / 2 < n = omega (arith, a .size) in
         rw e (a .keys (j / 2) (j % 2) (omega arith) (omega arith) ∙ sym (keys-at (graphIn n edges) (j / 2) (j % 2) b (omega arith)))
-
--- a prefix lent for the keys, and the keys in it
-pub prefix-length : (k : ℕ) (s : List ℕ) → k ≤ length s → k ≡ length (take k s)
-prefix-length k s h = sym (length-take-le k s h)
-
-module _ (n : ℕ) (edges rest : List ℕ) {keys : List ℕ} (e : keys ≡ keysOf (graphIn n edges)) where
-  size : length keys ≡ 2 * n
-  size = ap length e ∙ length-keys (graphIn n edges)
-
-  pub prefix-room : 2 * n ≤ length (keys ++ rest)
-  prefix-room = omega (arith, length-append keys rest, size)
-
-  pub prefix-keys : take (2 * n) (keys ++ rest) ≡ keys
-  prefix-keys = rw (← size) (take-append-seam keys rest)

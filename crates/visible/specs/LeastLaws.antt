@@ -1,20 +1,20 @@
--- Each visible node's group is found among the groups below it.
-use mathlib.Core.Path.{_≡_, refl, sym, ap, ap₂, _∙_}
-use mathlib.Core.Bool.{Bool, true, false, not, cond, _&&_, _||_, and-false}
+-- Each visible node's group is found among the leaders below it.
+use mathlib.Core.Path.{_≡_, refl, sym, ap, _∙_}
+use mathlib.Core.Bool.{Bool, true, false, cond, _&&_, _||_, and-false}
 use mathlib.Core.List.{List}
 use mathlib.Core.Logic.{_⊎_, inl, inr}
-use Prim.Native.Nat.{ℕ, _+_, _*_, _≤_, _<_}
+use Prim.Native.Nat.{ℕ, _+_, _≤_, _<_}
 use native.Mathlib.Omega.{arith}
 use lib.Dec.{eqb, ltb}
 use lib.ListN.{getD, length, length-set, set}
 use lib.Seq.{getD-set-other, getD-set-same}
-use borrow.Author.Tests.{eqb-false, eqb-true, eq-eqb, le-ltb, lt-ltb, ltb-false, ltb-true, ne-eqb}
+use borrow.Author.Tests.{eqb-false, eqb-true, eq-eqb, lt-ltb, ltb-false, ltb-true, ne-eqb}
 use Rattle.model.specs.Lists.{_∈_, filter, nodes}
-use Rattle.model.specs.Graph.{Graph, Proper, nodeNumbers, rowWords}
+use Rattle.model.specs.Graph.{Graph, Proper}
 use Rattle.model.specs.Grouping.{closed, falseTwins, least, similar, trueTwins}
-use Rattle.model.specs.Tables.{edgeBit, nodeNumber}
+use Rattle.model.specs.Tables.{edgeBit, keysOf}
 use Rattle.model.specs.Release.{isVisible, visible, visibleEdge}
-use Rattle.model.specs.TestLaws.{and-fst, and-snd, and-true, decide, differ, iff-eq}
+use Rattle.model.specs.TestLaws.{decide, differ, iff-eq}
 use Rattle.model.specs.ListLaws.{Ascending, filter-elim, filter-intro, nodes-in, nodes-out}
 use Rattle.model.specs.TwinLaws.{Simple, falseTwins-at, falseTwins-by, similar-N, similar-N+, similar-cases, similar-refl, trueTwins-at, trueTwins-by}
 use Rattle.model.specs.ClassLaws.{Equivalence, least-eq, least-in, least-le, least-least, least-rel}
@@ -22,15 +22,14 @@ use Rattle.model.specs.SummaryLaws.{equivalence}
 use Rattle.model.specs.ReleaseLaws.{visible-ascending, visible-simple}
 use Rattle.model.specs.ReadBackLaws.{visible-inside}
 use Rattle.layout.specs.Truth.{Truth}
-use Rattle.rows.specs.Search.{Ready, edgesIn, firstFrom, joins}
-use Rattle.rows.specs.SearchLaws.{ready-edges}
-use Rattle.groups.specs.GroupLaws.{first-cases}
-use Rattle.visible.specs.Visible.{Apart, leastFound, markedGraph, shown}
+use Rattle.rows.specs.Search.{Ready, edgesIn, graphIn, meets, rowIn}
+use Rattle.rows.specs.SearchLaws.{meets-by, meets-words}
+use Rattle.rows.specs.TwinRowLaws.{false-meet, meet-false, meet-true, true-meet}
+use Rattle.visible.specs.Visible.{Apart, leading, leastVisible, markedGraph, shown}
+use Rattle.visible.specs.Chains.{Entered, Links, Met, Sought, alike, slotOf}
 use Rattle.visible.specs.MaskLaws.{visible-is}
-
--- what is told of node q: the least of its group if it is visible, a number that no node has if not
-abbrev pub told : Graph → ℕ → ℕ
-told g q = cond (isVisible g q) (least (visible g) (similar (visible g) (visibleEdge g)) q) 65535
+use Rattle.visible.specs.KeySumLaws.{within-length}
+use Rattle.visible.specs.ChainLaws.{alike-slot, chains-none, slot-lt}
 
 module _ {n : ℕ} {edges marks : List ℕ} (a : Apart n edges marks) where
   abbrev g : Graph
@@ -125,137 +124,170 @@ module _ {n : ℕ} {edges marks : List ℕ} (a : Apart n edges marks) where
         back (inl t) = similar-N (nodes n) e u q (of-false t)
         back (inr t) = similar-N+ (nodes n) e u q (of-true t)
 
-  -- the search below u
-  module _ (small : n ≤ 512) (table : List ℕ) (u : ℕ) (hu : u < n) (below : (q : ℕ) → q < u → nodeNumber table q 0 ≡ told (markedGraph n edges marks) q) where
-    abbrev J : ℕ → Bool
-    J = joins n edges table u u
+  -- rows that agree are those of similar nodes
+  apart-ready : Ready n edges (keysOf (graphIn n edges))
+  apart-ready = record { small = a .within .small; loops = λ p. unfold markedGraph in a .proper .irreflexive p; edges-of = a .within .edges-of; keys-of = refl }
 
-    least-found : isVisible (markedGraph n edges marks) u ≡ true → firstFrom (joins n edges table u u) 0 u ≡ least (visible (markedGraph n edges marks)) (similar (visible (markedGraph n edges marks)) (visibleEdge (markedGraph n edges marks))) u
-    least-found v = step (first-cases J 0 u)
+  similar-alike : (closed : Bool) (u q : ℕ) → u < n → q < n → alike edges closed u q ≡ true → similar (nodes n) (edgesIn n edges) u q ≡ true
+  unfolding alike
+  similar-alike true u q hu hq h = similar-N+ (nodes n) e u q (meet-true n edges (keysOf (graphIn n edges)) apart-ready u q hu hq (meets-words true u q edges h))
+  similar-alike false u q hu hq h = similar-N (nodes n) e u q (meet-false n edges (keysOf (graphIn n edges)) apart-ready u q hu hq (meets-words false u q edges h))
+
+  alike-similar : (u q : ℕ) → u < n → q < n → similar (nodes n) (edgesIn n edges) u q ≡ true → (alike edges false u q ≡ true) ⊎ (alike edges true u q ≡ true)
+  unfolding alike
+  alike-similar u q hu hq h = step (similar-cases (nodes n) e u q h)
+    where
+      step : (falseTwins (nodes n) e u q ≡ true) ⊎ (trueTwins (nodes n) e u q ≡ true) → (meets false u q (rowIn edges u) (rowIn edges q) 8 ≡ true) ⊎ (meets true u q (rowIn edges u) (rowIn edges q) 8 ≡ true)
+      step (inl t) = inl (meets-by false u q edges (false-meet n edges (keysOf (graphIn n edges)) apart-ready u q hu hq t))
+      step (inr t) = inr (meets-by true u q edges (true-meet n edges (keysOf (graphIn n edges)) apart-ready u q hu hq t))
+
+  -- a leader is visible
+  leads-out : (q : ℕ) → q < n → leading (markedGraph n edges marks) q ≡ true → (isVisible (markedGraph n edges marks) q ≡ true) × (least (visible (markedGraph n edges marks)) (similar (visible (markedGraph n edges marks)) (visibleEdge (markedGraph n edges marks))) q ≡ q)
+  unfolding leading leastVisible
+  leads-out q hq h = at (decide (isVisible g q)) (eqb-true _ q h)
+    where
+      at : (isVisible g q ≡ true) ⊎ (isVisible g q ≡ false) → cond (isVisible g q) (least vs r q) 65535 ≡ q → (isVisible g q ≡ true) × (least vs r q ≡ q)
+      at (inl k) t = (k, rw k at t)
+      at (inr k) t = let z : 65535 ≡ q = rw k at t in absurd (omega (arith, a .within .small))
+
+  leads-in : (q : ℕ) → isVisible (markedGraph n edges marks) q ≡ true → least (visible (markedGraph n edges marks)) (similar (visible (markedGraph n edges marks)) (visibleEdge (markedGraph n edges marks))) q ≡ q → leading (markedGraph n edges marks) q ≡ true
+  unfolding leading leastVisible
+  leads-in q v h = eq-eqb _ q (rw v h)
+
+  -- the group of a visible u
+  module _ (u : ℕ) (v : isVisible (markedGraph n edges marks) u ≡ true) where
+    -- a leader below u whose row agrees with u's
+    least-met : (closed : Bool) (q : ℕ) → q < u → leading (markedGraph n edges marks) q ≡ true → alike edges closed u q ≡ true → q ≡ leastVisible (markedGraph n edges marks) u
+    unfolding leastVisible
+    least-met closed q l h t =
+        let hu = inside u v in
+        let k = leads-out q (omega arith) h in
+        let same : r u q ≡ true = sym (similar-visible u q v (k .0)) ∙ similar-alike closed u q hu (omega arith) t in
+        rw v (sym (least-eq vs r eq asc u q (in-vs u v) (in-vs q (k .0)) same ∙ k .1))
+
+    -- no leader below u whose row agrees
+    least-alone : ((closed : Bool) (q : ℕ) → q < u → leading (markedGraph n edges marks) q ≡ true → alike edges closed u q ≡ false) → u ≡ leastVisible (markedGraph n edges marks) u
+    unfolding leastVisible
+    least-alone none = rw v (at (decide (ltb (least vs r u) u)))
       where
-        first : ℕ
-        first = firstFrom J 0 u
+        hu : u < n
+        hu = inside u v
 
-        -- a leader that u is similar to
-        leads : (q : ℕ) → q < u → nodeNumber table q 0 ≡ q → (isVisible g q ≡ true) × (least vs r q ≡ q)
-        leads q l t = at (decide (isVisible g q))
-          where
-            at : (isVisible g q ≡ true) ⊎ (isVisible g q ≡ false) → (isVisible g q ≡ true) × (least vs r q ≡ q)
-            at (inl k) = (k, (rw k at (sym (below q l))) ∙ t)
-            at (inr k) = absurd (omega (arith, rw k at (below q l)))
+        lv : isVisible g (least vs r u) ≡ true
+        lv = out-vs (least vs r u) (least-in vs r eq asc u (in-vs u v))
 
-        joined : (q : ℕ) → q < u → joins n edges table u u q ≡ true → q ≡ least vs r u
-        joined q l t = unfold joins in at (and-snd (not (eqb q u)) _ (and-snd (not (eqb q u)) _ t))
-          where
-            at : (eqb (nodeNumber table q 0) q && similar (nodes n) e u q) ≡ true → q ≡ least vs r u
-            at s =
-                let k = leads q l (eqb-true (nodeNumber table q 0) q (and-fst (eqb (nodeNumber table q 0) q) _ s)) in
-                let same : r u q ≡ true = sym (similar-visible u q v (k .0)) ∙ and-snd (eqb (nodeNumber table q 0) q) _ s in
-                sym (least-eq vs r eq asc u q (in-vs u v) (in-vs q (k .0)) same ∙ k .1)
+        lead : leading g (least vs r u) ≡ true
+        lead = leads-in (least vs r u) lv (least-least vs r eq asc u (in-vs u v))
 
-        alone : ((q : ℕ) → 0 ≤ q → q < 0 + u → joins n edges table u u q ≡ false) → u ≡ least vs r u
-        alone h = at (decide (ltb (least vs r u) u))
-          where
-            l : ℕ
-            l = least vs r u
+        twins : (alike edges false u (least vs r u) ≡ true) ⊎ (alike edges true u (least vs r u) ≡ true)
+        twins = alike-similar u (least vs r u) hu (inside (least vs r u) lv) (similar-visible u (least vs r u) v lv ∙ least-rel vs r eq asc u (in-vs u v))
 
-            lv : isVisible g (least vs r u) ≡ true
-            lv = out-vs (least vs r u) (least-in vs r eq asc u (in-vs u v))
+        clash : least vs r u < u → (alike edges false u (least vs r u) ≡ true) ⊎ (alike edges true u (least vs r u) ≡ true) → u ≡ least vs r u
+        clash b (inl t) = differ t (none false (least vs r u) b lead)
+        clash b (inr t) = differ t (none true (least vs r u) b lead)
 
-            number : least vs r u < u → nodeNumber table (least vs r u) 0 ≡ least vs r u
-            number b = below (least vs r u) b ∙ rw lv (least-least vs r eq asc u (in-vs u v))
+        at : (ltb (least vs r u) u ≡ true) ⊎ (ltb (least vs r u) u ≡ false) → u ≡ least vs r u
+        at (inl b) = clash (ltb-true (least vs r u) u b) twins
+        at (inr b) = omega (arith, ltb-false (least vs r u) u b, least-le vs r eq asc u u (in-vs u v) (similar-refl vs f u))
 
-            other : least vs r u < u → not (eqb (least vs r u) u) ≡ true
-            other b = ap not (ne-eqb (least vs r u) u (omega arith))
+-- the steps of the search
+module _ {n : ℕ} {edges marks : List ℕ} (a : Apart n edges marks) {u : ℕ} (hu : u < n) (b : Bool) (e : b ≡ shown marks u) where
+  abbrev g₁ : Graph
+  g₁ = markedGraph n edges marks
 
-            hit : least vs r u < u → joins n edges table u u (least vs r u) ≡ true
-            hit b = unfold joins in and-true (other b) (and-true (other b) (and-true (eq-eqb (nodeNumber table (least vs r u) 0) (least vs r u) (number b)) (similar-visible u (least vs r u) v lv ∙ least-rel vs r eq asc u (in-vs u v))))
+  abbrev L : ℕ → Bool
+  L = leading (markedGraph n edges marks)
 
-            at : (ltb (least vs r u) u ≡ true) ⊎ (ltb (least vs r u) u ≡ false) → u ≡ least vs r u
-            at (inl b) = differ (hit (ltb-true (least vs r u) u b)) (h (least vs r u) (omega arith) (omega (arith, ltb-true (least vs r u) u b)))
-            at (inr b) = omega (arith, ltb-false (least vs r u) u b, least-le vs r eq asc u u (in-vs u v) (similar-refl vs f u))
+  seen : isVisible (markedGraph n edges marks) u ≡ b
+  seen = visible-is n edges marks u ∙ ap (λ (x : Bool). x && shown marks u) (lt-ltb u n hu) ∙ sym e
 
-        step : ((first < 0 + u) × (J first ≡ true)) ⊎ ((first ≡ 0 + u) × ((p : ℕ) → 0 ≤ p → p < 0 + u → J p ≡ false)) → first ≡ least vs r u
-        step (inl x) = joined first (omega (arith, x .0)) (x .1)
-        step (inr x) = omega (arith, x .0, alone (x .1))
+  pub least-hidden : b ≡ false → 65535 ≡ leastVisible (markedGraph n edges marks) u
+  unfolding leastVisible
+  least-hidden t = rw (seen ∙ t)
 
-    told-found : {x : ℕ} → x ≡ leastFound n edges table marks u → x ≡ told (markedGraph n edges marks) u
-    unfolding leastFound
-    told-found {x} h = h ∙ step (decide (shown marks u))
+  module _ (t : b ≡ true) {q : ℕ} (m : Met (slotOf edges false) (leading (markedGraph n edges marks)) (alike edges false u) u q) where
+    pub least-open : q < u → q ≡ leastVisible (markedGraph n edges marks) u
+    least-open l = least-met a u (seen ∙ t) false q l (m .hit l .0) (m .hit l .1)
+
+    pub least-closed : {r : ℕ} → q ≡ u → r ≤ u → Met (slotOf edges true) (leading (markedGraph n edges marks)) (alike edges true u) u r → r ≡ leastVisible (markedGraph n edges marks) u
+    least-closed {r} z low k = step (decide (ltb r u))
       where
-        seen : isVisible g u ≡ shown marks u
-        seen = visible-is n edges marks u ∙ ap (λ (b : Bool). b && shown marks u) (lt-ltb u n hu)
+        ready : Ready n edges (keysOf (graphIn n edges))
+        ready = apart-ready a
 
-        step : (shown marks u ≡ true) ⊎ (shown marks u ≡ false) → cond (shown marks u) (firstFrom (joins n edges table u u) 0 u) 65535 ≡ told g u
-        step (inl s) = rw (s, seen ∙ s) (least-found (seen ∙ s))
-        step (inr s) = rw (s, seen ∙ s)
+        miss : (c : Bool) → {x : ℕ} → Met (slotOf edges c) L (alike edges c u) u x → x ≡ u → (p : ℕ) → p < u → L p ≡ true → alike edges c u p ≡ false
+        miss c {x} i y p l h = at (decide (alike edges c u p))
+          where
+            at : (alike edges c u p ≡ true) ⊎ (alike edges c u p ≡ false) → alike edges c u p ≡ false
+            at (inl w) = i .miss y p l h (alike-slot n edges (keysOf (graphIn n edges)) ready c u p w)
+            at (inr w) = w
 
--- the branches of the code
-module _ (n : ℕ) (edges table marks : List ℕ) (u : ℕ) (b : Bool) (e : b ≡ shown marks u) where
-  pub found-shown : (x : ℕ) → b ≡ true → x ≡ firstFrom (joins n edges table u u) 0 u → x ≡ leastFound n edges table marks u
-  unfolding leastFound
-  found-shown x t f = rw (sym e ∙ t) f
+        step : (ltb r u ≡ true) ⊎ (ltb r u ≡ false) → r ≡ leastVisible g₁ u
+        step (inl y) =
+            let l : r < u = ltb-true r u y in
+            least-met a u (seen ∙ t) true r l (k .hit l .0) (k .hit l .1)
+        step (inr y) =
+            let s : r ≡ u = omega (arith, ltb-false r u y) in
+            s ∙ least-alone a u (seen ∙ t) none
+          where
+            none : (c : Bool) (p : ℕ) → p < u → L p ≡ true → alike edges c u p ≡ false
+            none false p l h = miss false m z p l h
+            none true p l h = miss true k (omega (arith, ltb-false r u y)) p l h
 
-  pub found-hidden : b ≡ false → 65535 ≡ leastFound n edges table marks u
-  unfolding leastFound
-  found-hidden t = rw (sym e ∙ t)
-
-pub found-fits : (P : ℕ → Bool) {u x : ℕ} → x ≡ firstFrom P 0 u → u < 512 → x < 65536
-found-fits P {u} {x} e h = step (first-cases P 0 u)
+pub least-fits : {n : ℕ} {edges marks : List ℕ} {u x : ℕ} → Apart n edges marks → u < n → x ≡ leastVisible (markedGraph n edges marks) u → x < 65536
+unfolding leastVisible
+least-fits {n} {edges} {marks} {u} {x} a hu e = step (decide (isVisible (markedGraph n edges marks) u))
   where
-    step : ((firstFrom P 0 u < 0 + u) × (P (firstFrom P 0 u) ≡ true)) ⊎ ((firstFrom P 0 u ≡ 0 + u) × ((p : ℕ) → 0 ≤ p → p < 0 + u → P p ≡ false)) → x < 65536
-    step (inl y) = omega (arith, y .0)
-    step (inr y) = omega (arith, y .0)
+    step : (isVisible (markedGraph n edges marks) u ≡ true) ⊎ (isVisible (markedGraph n edges marks) u ≡ false) → x < 65536
+    step (inl v) = let y = rw v at e in omega (arith, inside a _ (out-vs a _ (least-in (visible (markedGraph n edges marks)) _ (eq a) (asc a) u (in-vs a u v))), a .within .small)
+    step (inr v) = let y : x ≡ 65535 = rw v at e in omega arith
 
--- the nodes below u are told, in the first column of the table and in the list
-pub record Telling (g : Graph) (u : ℕ) (t l table lst : List ℕ) : Type 0 where
-  pub size : length table ≡ length t
-  pub count : length lst ≡ length l
-  pub column : (q : ℕ) → q < u → nodeNumber table q 0 ≡ told g q
-  pub list : (q : ℕ) → q < u → getD lst q 0 ≡ told g q
-
-pub telling-none : (g : Graph) (t l : List ℕ) → Telling g 0 t l t l
-telling-none g t l = record { size = refl; count = refl; column = λ q h. absurd (omega arith); list = λ q h. absurd (omega arith) }
-
-pub telling-more : {n : ℕ} {edges marks : List ℕ} {u x : ℕ} {t l table lst : List ℕ} → Apart n edges marks → n ≤ 512 → Telling (markedGraph n edges marks) u t l table lst → u < n → length t ≡ nodeNumbers * n → n ≤ length l
-    → x ≡ leastFound n edges table marks u → Telling (markedGraph n edges marks) (u + 1) t l (set table (4 * u) x) (set lst u x)
-unfolding nodeNumber
-telling-more {n} {edges} {marks} {u} {x} {t} {l} {table} {lst} a small h hu st sl e = record {
-  size = length-set table (4 * u) x ∙ h .size;
-  count = length-set lst u x ∙ h .count;
-  column = λ q k. column q k (decide (eqb q u));
-  list = λ q k. list q k (decide (eqb q u));
+-- u led or not, the chains go on
+pub sought-more : {n : ℕ} {edges marks : List ℕ} {u l : ℕ} {opens closeds opens₁ closeds₁ : List ℕ} → Sought n edges marks u opens closeds → l ≡ leastVisible (markedGraph n edges marks) u
+    → Entered u (slotOf edges false u) l opens opens₁ → Entered u (slotOf edges true u) l closeds closeds₁ → Sought n edges marks (u + 1) opens₁ closeds₁
+sought-more {n} {edges} {marks} {u} {l} h e x y = record {
+  open-links = x .links;
+  closed-links = y .links;
+  open-chains = x .chains (slotOf edges false) (leading (markedGraph n edges marks)) (slot-lt edges false) refl led (h .open-chains);
+  closed-chains = y .chains (slotOf edges true) (leading (markedGraph n edges marks)) (slot-lt edges true) refl led (h .closed-chains);
 }
   where
-    now : x ≡ told (markedGraph n edges marks) u
-    now = told-found a small table u hu (h .column) e
+    led : leading (markedGraph n edges marks) u ≡ eqb l u
+    led = unfold leading in ap (λ (z : ℕ). eqb z u) (sym e)
 
-    column : (q : ℕ) → q < u + 1 → (eqb q u ≡ true) ⊎ (eqb q u ≡ false) → nodeNumber (set table (4 * u) x) q 0 ≡ told (markedGraph n edges marks) q
-    column q k (inl s) =
-        let z : 4 * u + 0 ≡ 4 * u = omega arith in
-        rw (eqb-true q u s, z) (getD-set-same table (4 * u) x 0 (omega (arith, h .size)) ∙ now)
-    column q k (inr s) =
+pub sought-none : (n : ℕ) (edges marks : List ℕ) {opens closeds : List ℕ} → Links 0 opens → Links 0 closeds → Sought n edges marks 0 opens closeds
+sought-none n edges marks x y = record { open-links = x; closed-links = y; open-chains = chains-none (slotOf edges false) (leading (markedGraph n edges marks)) x; closed-chains = chains-none (slotOf edges true) (leading (markedGraph n edges marks)) y }
+
+-- the nodes below u are told
+pub record Telling (g : Graph) (u : ℕ) (t after : List ℕ) : Type 0 where
+  pub size : length after ≡ length t
+  pub told : (q : ℕ) → q < u → getD after q 0 ≡ leastVisible g q
+
+pub telling-none : (g : Graph) (t : List ℕ) → Telling g 0 t t
+telling-none g t = record { size = refl; told = λ q h. absurd (omega arith) }
+
+pub telling-more : {g : Graph} {u x : ℕ} {t t₁ : List ℕ} → Telling g u t t₁ → u < length t → x ≡ leastVisible g u → Telling g (u + 1) t (set t₁ u x)
+telling-more {g} {u} {x} {t} {t₁} h l e = record { size = length-set t₁ u x ∙ h .size; told = λ q k. at q k (decide (eqb q u)) }
+  where
+    at : (q : ℕ) → q < u + 1 → (eqb q u ≡ true) ⊎ (eqb q u ≡ false) → getD (set t₁ u x) q 0 ≡ leastVisible g q
+    at q k (inl s) = rw (eqb-true q u s) (getD-set-same t₁ u x 0 (omega (arith, h .size)) ∙ e)
+    at q k (inr s) =
         let d : q ≡ u → ⊥ = eqb-false q u s in
-        getD-set-other table (4 * u) (4 * q + 0) x 0 (omega arith) ∙ h .column q (omega arith)
+        getD-set-other t₁ u q x 0 d ∙ h .told q (omega arith)
 
-    list : (q : ℕ) → q < u + 1 → (eqb q u ≡ true) ⊎ (eqb q u ≡ false) → getD (set lst u x) q 0 ≡ told (markedGraph n edges marks) q
-    list q k (inl s) = rw (eqb-true q u s) (getD-set-same lst u x 0 (omega (arith, h .count)) ∙ now)
-    list q k (inr s) =
-        let d : q ≡ u → ⊥ = eqb-false q u s in
-        getD-set-other lst u q x 0 d ∙ h .list q (omega arith)
-
-pub telling-done : {n : ℕ} {edges marks keys : List ℕ} {u : ℕ} {t l table lst : List ℕ} → Apart n edges marks → Ready n edges keys → Telling (markedGraph n edges marks) u t l table lst → n ≤ u → n ≤ length l → Truth (markedGraph n edges marks) lst edges
-telling-done {n} {edges} {marks} {keys} {u} {t} {l} {table} {lst} a y h k s = record {
+pub telling-done : {n : ℕ} {edges marks : List ℕ} {u : ℕ} {t lst : List ℕ} → Apart n edges marks → Telling (markedGraph n edges marks) u t lst → n ≤ u → n ≤ length t → Truth (markedGraph n edges marks) lst edges
+unfolding leastVisible
+telling-done {n} {edges} {marks} {u} {t} {lst} a h k s = record {
   proper = a .proper;
-  size = unfold markedGraph in omega (arith, h .count);
-  rows = unfold markedGraph in omega (arith, ready-edges n edges keys y);
-  visible-least = λ p v. h .list p (omega (arith, inside a p v)) ∙ rw v;
-  hidden-least = λ p b v. unfold markedGraph in omega (arith, hidden p b v, y .small);
+  size = unfold markedGraph in omega (arith, h .size);
+  rows = unfold markedGraph in omega (arith, within-length (a .within));
+  visible-least = λ p v. h .told p (omega (arith, inside a p v)) ∙ rw v;
+  hidden-least = λ p b v. unfold markedGraph in omega (arith, hidden p b v, a .within .small);
   edge-is = λ p q v w. bit p q (inside a p v) (inside a q w) ∙ sym (edge-is a p q v);
 }
   where
     hidden : (p : ℕ) → p < markedGraph n edges marks .nodeCount → isVisible (markedGraph n edges marks) p ≡ false → getD lst p 0 ≡ 65535
-    hidden p b v = unfold markedGraph in (h .list p (omega arith) ∙ rw v)
+    hidden p b v = unfold markedGraph in (h .told p (omega arith) ∙ rw v)
 
     bit : (p q : ℕ) → p < n → q < n → edgeBit edges p q ≡ edgesIn n edges p q
     bit p q hp hq = unfold edgesIn in rw (lt-ltb p n hp, lt-ltb q n hq)

@@ -1,4 +1,6 @@
 pub mod Visible
+pub mod Chains
 pub mod MaskLaws
 pub mod KeySumLaws
+pub mod ChainLaws
 pub mod LeastLaws

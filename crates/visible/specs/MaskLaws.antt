@@ -134,16 +134,9 @@ module _ {n : ℕ} {edges marks : List ℕ} (d : Drawn n edges marks) where
     unfolding visiblePart markedGraph
     masked-edge = ap (edgesIn n) e ∙ edges-in (visiblePart g) part-proper
 
-    pub masked-within : Within n masked
+    masked-within : Within n masked
     unfolding visiblePart markedGraph
     masked-within = rw e (record { small = d .small; edges-of = ready (visiblePart g) part-proper .edges-of })
-
-    pub masked-ready : {keys : List ℕ} → keys ≡ keysOf (graphIn n masked) → Ready n masked keys
-    masked-ready f = record { small = d .small; loops = λ p. ap (λ (h : ℕ → ℕ → Bool). h p p) masked-edge ∙ loop p (decide (isVisible g p)); edges-of = masked-within .edges-of; keys-of = f }
-      where
-        loop : (p : ℕ) → (isVisible g p ≡ true) ⊎ (isVisible g p ≡ false) → visibleEdge g p p ≡ false
-        loop p (inl v) = unfold visibleEdge in rw (v, d .proper .irreflexive p)
-        loop p (inr v) = unfold visibleEdge in rw v
 
     hidden-edge : (p q : ℕ) → shown marks q ≡ false → visibleEdge (markedGraph n edges marks) p q ≡ false
     unfolding visibleEdge
@@ -159,6 +152,7 @@ module _ {n : ℕ} {edges marks : List ℕ} (d : Drawn n edges marks) where
         inside = λ p q t. unfold edgesIn in ltb-true p n (and-fst (ltb p n) _ t);
         held = λ p t. ltb-true p n (and-fst (ltb p n) _ t);
       };
+      within = masked-within;
       marked = d .marked;
       none = λ p q h. rw masked-edge (hidden-edge p q h);
     }

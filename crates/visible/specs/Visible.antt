@@ -7,8 +7,10 @@ use lib.Bits.{bitAnd}
 use lib.Dec.{eqb, ltb}
 use lib.ListN.{length, getD}
 use Rattle.model.specs.Graph.{Graph, Proper, maxNodes, rowWords}
+use Rattle.model.specs.Grouping.{least, similar}
 use Rattle.model.specs.Tables.{edgesOf}
-use Rattle.rows.specs.Search.{edgesIn, firstFrom, graphIn, joins}
+use Rattle.model.specs.Release.{isVisible, visible, visibleEdge}
+use Rattle.rows.specs.Search.{edgesIn, graphIn}
 
 -- the graph of n nodes that an edge table and a list of marks tell (1: hidden)
 unfoldable pub markedGraph : ℕ → List ℕ → List ℕ → Graph
@@ -41,9 +43,14 @@ pub record Within (n : ℕ) (edges : List ℕ) : Type 0 where
 -- hidden nodes have no edges
 pub record Apart (n : ℕ) (edges marks : List ℕ) : Type 0 where
   pub proper : Proper (markedGraph n edges marks)
+  pub within : Within n edges
   pub marked : n ≤ length marks
   pub none : (p q : ℕ) → shown marks q ≡ false → edgesIn n edges p q ≡ false
 
--- the least member of u's group, where the table tells those of the nodes below u; a number that no node has for a hidden u
-unfoldable pub leastFound : ℕ → List ℕ → List ℕ → List ℕ → ℕ → ℕ
-leastFound n edges table marks u = cond (shown marks u) (firstFrom (joins n edges table u u) 0 u) 65535
+-- the least member of a visible node's group, a number that no node has for a hidden one
+unfoldable pub leastVisible : Graph → ℕ → ℕ
+leastVisible g q = cond (isVisible g q) (least (visible g) (similar (visible g) (visibleEdge g)) q) 65535
+
+-- q is visible and the least of its group
+unfoldable pub leading : Graph → ℕ → Bool
+leading g q = eqb (leastVisible g q) q

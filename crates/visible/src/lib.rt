@@ -1,20 +1,19 @@
 // The visible part of a graph, grouped afresh: what a release is written from.
 ghost use mathlib.Core.Path.{_≡_};
-ghost use Prim.Native.Nat.{_+_, _*_, _≤_, _<_};
+ghost use mathlib.Core.Bool.{Bool, true, false, cond};
+ghost use Prim.Native.Nat.{ℕ, _+_, _*_, _≤_, _<_};
 ghost use lib.ListN.{length};
 ghost use Rattle.model.specs.Lists.{nodes};
-ghost use Rattle.model.specs.Graph.{maxNodes, nodeNumbers, rowWords};
+ghost use Rattle.model.specs.Graph.{maxNodes, rowWords};
 ghost use Rattle.model.specs.Grouping.{openKey};
 ghost use Rattle.model.specs.Tables.{edgesOf, keysOf};
 ghost use Rattle.model.specs.Release.{visiblePart};
 ghost use Rattle.layout.specs.Truth.{Truth};
 ghost use Rattle.layout.specs.WordLaws.{Marking};
-ghost use Rattle.rows.specs.Search.{Ready, edgesIn, graphIn};
-ghost use Rattle.visible.specs.Visible.{Apart, Drawn, Within, keptWord, leastFound, markedGraph, shown};
+ghost use Rattle.rows.specs.Search.{edgesIn, graphIn, ownBit};
+ghost use Rattle.visible.specs.Visible.{Apart, Drawn, Within, keptWord, leastVisible, markedGraph, shown};
+ghost use Rattle.visible.specs.Chains.{Chains, Entered, Links, Met, Sought, alike, mix, slotOf, slots};
 use rows::Graph;
-
-// Stands for no node, at hidden nodes.
-pub const NONE: u16 = 65535;
 
 // Whether node q is visible.
 fn is_visible(hidden: &[u16], q: usize) -> bool
@@ -94,35 +93,109 @@ pub fn sum_keys(edges: &[u64], keys: &mut [u32], n: usize)
     }
 }
 
-// The least member of u's group, found among the groups below u; none for a hidden node.
-fn least_of(edges: &[u64], nodes: &[u16], keys: &[u32], hidden: &[u16], n: usize, u: usize) -> u16
-    requires { ⌜ Ready n (now edges) (now keys) ⌝ }
-    requires { ⌜ (length (now nodes) ≡ nodeNumbers * n) × (u < n) × (n ≤ length (now hidden)) ⌝ }
-    ensures { λ r. ⌜ r ≡ leastFound n (now (edges .entry)) (now (nodes .entry)) (now (hidden .entry)) u ⌝ }
+// A word mixed into a hash.
+fn mixed(h: u64, x: u64) -> u64
+    ensures { λ r. ⌜ r ≡ mix h x ⌝ }
 {
-    if is_visible(hidden, u) {
-        return rows::find_group(edges, nodes, keys, n, u, u, u) as u16;
-    }
-    NONE
+    let y = h ^ x;
+    (y >> 32) ^ ((y % 4294967296) * 2654435769)
 }
 
-// The least members of the groups of the visible nodes, which alone have edges. The node table is written in its first column.
-fn group_visible(
+// Node p's own bit in word w of a closed row; an open one lacks it.
+fn own_word(closed: bool, p: usize, w: usize) -> u64
+    ensures { λ r. ⌜ r ≡ cond closed (ownBit p w) 0 ⌝ }
+{
+    if closed {
+        return rows::own_bit(p, w);
+    }
+    0
+}
+
+// The slot of p's row, of the open or of the closed one.
+fn slot_of(edges: &[u64], closed: bool, p: usize) -> usize
+    requires { ⌜ (p < maxNodes) × (rowWords * p + rowWords ≤ length (now edges)) ⌝ }
+    ensures { λ r. ⌜ r ≡ slotOf (now (edges .entry)) closed p ⌝ }
+{
+    let a = Graph::ROW_WORDS * p;
+    let mut h = 0u64;
+    let mut w = 0;
+    while w < 8 {
+        h = mixed(h, edges[a + w] ^ own_word(closed, p, w));
+        w += 1;
+    }
+    (h % 1024) as usize
+}
+
+// The leader below u, in the chain of slot s, whose row agrees with u's; u if there is none.
+fn find_alike(edges: &[u64], chains: &[u16], closed: bool, u: usize, s: usize) -> usize
+    requires { ⌜ (u < maxNodes) × (rowWords * u + rowWords ≤ length (now edges)) × (s < slots) × Links u (now chains) ⌝ }
+    ensures { λ r. ⌜ (r ≤ u) × ((slot : ℕ → ℕ) (leads : ℕ → Bool) → slot u ≡ s → Chains slot leads u (now (chains .entry)) → Met slot leads (alike (now (edges .entry)) closed u) u r) ⌝ }
+{
+    let mut c = rows::wide(chains[s]);
+    while c != 0 {
+        if rows::same_row(edges, closed, u, c - 1) {
+            return c - 1;
+        }
+        c = rows::wide(chains[1023 + c]);
+    }
+    u
+}
+
+// u put into the chain of slot s if it leads, that is if l is u.
+fn enter(chains: &mut [u16], s: usize, u: usize, l: usize)
+    requires { ⌜ (u < maxNodes) × (s < slots) × Links u (now chains) ⌝ }
+    ensures { λ _. ⌜ Entered u s l (now (chains .entry)) (now (chains .exit)) ⌝ }
+{
+    if l == u {
+        chains[1024 + u] = chains[s];
+        chains[s] = (u + 1) as u16;
+    }
+}
+
+// The least member of u's group; for a hidden node a number that no node has.
+fn least_of(
     edges: &[u64],
-    keys: &[u32],
     hidden: &[u16],
     n: usize,
-    nodes: &mut [u16],
+    opens: &[u16],
+    closeds: &[u16],
+    u: usize,
+    a: usize,
+    b: usize,
+) -> usize
+    requires { ⌜ Apart n (now edges) (now hidden) × Sought n (now edges) (now hidden) u (now opens) (now closeds) × (u < n) ⌝ }
+    requires { ⌜ (a ≡ slotOf (now edges) false u) × (b ≡ slotOf (now edges) true u) ⌝ }
+    ensures { λ r. ⌜ r ≡ leastVisible (markedGraph n (now (edges .entry)) (now (hidden .entry))) u ⌝ }
+{
+    if !is_visible(hidden, u) {
+        return 65535;
+    }
+    let q = find_alike(edges, opens, false, u, a);
+    if q < u {
+        return q;
+    }
+    find_alike(edges, closeds, true, u, b)
+}
+
+// The least members of the groups of the visible nodes, which alone have edges. Chains of leaders are kept on the way.
+fn group_visible(
+    edges: &[u64],
+    hidden: &[u16],
+    n: usize,
+    opens: &mut [u16],
+    closeds: &mut [u16],
     least: &mut [u16],
 )
-    requires { ⌜ Ready n (now edges) (now keys) ⌝ }
-    requires { ⌜ Apart n (now edges) (now hidden) × (length (now nodes) ≡ nodeNumbers * n) × (n ≤ length (now least)) ⌝ }
+    requires { ⌜ Apart n (now edges) (now hidden) × Links 0 (now opens) × Links 0 (now closeds) × (n ≤ length (now least)) ⌝ }
     ensures { λ _. ⌜ Truth (markedGraph n (now (edges .entry)) (now (hidden .entry))) (now (least .exit)) (now (edges .entry)) ⌝ }
 {
     for u in 0..n {
-        let l = least_of(edges, nodes, keys, hidden, n, u);
-        nodes[Graph::NODE_NUMBERS * u] = l;
-        least[u] = l;
+        let a = slot_of(edges, false, u);
+        let b = slot_of(edges, true, u);
+        let l = least_of(edges, hidden, n, opens, closeds, u, a, b);
+        enter(opens, a, u, l);
+        enter(closeds, b, u, l);
+        least[u] = l as u16;
     }
 }
 
@@ -132,15 +205,7 @@ pub fn summarise(edges: &[u64], hidden: &[u16], n: usize, masked: &mut [u64], le
     ensures { λ _. ⌜ Truth (markedGraph n (now (edges .entry)) (now (hidden .entry))) (now (least .exit)) (now (masked .exit)) ⌝ }
 {
     mask_edges(edges, hidden, n, masked);
-    let mut keys = [0u32; 1024];
-    sum_keys(masked, &mut keys[..2 * n], n);
-    let mut nodes = [0u16; 2048];
-    group_visible(
-        masked,
-        &keys[..2 * n],
-        hidden,
-        n,
-        &mut nodes[..4 * n],
-        least,
-    );
+    let mut opens = [0u16; 1536];
+    let mut closeds = [0u16; 1536];
+    group_visible(masked, hidden, n, &mut opens, &mut closeds, least);
 }

@@ -1,57 +1,80 @@
--- The invariant: the nodes below u are told, in the table and in the list.
-use Prim.Native.Nat.{_-_, _≤_}
-use native.Mathlib.Omega.{arith}
-use Rattle.visible.specs.LeastLaws.{Telling, telling-done, telling-more, telling-none}
-use Rattle.visible.specs.Visible.{markedGraph}
 use Rattle.visible.proofs.group_visible.Statement.{statement}
 use Rattle.visible.proofs.group_visible.Tie as tie
+use Rattle.visible.proofs.group_visible.Reads as reads
+use Rattle.visible.proofs.group_visible.Lts as lts
+use Rattle.visible.proofs.enter.Reads as enter-reads
+use Rattle.visible.proofs.least_of.Reads as least-of-reads
+use Rattle.visible.proofs.slot_of.Reads as slot-of-reads
 
 abbrev Inv-loop : tie.InvT-loop
-Inv-loop edges keys hidden n nodes₀ least₀ u₀ nodes least u = (u ≤ n) × Telling (markedGraph n edges hidden) u nodes₀ least₀ nodes least
+Inv-loop edges hidden n opens₀ closeds₀ least₀ u₀ opens closeds least u = ?
 
 abbrev μ-loop : tie.MeasureT-loop
-μ-loop edges keys hidden n nodes₀ least₀ u₀ nodes least u = n - u
+μ-loop edges hidden n opens₀ closeds₀ least₀ u₀ opens closeds least u = ?
 
+-- src/lib.rt:192:5
 loop-holds : tie.Need-loop-holds Inv-loop μ-loop
-loop-holds c = (omega arith, telling-none _ _ _)
+loop-holds c = ?
 
+-- src/lib.rt:193:13
+slot-of-requires : tie.Need-slot-of-requires Inv-loop μ-loop
+slot-of-requires c κs = ?
+
+-- src/lib.rt:194:13
+slot-of-requires-2 : tie.Need-slot-of-requires-2 Inv-loop μ-loop
+slot-of-requires-2 c κs = ?
+
+-- src/lib.rt:195:13
 least-of-requires : tie.Need-least-of-requires Inv-loop μ-loop
-least-of-requires c κs = let pre = c .before .before .before .before .before .before .before .before .pre in (pre .0, (omega (arith, c .before .before .loop .inv .1 .size, pre .1 .1), c .before .loop-test .taken, pre .1 .0 .marked))
+least-of-requires c κs = ?
 
-mul-nodes : tie.Need-mul-nodes Inv-loop μ-loop
-mul-nodes c = omega arith
+-- src/lib.rt:196:9
+enter-requires : tie.Need-enter-requires Inv-loop μ-loop
+enter-requires c κs = ?
 
-mul-nodes-2 : tie.Need-mul-nodes-2 Inv-loop μ-loop
-mul-nodes-2 c = omega arith
+-- src/lib.rt:197:9
+enter-requires-2 : tie.Need-enter-requires-2 Inv-loop μ-loop
+enter-requires-2 c κs = ?
 
-slice-write-nodes : tie.Need-slice-write-nodes Inv-loop μ-loop
-slice-write-nodes c = omega (arith, c .before .before .before .loop .inv .1 .size, c .before .before .before .before .before .before .before .before .before .pre .1 .1)
+-- src/lib.rt:198:20
+cast-least : tie.Need-cast-least Inv-loop μ-loop
+cast-least c = ?
 
+-- src/lib.rt:198:9
 mul-least : tie.Need-mul-least Inv-loop μ-loop
-mul-least c = omega arith
+mul-least c = ?
 
+-- src/lib.rt:198:9
 slice-write-least : tie.Need-slice-write-least Inv-loop μ-loop
-slice-write-least c = omega (arith, c .before .before .before .loop .inv .1 .count, c .before .before .before .before .before .before .before .before .before .pre .1 .2)
+slice-write-least c = ?
 
+-- src/lib.rt:192:9
 add-u : tie.Need-add-u Inv-loop μ-loop
-add-u c = omega arith
+add-u c = ?
 
+-- src/lib.rt:192:5
 loop-less : tie.Need-loop-less Inv-loop μ-loop
-loop-less c = omega arith
+loop-less c = ?
 
+-- src/lib.rt:192:5
 loop-again : tie.Need-loop-again Inv-loop μ-loop
-loop-again c = let head = c .before .before .before in
-    let pre = head .before .before .before .before .before .before .pre in
-    (omega arith, telling-more (pre .1 .0) (pre .0 .small) (head .loop .inv .1) (c .before .before .loop-test .taken) (pre .1 .1) (pre .1 .2) (c .least-of .ensures))
+loop-again c = ?
 
+-- src/lib.rt:181:1
 same-length : tie.Need-same-length Inv-loop μ-loop
-same-length c = c .before .loop .inv .1 .size
+same-length c = ?
 
+-- src/lib.rt:181:1
 same-length-2 : tie.Need-same-length-2 Inv-loop μ-loop
-same-length-2 c = c .before .loop .inv .1 .count
+same-length-2 c = ?
 
+-- src/lib.rt:181:1
+same-length-3 : tie.Need-same-length-3 Inv-loop μ-loop
+same-length-3 c = ?
+
+-- src/lib.rt:181:1
 returns : tie.Need-returns Inv-loop μ-loop
-returns c = let pre = c .before .before .before .before .before .before .before .pre in telling-done (pre .1 .0) (pre .0) (c .before .loop .inv .1) (c .loop-test .left) (pre .1 .2)
+returns c = ?
 
 pub group-visible-spec : {M : Type 1} → statement M
 group-visible-spec =
@@ -60,10 +83,12 @@ group-visible-spec =
     Inv-loop
     μ-loop
     loop-holds
+    slot-of-requires
+    slot-of-requires-2
     least-of-requires
-    mul-nodes
-    mul-nodes-2
-    slice-write-nodes
+    enter-requires
+    enter-requires-2
+    cast-least
     mul-least
     slice-write-least
     add-u
@@ -71,4 +96,5 @@ group-visible-spec =
     loop-again
     same-length
     same-length-2
+    same-length-3
     returns)
