@@ -243,13 +243,13 @@ least-fits {n} {edges} {marks} {u} {x} a hu e = step (decide (isVisible (markedG
     step (inr v) = let y : x ≡ 65535 = rw v at e in omega arith
 
 -- u led or not, the chains go on
-pub sought-more : {n : ℕ} {edges marks : List ℕ} {u l : ℕ} {opens closeds opens₁ closeds₁ : List ℕ} → Sought n edges marks u opens closeds → l ≡ leastVisible (markedGraph n edges marks) u
-    → Entered u (slotOf edges false u) l opens opens₁ → Entered u (slotOf edges true u) l closeds closeds₁ → Sought n edges marks (u + 1) opens₁ closeds₁
-sought-more {n} {edges} {marks} {u} {l} h e x y = record {
+pub sought-more : {n : ℕ} {edges marks : List ℕ} {u l s s′ : ℕ} {opens closeds opens₁ closeds₁ : List ℕ} → Sought n edges marks u opens closeds → l ≡ leastVisible (markedGraph n edges marks) u
+    → s ≡ slotOf edges false u → s′ ≡ slotOf edges true u → Entered u s l opens opens₁ → Entered u s′ l closeds closeds₁ → Sought n edges marks (u + 1) opens₁ closeds₁
+sought-more {n} {edges} {marks} {u} {l} h e es es′ x y = record {
   open-links = x .links;
   closed-links = y .links;
-  open-chains = x .chains (slotOf edges false) (leading (markedGraph n edges marks)) (slot-lt edges false) refl led (h .open-chains);
-  closed-chains = y .chains (slotOf edges true) (leading (markedGraph n edges marks)) (slot-lt edges true) refl led (h .closed-chains);
+  open-chains = x .chains (slotOf edges false) (leading (markedGraph n edges marks)) (slot-lt edges false) (sym es) led (h .open-chains);
+  closed-chains = y .chains (slotOf edges true) (leading (markedGraph n edges marks)) (slot-lt edges true) (sym es′) led (h .closed-chains);
 }
   where
     led : leading (markedGraph n edges marks) u ≡ eqb l u
