@@ -1,3 +1,5 @@
+use Rattle.visible.specs.ChainLaws.{links-none}
+use Rattle.visible.specs.MaskLaws.{masked-apart, masked-truth}
 use borrow.Author.Needs.{needs}
 use Rattle.visible.proofs.summarise.Statement.{statement}
 use Rattle.visible.proofs.summarise.Tie as tie
@@ -20,7 +22,7 @@ slice-aggregate-group-visible-2 c = search needs
 
 -- src/lib.rt:210:5
 group-visible-requires : tie.Need-group-visible-requires
-group-visible-requires c κs = ?
+group-visible-requires c κs = let pre = c .before .before .before .before .before .before .before .before .before .before .before .before .pre in (masked-apart (pre .0) (c .before .before .before .before .before .before .mask-edges .ensures), links-none, links-none, pre .2)
 
 -- src/lib.rt:203:1
 same-length : tie.Need-same-length
@@ -32,7 +34,7 @@ same-length-2 c = search needs
 
 -- src/lib.rt:203:1
 returns : tie.Need-returns
-returns c = ?
+returns c = masked-truth (c .before .before .before .before .before .before .before .before .before .before .before .before .before .before .before .before .before .pre .0) (c .before .before .before .before .before .before .before .before .before .before .before .mask-edges .ensures) (c .before .before .before .before .group-visible .ensures)
 
 pub summarise-spec : {M : Type 1} → statement M
 summarise-spec =
