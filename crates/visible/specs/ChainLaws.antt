@@ -3,7 +3,7 @@ use mathlib.Core.Path.{_≡_, refl, sym, ap, ap₂, _∙_}
 use mathlib.Core.Bool.{Bool, true, false, xor, cond}
 use mathlib.Core.List.{List}
 use mathlib.Core.Logic.{_⊎_, inl, inr}
-use Prim.Native.Nat.{ℕ, zero, suc, _+_, _*_, _-_, _/_, _%_, _^_, _≤_, _<_}
+use Prim.Native.Nat.{ℕ, zero, suc, _+_, _*_, _-_, _%_, _^_, _≤_, _<_}
 use native.Mathlib.Omega.{arith}
 use native.Mathlib.Numerals.{add-one}
 use lib.Bits.{bitXor, xor-lt}
@@ -12,7 +12,6 @@ use lib.ListN.{getD, length, length-set, replicate, set}
 use lib.Pow.{pow-pos}
 use lib.Seq.{getD-set-other, getD-set-same}
 use borrow.Author.Tests.{eqb-false, eqb-true, eq-eqb, ltb-true, ltb-false, ne-eqb}
-use Rattle.model.specs.Graph.{maxNodes, rowWords}
 use Rattle.model.specs.Tables.{bitAt}
 use Rattle.model.specs.TestLaws.{decide, differ}
 use Rattle.rows.specs.Search.{Ready, meets, ownBit, ownBits, rowIn}
@@ -20,7 +19,7 @@ use Rattle.rows.specs.BitLaws.{bit-xor}
 use Rattle.rows.specs.TwinRowLaws.{own-bit, own-bit-lt, own-bits, word-small, words-eq, xor-swap}
 use Rattle.rows.specs.SearchLaws.{meets-words}
 use Rattle.checks.specs.WalkLaws.{bit-zero}
-use Rattle.visible.specs.Chains.{Chains, Entered, Links, Met, alike, hashOf, mix, rowWord, slotOf, slots}
+use Rattle.visible.specs.Chains.{Chains, Entered, Links, Met, alike, hashOf, mix, rowWord, slotOf}
 
 -- the hash, word by word
 pub hash-more : (edges : List ℕ) (closed : Bool) (p w : ℕ) {h x r : ℕ} → h ≡ hashOf edges closed p w → x ≡ cond closed (ownBit p w) 0 → r ≡ mix h (bitXor (getD edges (8 * p + w) 0) x) → r ≡ hashOf edges closed p (w + 1)

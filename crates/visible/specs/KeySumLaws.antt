@@ -1,6 +1,6 @@
 -- Keys summed row by row.
 use mathlib.Core.Path.{_≡_, refl, sym, ap, _∙_}
-use mathlib.Core.Bool.{Bool, true, false, _&&_}
+use mathlib.Core.Bool.{true, false, _&&_}
 use mathlib.Core.List.{List}
 use mathlib.Core.Logic.{_⊎_, inl, inr}
 use Prim.Native.Nat.{ℕ, zero, suc, _+_, _*_, _-_, _/_, _%_, _^_, _≤_, _<_}
@@ -11,8 +11,8 @@ use lib.Dec.{eqb, ltb}
 use lib.ListN.{getD, length, length-set, set}
 use lib.Seq.{ext-getD, getD-set-other, getD-set-same}
 use borrow.Author.Tests.{eqb-false, eqb-true, ltb-true}
-use Rattle.model.specs.Lists.{filter, nodes}
-use Rattle.model.specs.Grouping.{cube, openKey, sumCubes}
+use Rattle.model.specs.Lists.{nodes}
+use Rattle.model.specs.Grouping.{cube, openKey}
 use Rattle.model.specs.Tables.{edgeBit, keysOf}
 use Rattle.model.specs.TestLaws.{and-fst, and-snd, decide}
 use Rattle.model.specs.TableLaws.{edge-bit, length-edges, length-keys}

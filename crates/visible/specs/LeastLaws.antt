@@ -9,13 +9,13 @@ use lib.Dec.{eqb, ltb}
 use lib.ListN.{getD, length, length-set, set}
 use lib.Seq.{getD-set-other, getD-set-same}
 use borrow.Author.Tests.{eqb-false, eqb-true, eq-eqb, lt-ltb, ltb-false, ltb-true, ne-eqb}
-use Rattle.model.specs.Lists.{_∈_, filter, nodes}
-use Rattle.model.specs.Graph.{Graph, Proper}
+use Rattle.model.specs.Lists.{_∈_, nodes}
+use Rattle.model.specs.Graph.{Graph}
 use Rattle.model.specs.Grouping.{closed, falseTwins, least, similar, trueTwins}
 use Rattle.model.specs.Tables.{edgeBit, keysOf}
 use Rattle.model.specs.Release.{isVisible, visible, visibleEdge}
 use Rattle.model.specs.TestLaws.{decide, differ, iff-eq}
-use Rattle.model.specs.ListLaws.{Ascending, filter-elim, filter-intro, nodes-in, nodes-out}
+use Rattle.model.specs.ListLaws.{Ascending, filter-elim, filter-intro, nodes-in}
 use Rattle.model.specs.TwinLaws.{Simple, falseTwins-at, falseTwins-by, similar-N, similar-N+, similar-cases, similar-refl, trueTwins-at, trueTwins-by}
 use Rattle.model.specs.ClassLaws.{Equivalence, least-eq, least-in, least-le, least-least, least-rel}
 use Rattle.model.specs.SummaryLaws.{equivalence}

@@ -10,10 +10,10 @@ use lib.Dec.{eqb, ltb}
 use lib.ListN.{List·getD-eq-default, getD, length, length-set, set}
 use lib.Pow.{pow-pos}
 use lib.Seq.{getD-set-other, getD-set-same}
-use borrow.Author.Tests.{eqb-false, eqb-true, le-ltb, lt-ltb, ltb-false, ltb-true}
+use borrow.Author.Tests.{eqb-false, eqb-true, lt-ltb, ltb-false, ltb-true}
 use Rattle.model.specs.Graph.{Graph, Proper, rowWords}
 use Rattle.model.specs.Grouping.{least, similar}
-use Rattle.model.specs.Tables.{bitAt, edgeBit, edgesOf, keysOf}
+use Rattle.model.specs.Tables.{bitAt, edgeBit, edgesOf}
 use Rattle.model.specs.Release.{isVisible, visibleEdge, visiblePart}
 use Rattle.model.specs.History.{Alike}
 use Rattle.model.specs.TestLaws.{and-fst, decide}
@@ -22,8 +22,7 @@ use Rattle.model.specs.ReleaseLaws.{alike-edges, alike-visible}
 use Rattle.model.specs.ReadBackLaws.{visible-proper}
 use Rattle.layout.specs.Truth.{Truth}
 use Rattle.layout.specs.WordLaws.{Marking, bit-and}
-use Rattle.rows.specs.Rows.{Words}
-use Rattle.rows.specs.Search.{Ready, edgesIn, graphIn}
+use Rattle.rows.specs.Search.{edgesIn}
 use Rattle.rows.specs.EdgeLaws.{edges-by-bits}
 use Rattle.rows.specs.SearchLaws.{edges-in, ready}
 use Rattle.checks.specs.WalkLaws.{bit-zero}

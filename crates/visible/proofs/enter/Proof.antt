@@ -1,57 +1,44 @@
-use Rattle.visible.specs.ChainLaws.{entered, not-entered}
-use lib.ListN.{length-set}
+-- One law for each branch.
 use native.Mathlib.Omega.{arith}
+use lib.ListN.{length-set}
 use borrow.Author.Needs.{needs}
+use Rattle.visible.specs.ChainLaws.{entered, not-entered}
 use Rattle.visible.proofs.enter.Statement.{statement}
 use Rattle.visible.proofs.enter.Tie as tie
-use Rattle.visible.proofs.enter.Reads as reads
-use Rattle.visible.proofs.enter.Lts as lts
 
--- src/lib.rt:150:28
 mul-chains : tie.Need-mul-chains
 mul-chains c = search needs
 
--- src/lib.rt:150:28
 slice-read-chains : tie.Need-slice-read-chains
 slice-read-chains c = search needs
 
--- src/lib.rt:150:16
 add-chains : tie.Need-add-chains
 add-chains c = search needs
 
--- src/lib.rt:150:9
 mul-chains-2 : tie.Need-mul-chains-2
 mul-chains-2 c = search needs
 
--- src/lib.rt:150:9
 slice-write-chains : tie.Need-slice-write-chains
 slice-write-chains c = search needs
 
--- src/lib.rt:151:22
 add-chains-2 : tie.Need-add-chains-2
 add-chains-2 c = search needs
 
--- src/lib.rt:151:21
 cast-chains : tie.Need-cast-chains
 cast-chains c = search needs
 
--- src/lib.rt:151:9
 mul-chains-3 : tie.Need-mul-chains-3
 mul-chains-3 c = search needs
 
--- src/lib.rt:151:9
 slice-write-chains-2 : tie.Need-slice-write-chains-2
 slice-write-chains-2 c = simp length-set (omega (arith, c .before .before .pre .2 .size))
 
--- src/lib.rt:145:1
 same-length : tie.Need-same-length
 same-length c = search needs
 
--- src/lib.rt:145:1
 returns : tie.Need-returns
 returns c = let pre = c .before .before .pre in entered (pre .2) (pre .0) (pre .1) (c .before .if1 .taken)
 
--- src/lib.rt:145:1
 returns-2 : tie.Need-returns-2
 returns-2 c = not-entered (c .before .pre .2) (c .if1 .left)
 

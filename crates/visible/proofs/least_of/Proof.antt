@@ -1,44 +1,35 @@
-use Rattle.visible.specs.LeastLaws.{least-closed, least-hidden, least-open}
-use Rattle.visible.specs.KeySumLaws.{within-length}
-use Rattle.visible.specs.ChainLaws.{slot-lt}
-use borrow.Author.Tests.{not-false, not-true}
-use native.Mathlib.Omega.{arith}
+-- One law for each way out.
 use mathlib.Core.Bool.{true, false}
 use mathlib.Core.Path.{sym}
+use native.Mathlib.Omega.{arith}
 use borrow.Author.Needs.{needs}
+use borrow.Author.Tests.{not-false, not-true}
+use Rattle.visible.specs.ChainLaws.{slot-lt}
+use Rattle.visible.specs.KeySumLaws.{within-length}
+use Rattle.visible.specs.LeastLaws.{least-closed, least-hidden, least-open}
 use Rattle.visible.proofs.least_of.Statement.{statement}
 use Rattle.visible.proofs.least_of.Tie as tie
-use Rattle.visible.proofs.least_of.Reads as reads
-use Rattle.visible.proofs.least_of.Lts as lts
-use Rattle.visible.proofs.find_alike.Reads as find-alike-reads
-use Rattle.visible.proofs.is_visible.Reads as is-visible-reads
 
--- src/lib.rt:170:9
 is-visible-requires : tie.Need-is-visible-requires
 is-visible-requires c κs = search needs
 
--- src/lib.rt:171:9
 returns : tie.Need-returns
 returns c = let pre = c .before .before .before .before .before .before .pre in least-hidden (pre .0 .0) (pre .0 .2) _ (c .before .is-visible .ensures) (not-true _ (c .if1 .taken))
 
--- src/lib.rt:173:9
 find-alike-requires : tie.Need-find-alike-requires
 find-alike-requires c κs = let pre = c .before .before .before .before .before .before .pre in
     let w = pre .0 .0 .within in
     (omega (arith, w .small, pre .0 .2), omega (arith, within-length w, pre .0 .2), omega (arith, pre .1 .0, slot-lt (c .before .before .before .before .before .before .args .edges .now) false (c .before .before .before .before .before .before .args .u)), pre .0 .1 .open-links)
 
--- src/lib.rt:175:9
 returns-2 : tie.Need-returns-2
 returns-2 c = let pre = c .before .before .before .before .before .before .before .before .pre in
     least-open (pre .0 .0) (pre .0 .2) _ (c .before .before .before .is-visible .ensures) (not-false _ (c .before .before .if1 .left)) (c .before .find-alike .ensures .1 _ _ (sym (pre .1 .0)) (pre .0 .1 .open-chains)) (c .if2 .taken)
 
--- src/lib.rt:177:5
 find-alike-requires-2 : tie.Need-find-alike-requires-2
 find-alike-requires-2 c κs = let pre = c .before .before .before .before .before .before .before .before .pre in
     let w = pre .0 .0 .within in
     (omega (arith, w .small, pre .0 .2), omega (arith, within-length w, pre .0 .2), omega (arith, pre .1 .1, slot-lt (c .before .before .before .before .before .before .before .before .args .edges .now) true (c .before .before .before .before .before .before .before .before .args .u)), pre .0 .1 .closed-links)
 
--- src/lib.rt:156:1
 returns-3 : tie.Need-returns-3
 returns-3 c = let pre = c .before .before .before .before .before .before .before .before .before .pre in
     let q = c .before .before .find-alike .ensures in
