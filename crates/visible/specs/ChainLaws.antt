@@ -86,11 +86,8 @@ unfolding alike
 alike-told edges closed u q e = e
 
 -- a chain goes down
-pub links-less : {u : ℕ} {t : List ℕ} {c c′ : ℕ} → Links u t → (c ≡ 0 → ⊥) → c ≤ 512 → c′ ≡ getD t (1023 + c) 0 → c′ < c
-links-less {u} {t} {c} {c′} l some small e =
-    let z : 1024 + (c - 1) ≡ 1023 + c = omega arith in
-    let y : getD t (1024 + (c - 1)) 0 ≡ c′ = ap (λ (x : ℕ). getD t x 0) z ∙ sym e in
-    omega (arith, l .falls (c - 1) (omega arith))
+pub links-less : {u : ℕ} {t : List ℕ} {c c′ : ℕ} → Links u t → (c ≡ 0 → ⊥) → c ≤ 512 → c′ ≡ getD t (1024 + (c - 1)) 0 → c′ < c
+links-less {u} {t} {c} {c′} l some small e = omega (arith, l .falls (c - 1) (omega arith))
 
 -- a walk over the chain of u's slot: c is the node that it has come to, counted from 1
 pub record Seeking (slot : ℕ → ℕ) (leads twin : ℕ → Bool) (u c : ℕ) : Type 0 where
@@ -108,14 +105,14 @@ module _ {slot : ℕ → ℕ} {leads : ℕ → Bool} (twin : ℕ → Bool) {u : 
     at : c ≡ suc (c - 1)
     at = omega arith
 
-    pub seeking-on : {c′ : ℕ} → b ≡ false → c′ ≡ getD t (1023 + c) 0 → Seeking slot leads twin u c′
+    pub seeking-on : {c′ : ℕ} → b ≡ false → c′ ≡ getD t (1024 + (c - 1)) 0 → Seeking slot leads twin u c′
     seeking-on {c′} f ec = record {
       on = λ d g. let i = k .earlier-in (c - 1) d (omega arith) (h .on (c - 1) at .0) (here ∙ g) in (i .0, i .1 ∙ h .on (c - 1) at .1);
       left = λ q hq hl hs ht. let m : q < c - 1 = less q (h .left q hq hl hs ht) ht in omega (arith, here, k .earlier (c - 1) q m (omega arith) (h .on (c - 1) at .0) hl (hs ∙ sym (h .on (c - 1) at .1)));
     }
       where
         here : getD t (1024 + (c - 1)) 0 ≡ c′
-        here = let z : 1024 + (c - 1) ≡ 1023 + c = omega arith in ap (λ (x : ℕ). getD t x 0) z ∙ sym ec
+        here = sym ec
 
         less : (q : ℕ) → q < c → twin q ≡ true → q < c - 1
         less q l ht = step (decide (eqb q (c - 1)))

@@ -15,6 +15,12 @@ ghost use Rattle.visible.specs.Visible.{Apart, Drawn, Within, keptWord, 
 ghost use Rattle.visible.specs.Chains.{Chains, Entered, Links, Met, Sought, alike, mix, slotOf, slots};
 use rows::Graph;
 
+// Stands for no node, at hidden nodes.
+const NONE: usize = 65535;
+
+// Rows are hashed into so many slots.
+const SLOTS: usize = 1024;
+
 // Whether node q is visible.
 fn is_visible(hidden: &[u16], q: usize) -> bool
     requires { ⌜ q < length (now hidden) ⌝ }
@@ -123,7 +129,7 @@ fn slot_of(edges: &[u64], closed: bool, p: usize) -> usize
         h = mixed(h, edges[a + w] ^ own_word(closed, p, w));
         w += 1;
     }
-    (h % 1024) as usize
+    (h as usize) % SLOTS
 }
 
 // The leader below u, in the chain of slot s, whose row agrees with u's; u if there is none.
@@ -133,10 +139,11 @@ fn find_alike(edges: &[u64], chains: &[u16], closed: bool, u: usize, s: usize) -
 {
     let mut c = rows::wide(chains[s]);
     while c != 0 {
-        if rows::same_row(edges, closed, u, c - 1) {
-            return c - 1;
+        let q = c - 1;
+        if rows::same_row(edges, closed, u, q) {
+            return q;
         }
-        c = rows::wide(chains[1023 + c]);
+        c = rows::wide(chains[SLOTS + q]);
     }
     u
 }
@@ -147,7 +154,7 @@ fn enter(chains: &mut [u16], s: usize, u: usize, l: usize)
     ensures { λ _. ⌜ Entered u s l (now (chains .entry)) (now (chains .exit)) ⌝ }
 {
     if l == u {
-        chains[1024 + u] = chains[s];
+        chains[SLOTS + u] = chains[s];
         chains[s] = (u + 1) as u16;
     }
 }
@@ -168,7 +175,7 @@ fn least_of(
     ensures { λ r. ⌜ r ≡ leastVisible (markedGraph n (now (edges .entry)) (now (hidden .entry))) u ⌝ }
 {
     if !is_visible(hidden, u) {
-        return 65535;
+        return NONE;
     }
     let q = find_alike(edges, opens, false, u, a);
     if q < u {
@@ -205,7 +212,7 @@ pub fn summarise(edges: &[u64], hidden: &[u16], n: usize, masked: &mut [u64], le
     ensures { λ _. ⌜ Truth (markedGraph n (now (edges .entry)) (now (hidden .entry))) (now (least .exit)) (now (masked .exit)) ⌝ }
 {
     mask_edges(edges, hidden, n, masked);
-    let mut opens = [0u16; 1536];
-    let mut closeds = [0u16; 1536];
+    let mut opens = [0u16; SLOTS + Graph::NODES];
+    let mut closeds = [0u16; SLOTS + Graph::NODES];
     group_visible(masked, hidden, n, &mut opens, &mut closeds, least);
 }

@@ -4,8 +4,7 @@ use mathlib.Core.Path.{_≡_}
 use Prim.Native.Nat.{ℕ, _≤_}
 use native.Mathlib.Omega.{arith}
 use borrow.Author.Needs.{needs}
-use Rattle.visible.specs.ChainLaws.{Seeking, met-hit, met-miss, seeking-on, seeking-start}
-use Rattle.visible.specs.ChainLaws.{alike-told, links-less}
+use Rattle.visible.specs.ChainLaws.{Seeking, alike-told, links-less, met-hit, met-miss, seeking-on, seeking-start}
 use Rattle.visible.specs.Chains.{Chains, alike}
 use Rattle.visible.proofs.find_alike.Statement.{statement}
 use Rattle.visible.proofs.find_alike.Tie as tie
@@ -26,19 +25,19 @@ wide-requires : tie.Need-wide-requires Inv-loop μ-loop
 wide-requires c κs = search needs
 
 loop-holds : tie.Need-loop-holds Inv-loop μ-loop
-loop-holds c = let pre = c .before .before .before .before .pre in (omega (arith, c .wide .ensures, pre .3 .below _ (pre .2)), λ slot leads es k. seeking-start _ k es (pre .2) (c .wide .ensures))
+loop-holds c =
+    let pre = c .before .before .before .before .pre in
+    (omega (arith, c .wide .ensures, pre .3 .below _ (pre .2)), λ slot leads es k. seeking-start _ k es (pre .2) (c .wide .ensures))
 
-sub-same-row : tie.Need-sub-same-row Inv-loop μ-loop
-sub-same-row c = omega arith
+sub-q : tie.Need-sub-q Inv-loop μ-loop
+sub-q c = omega arith
 
 same-row-requires : tie.Need-same-row-requires Inv-loop μ-loop
 same-row-requires c κs = omega arith
 
-sub-result : tie.Need-sub-result Inv-loop μ-loop
-sub-result c = omega arith
-
 returns : tie.Need-returns Inv-loop μ-loop
-returns c = let head = c .before .before .before in
+returns c =
+    let head = c .before .before .before in
     (omega arith, λ slot leads es k. met-hit _ k (head .loop .inv .1 slot leads es k) (c .before .before .loop-test .taken) (head .loop .inv .0) (alike-told _ _ _ _ (c .before .same-row .ensures)) (c .if1 .taken))
 
 add-wide : tie.Need-add-wide Inv-loop μ-loop
@@ -54,10 +53,13 @@ wide-requires-2 : tie.Need-wide-requires-2 Inv-loop μ-loop
 wide-requires-2 c κs = search needs
 
 loop-less : tie.Need-loop-less Inv-loop μ-loop
-loop-less c = let head = c .before .before .before .before .before in links-less (head .before .before .before .before .before .pre .3) (c .before .before .before .before .loop-test .taken) (omega arith) (c .wide2 .ensures)
+loop-less c =
+    let head = c .before .before .before .before .before in
+    links-less (head .before .before .before .before .before .pre .3) (c .before .before .before .before .loop-test .taken) (omega arith) (c .wide2 .ensures)
 
 loop-again : tie.Need-loop-again Inv-loop μ-loop
-loop-again c = let head = c .before .before .before .before .before in
+loop-again c =
+    let head = c .before .before .before .before .before in
     let pre = head .before .before .before .before .before .pre in
     let test = c .before .before .before .before .loop-test .taken in
     let less = links-less (pre .3) test (omega arith) (c .wide2 .ensures) in
@@ -76,9 +78,8 @@ find-alike-spec =
     shared-slice-read-wide
     wide-requires
     loop-holds
-    sub-same-row
+    sub-q
     same-row-requires
-    sub-result
     returns
     add-wide
     mul-wide-2

@@ -42,14 +42,16 @@ loop-less : tie.Need-loop-less Inv-loop μ-loop
 loop-less c = omega arith
 
 loop-again : tie.Need-loop-again Inv-loop μ-loop
-loop-again c = let head = c .before .before .before .before in
+loop-again c =
+    let head = c .before .before .before .before in
     (omega arith, masking-more (head .loop .inv .1) (omega (arith, head .before .before .before .before .before .pre .1, c .before .before .before .loop-test .taken)) (c .kept .ensures))
 
 same-length : tie.Need-same-length Inv-loop μ-loop
 same-length c = c .before .loop .inv .1 .size
 
 returns : tie.Need-returns Inv-loop μ-loop
-returns c = let start = c .before .before in
+returns c =
+    let start = c .before .before in
     let pre = start .before .before .before .before .pre in
     masking-done (pre .0) (pre .1) (start .visible-set .ensures) (c .before .loop .inv .1) (c .loop-test .left)
 

@@ -49,7 +49,8 @@ loop-less : tie.Need-loop-less Inv-loop μ-loop
 loop-less c = omega arith
 
 loop-again : tie.Need-loop-again Inv-loop μ-loop
-loop-again c = let row = c .before .before in
+loop-again c =
+    let row = c .before .before in
     let head = row .before .before in
     let pre = head .before .before .before .pre in
     (omega arith, summed-more (head .loop .inv .1) (omega (arith, pre .1, row .before .loop-test .taken)) (row .sum-row .ensures) (c .before .cube-of .ensures) (c .wrapping-add-u32 .ensures))

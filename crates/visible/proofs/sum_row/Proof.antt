@@ -44,10 +44,14 @@ lowest-requires : tie.Need-lowest-requires Inv-loop2 μ-loop2 Inv-loop μ-loop
 lowest-requires c κs = omega arith
 
 add-q : tie.Need-add-q Inv-loop2 μ-loop2 Inv-loop μ-loop
-add-q c = let turn = c .before in omega (arith, adding-place (turn .before .loop2 .inv) (turn .loop2-test .taken) (c .lowest .ensures) (omega arith))
+add-q c =
+    let turn = c .before in
+    omega (arith, adding-place (turn .before .loop2 .inv) (turn .loop2-test .taken) (c .lowest .ensures) (omega arith))
 
 cube-of-requires : tie.Need-cube-of-requires Inv-loop2 μ-loop2 Inv-loop μ-loop
-cube-of-requires c κs = let turn = c .before in adding-place (turn .before .loop2 .inv) (turn .loop2-test .taken) (c .lowest .ensures) (omega arith)
+cube-of-requires c κs =
+    let turn = c .before in
+    adding-place (turn .before .loop2 .inv) (turn .loop2-test .taken) (c .lowest .ensures) (omega arith)
 
 wrapping-add-u32-requires : tie.Need-wrapping-add-u32-requires Inv-loop2 μ-loop2 Inv-loop μ-loop
 wrapping-add-u32-requires c κs = omega arith
@@ -56,10 +60,17 @@ sub-x : tie.Need-sub-x Inv-loop2 μ-loop2 Inv-loop μ-loop
 sub-x c = omega arith
 
 loop2-less : tie.Need-loop2-less Inv-loop2 μ-loop2 Inv-loop μ-loop
-loop2-less c = let d = c .before .before in let turn = d .before in adding-less (turn .before .loop2 .inv) (turn .loop2-test .taken) (d .lowest .ensures)
+loop2-less c =
+    let d = c .before .before in
+    let turn = d .before in
+    adding-less (turn .before .loop2 .inv) (turn .loop2-test .taken) (d .lowest .ensures)
 
 loop2-again : tie.Need-loop2-again Inv-loop2 μ-loop2 Inv-loop μ-loop
-loop2-again c = let d = c .before .before in let turn = d .before in let pre = turn .before .before .before .before .before .before .pre in summing (pre .0) (pre .1) (omega arith) (turn .before .loop2 .inv) (turn .loop2-test .taken) (d .lowest .ensures) (c .before .cube-of .ensures) (c .wrapping-add-u32 .ensures)
+loop2-again c =
+    let d = c .before .before in
+    let turn = d .before in
+    let pre = turn .before .before .before .before .before .before .pre in
+    summing (pre .0) (pre .1) (omega arith) (turn .before .loop2 .inv) (turn .loop2-test .taken) (d .lowest .ensures) (c .before .cube-of .ensures) (c .wrapping-add-u32 .ensures)
 
 add-w : tie.Need-add-w Inv-loop2 μ-loop2 Inv-loop μ-loop
 add-w c = omega arith

@@ -15,7 +15,9 @@ slice-aggregate-group-visible-2 : tie.Need-slice-aggregate-group-visible-2
 slice-aggregate-group-visible-2 c = search needs
 
 group-visible-requires : tie.Need-group-visible-requires
-group-visible-requires c κs = let pre = c .before .before .before .before .before .before .before .before .before .before .before .before .pre in (masked-apart (pre .0) (c .before .before .before .before .before .before .mask-edges .ensures), links-none, links-none, pre .2)
+group-visible-requires c κs =
+    let pre = c .before .before .before .before .before .before .before .before .before .before .before .before .pre in
+    (masked-apart (pre .0) (c .before .before .before .before .before .before .mask-edges .ensures), links-none, links-none, pre .2)
 
 same-length : tie.Need-same-length
 same-length c = search needs

@@ -47,7 +47,8 @@ loop-less : tie.Need-loop-less Inv-loop μ-loop
 loop-less c = omega arith
 
 loop-again : tie.Need-loop-again Inv-loop μ-loop
-loop-again c = let head = c .before .before .before in
+loop-again c =
+    let head = c .before .before .before in
     ⊎-elim
     (λ w.
     let f = flipped-at _ 0 _ _ _ (omega arith) (omega (arith, head .loop .inv .1 .size)) (omega (arith, w .1 .ensures)) (w .2 .ensures) in
