@@ -7,6 +7,7 @@ ghost use Rattle.model.specs.Graph.{maxNodes, rowWords, nodeNumbers};
 ghost use Rattle.model.specs.Tables.{holds};
 ghost use Rattle.rows.specs.Rows.{lent};
 ghost use Rattle.rows.specs.Search.{Ready};
+ghost use Rattle.checks.specs.SlotLaws.{Marked, Seen, slotOf};
 ghost use Rattle.checks.specs.Checks.{
   agrees,
   alone,
@@ -21,16 +22,8 @@ ghost use Rattle.checks.specs.Checks.{
   twinOf,
   twinsHold,
 };
-use groups::number;
+use groups::{number, LEAST, MARK, NEXT, PREVIOUS};
 use rows::Graph;
-
-const LEAST: usize = 0;
-
-const NEXT: usize = 1;
-
-const PREVIOUS: usize = 2;
-
-const MARK: usize = 3;
 
 // Whether q is another node, with p's bit in its row.
 fn is_mirrored(edges: &[u64], n: usize, p: usize, q: usize) -> bool
@@ -124,13 +117,50 @@ fn twins_hold(edges: &[u64], nodes: &[u16], n: usize) -> bool
     true
 }
 
-// Whether u leads no group, or no leader below it is similar to it.
-fn is_alone(edges: &[u64], nodes: &[u16], keys: &[u32], n: usize, u: usize) -> bool
+fn wide_byte(x: u8) -> usize
+    ensures { λ r. ⌜ r ≡ x ⌝ }
+{
+    x as usize
+}
+
+// The slot of a key among the keys seen.
+fn slot(key: u32) -> usize
+    ensures { λ r. ⌜ r ≡ slotOf key ⌝ }
+{
+    (key % 8191) as usize
+}
+
+// Whether the slots of both keys of u were free; now they are taken.
+fn are_new(keys: &[u32], u: usize, opens: &mut [u8], closeds: &mut [u8]) -> bool
+    requires { ⌜ (u < maxNodes) × (2 * u + 2 ≤ length (now keys)) × (length (now opens) ≡ 8192) × (length (now closeds) ≡ 8192) ⌝ }
+    ensures { λ r. ⌜ Marked (now (keys .entry)) u (now (opens .entry)) (now (closeds .entry)) (now (opens .exit)) (now (closeds .exit)) r ⌝ }
+{
+    let a = slot(keys[2 * u]);
+    let b = slot(keys[2 * u + 1]);
+    let taken = wide_byte(opens[a]) + wide_byte(closeds[b]);
+    opens[a] = 1;
+    closeds[b] = 1;
+    taken == 0
+}
+
+// Whether u leads no group, or no leader below it is similar to it: none can be where none has an equal key.
+fn is_alone(
+    edges: &[u64],
+    nodes: &[u16],
+    keys: &[u32],
+    n: usize,
+    u: usize,
+    opens: &mut [u8],
+    closeds: &mut [u8],
+) -> bool
     requires { ⌜ Ready n (now edges) (now keys) ⌝ }
-    requires { ⌜ (length (now nodes) ≡ nodeNumbers * n) × (u < n) ⌝ }
-    ensures { λ r. ⌜ r ≡ alone n (now (edges .entry)) (now (nodes .entry)) u ⌝ }
+    requires { ⌜ (length (now nodes) ≡ nodeNumbers * n) × (u < n) × Seen (now nodes) (now keys) u (now opens) (now closeds) ⌝ }
+    ensures { λ r. ⌜ (r ≡ alone n (now (edges .entry)) (now (nodes .entry)) u) × Seen (now (nodes .entry)) (now (keys .entry)) (u + 1) (now (opens .exit)) (now (closeds .exit)) ⌝ }
 {
     if number(nodes, u, LEAST) != u {
+        return true;
+    }
+    if are_new(keys, u, opens, closeds) {
         return true;
     }
     rows::find_group(edges, nodes, keys, n, u, u, u) == u
@@ -142,8 +172,10 @@ fn leaders_apart(edges: &[u64], nodes: &[u16], keys: &[u32], n: usize) -> bool
     requires { ⌜ length (now nodes) ≡ nodeNumbers * n ⌝ }
     ensures { λ r. ⌜ r ≡ leadersApart n (now (edges .entry)) (now (nodes .entry)) ⌝ }
 {
+    let mut opens = [0u8; 8192];
+    let mut closeds = [0u8; 8192];
     for u in 0..n {
-        if !is_alone(edges, nodes, keys, n, u) {
+        if !is_alone(edges, nodes, keys, n, u, &mut opens, &mut closeds) {
             return false;
         }
     }

@@ -8,20 +8,20 @@ use native.Mathlib.Omega.{arith}
 use lib.Dec.{eqb, ltb}
 use lib.ListN.{length, getD, drop}
 use borrow.Author.Tests.{eqb-true, eq-eqb, ne-eqb, ltb-true, ltb-false, lt-ltb, le-leb}
-use Rattle.model.specs.Lists.{_∈_, concat, member, nodes}
+use Rattle.model.specs.Lists.{_∈_, concat, member, nodes, sameList}
 use Rattle.model.specs.Graph.{Graph, Proper, maxNodes}
 use Rattle.model.specs.Grouping.{algorithm1, group, leaders, least, similar}
 use Rattle.model.specs.Summary.{position, summaryOf}
 use Rattle.model.specs.Tables.{edgeBit}
 use Rattle.model.specs.Release.{encode, endRecord, groupRecord, headRecord, isVisible, release, superedgeRecord, superedges, u16, visible, visibleEdge, visiblePart}
-use Rattle.model.specs.Reading.{afterGroups, decode, graphBy, groupsAt, summaryBy, summaryIn, superedgesAt, u16At}
+use Rattle.model.specs.Reading.{afterGroups, decode, graphBy, groupsAt, isRelease, summaryBy, summaryIn, superedgesAt, u16At}
 use Rattle.model.specs.TestLaws.{and-fst, and-snd, and-true, decide, differ, iff-eq}
-use Rattle.model.specs.ListLaws.{filter-elim, length-filter, length-from, map-out, member-elim, member-intro, nodes-out}
+use Rattle.model.specs.ListLaws.{filter-elim, length-filter, length-from, map-out, member-elim, member-intro, nodes-out, same-eq, same-refl}
 use Rattle.model.specs.ClassLaws.{group-in, group-out}
 use Rattle.model.specs.SummaryLaws.{algorithm1-classes, algorithm1-summarises, length-groups, position-group, position-similar}
-use Rattle.model.specs.ReleaseLaws.{length-concat-groups, length-encode, visible-ascending, visible-simple}
+use Rattle.model.specs.ReleaseLaws.{length-concat-groups, length-encode, non-interference, visible-ascending, visible-simple}
 use Rattle.model.specs.ReadingLaws.{groups-after, groups-back, marked, read-placed, superedges-back}
-use Rattle.model.specs.ReadBackLaws.{decode-release}
+use Rattle.model.specs.ReadBackLaws.{decode-release, only-releases, release-is, visible-alike}
 use Rattle.reader.specs.declared.Record.the-variants.{Head}
 use Rattle.reader.specs.declared.Groups.the-variants.{Whole}
 use Rattle.reader.specs.declared.Decoded.{Decoded}
@@ -119,8 +119,8 @@ module _ (b : Graph) (h : Proper b) where
   abbrev s : List ℕ
   s = encode (b .nodeCount) (visible b) (visibleEdge b) (algorithm1 (visible b) (visibleEdge b))
 
-  release-is : release b ≡ s
-  release-is = unfold release in refl
+  released : release b ≡ s
+  released = unfold release in refl
 
   fewer-visible : length vs ≤ b .nodeCount
   fewer-visible = unfold visible nodes in omega (arith, length-filter (isVisible b) (nodes (b .nodeCount)), length-from 0 (b .nodeCount))
@@ -226,7 +226,7 @@ module _ (b : Graph) (h : Proper b) where
   told-hides p = unfold decode graphBy summaryIn summaryBy toldGroups groupsFrom in ap (λ (t : Bool). ltb p (u16At s 2) && not t) (placed-position (groupsAt (u16At s 6) (drop 8 s)) p)
 
   pub told-release : toldGraph (release b) ≡ visiblePart b
-  told-release = ap toldGraph release-is ∙ reads ∙ sym (ap decode release-is) ∙ decode-release b h
+  told-release = ap toldGraph released ∙ reads ∙ sym (ap decode released) ∙ decode-release b h
     where
       reads : toldGraph s ≡ decode s
       reads = unfold toldGraph in (λ i. record { nodeCount = count i; edge = fun-ext (λ p. fun-ext (λ q. told-reads p q)) i; hidden = fun-ext (λ p. told-hides p) i })
@@ -239,7 +239,7 @@ pub decodes-release : (s edges hidden : List ℕ) (r : Decoded) → Decodes s ed
 decodes-release s edges hidden r d g h e = (d .result ∙ answers ∙ ap answer.Graph count, ap (λ (n : ℕ). graphIn n edges hidden) (sym count) ∙ graph)
   where
     ok : accepted s ≡ true
-    ok = ap accepted (e ∙ release-is g h) ∙ release-accepted g h
+    ok = ap accepted (e ∙ released g h) ∙ release-accepted g h
 
     graph : graphIn (u16At s 2) edges hidden ≡ visiblePart g
     graph = held-graph s edges hidden r d ok ∙ ap toldGraph e ∙ told-release g h
@@ -249,3 +249,41 @@ decodes-release s edges hidden r d g h e = (d .result ∙ answers ∙ ap answer.
 
     count : u16At s 2 ≡ g .nodeCount
     count = unfold graphIn visiblePart in ap (λ (x : Graph). x .nodeCount) graph
+
+-- whether bytes are a release: those that are refused are none, and the others if released again they give the same bytes
+pub refused-is-none : (s edges hidden : List ℕ) → Decodes s edges hidden answer.NoRelease → isRelease s ≡ false
+refused-is-none s edges hidden d = step (decide (isRelease s))
+  where
+    step : (isRelease s ≡ true) ⊎ (isRelease s ≡ false) → isRelease s ≡ false
+    step (inl t) =
+        let o = only-releases s t in
+        let e : answer.NoRelease ≡ answer.Graph (o .0 .nodeCount) = decodes-release s edges hidden answer.NoRelease d (o .0) (o .1) (o .2) .0 in
+        let z : _≡_ {A = ℕ} 0 1 = cc in
+        absurd (omega arith)
+    step (inr t) = t
+
+module _ (s edges hidden : List ℕ) (n : ℕ) (d : Decodes s edges hidden (answer.Graph n)) where
+  graph-made-of : (b : Graph) → Proper b → s ≡ release b → graphIn n edges hidden ≡ visiblePart b
+  graph-made-of b h e =
+      let a = decodes-release s edges hidden (answer.Graph n) d b h e in
+      let f : answer.Graph n ≡ answer.Graph (b .nodeCount) = a .0 in
+      let g : n ≡ b .nodeCount = cc in
+      ap (λ (m : ℕ). graphIn m edges hidden) g ∙ a .1
+
+  -- the graph in the arrays is what a release is read as
+  pub release-read : isRelease s ≡ true → graphIn n edges hidden ≡ decode s
+  release-read t =
+      let o = only-releases s t in
+      graph-made-of (o .0) (o .1) (o .2) ∙ sym (ap decode (o .2) ∙ decode-release (o .0) (o .1))
+
+  pub release-compared : isRelease s ≡ sameList s (release (graphIn n edges hidden))
+  release-compared = iff-eq (isRelease s) (sameList s (release (graphIn n edges hidden))) there back
+    where
+      there : isRelease s ≡ true → sameList s (release (graphIn n edges hidden)) ≡ true
+      there t =
+          let o = only-releases s t in
+          let e : release (graphIn n edges hidden) ≡ s = ap release (graph-made-of (o .0) (o .1) (o .2)) ∙ non-interference (visiblePart (o .0)) (o .0) (visible-alike (o .0)) ∙ sym (o .2) in
+          rw e (same-refl s)
+
+      back : sameList s (release (graphIn n edges hidden)) ≡ true → isRelease s ≡ true
+      back t = ap isRelease (same-eq s (release (graphIn n edges hidden)) t) ∙ release-is (graphIn n edges hidden) (decodes-simple s edges hidden (answer.Graph n) n d refl .proper)
