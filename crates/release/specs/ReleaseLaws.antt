@@ -1,0 +1,101 @@
+-- The calls on releases are those of the model.
+use mathlib.Core.Path.{_≡_, refl, sym, ap, ap₂, _∙_, fun-ext}
+use mathlib.Core.Bool.{Bool, true, false, cond, not, _&&_}
+use mathlib.Core.List.{List, [], _∷_}
+use mathlib.Core.Logic.{_≢_, _⊎_, inl, inr}
+use Prim.Native.Nat.{ℕ, _*_, _/_, _%_, _≤_, _<_}
+use native.Mathlib.Omega.{arith}
+use lib.Dec.{eqb, ltb}
+use lib.ListN.{length, getD, take}
+use lib.Seq.{getD-take}
+use borrow.Author.Tests.{ltb-true, lt-ltb, le-ltb, eq-eqb, ne-eqb, not-true, not-false}
+use Rattle.model.specs.Graph.{Graph, Proper, rowWords}
+use Rattle.model.specs.Lists.{sameList}
+use Rattle.model.specs.Tables.{Tables, tablesOf, graphOf, edgeBit, nodeNumber, holds}
+use Rattle.model.specs.Refusals.{Reasons, firstOf, lengths, wrongSize}
+use Rattle.model.specs.Release.{release, isVisible}
+use Rattle.model.specs.Reading.{decode, isRelease}
+use Rattle.model.specs.Queries.{neighbours}
+use Rattle.model.specs.Calls.{released, releaseReasons, releaseRefused, releaseCall, Opened, openRefused, readReasons, readCall, listRefused, fileNeighboursReasons, fileNeighboursCall, onto}
+use Rattle.model.specs.TestLaws.{decide}
+use Rattle.reader.specs.declared.Decoded.{Decoded}
+use Rattle.reader.specs.declared.Decoded.the-variants as answer
+use Rattle.reader.specs.Decoding.{graphIn, HoldsGraph, Decodes}
+use Rattle.reader.specs.HeldLaws.{decodes-simple, refused-is-none, release-read, release-compared}
+use Rattle.index.specs.Index.{opened, listed, tableReasons}
+use Rattle.index.specs.IndexLaws.{table-refused, table-rest, call-refused, call-done}
+use Rattle.release.specs.Release.{told, Marks, Judged}
+
+-- the graph of edges and marks is that of the tables
+pub marks-graph : (n : ℕ) (t : Tables) (hidden : List ℕ) → Marks n (t .nodes) hidden → graphIn n (t .edges) hidden ≡ graphOf n t
+unfolding graphIn graphOf
+marks-graph n t hidden m = λ i. record { nodeCount = n; edge = λ p q. ltb p n && (ltb q n && edgeBit (t .edges) p q); hidden = fun-ext (λ p. mark p (decide (ltb p n))) i }
+  where
+    mark : (p : ℕ) → (ltb p n ≡ true) ⊎ (ltb p n ≡ false) → (ltb p n && eqb (getD hidden p 0) 1) ≡ (ltb p n && eqb (nodeNumber (t .nodes) p 3) 1)
+    mark p (inl x) = rw (m .same p (ltb-true p n x))
+    mark p (inr x) = rw x
+
+-- release
+module _ (n : ℕ) (t : Tables) (out : List ℕ) (r : ℕ) (e : r ≡ firstOf (tableReasons n t [])) where
+  pub release-table : r ≢ 0 → releaseRefused out r ≡ releaseCall n t out
+  unfolding releaseCall releaseReasons
+  release-table d = call-refused _ (releaseRefused out) _ r (table-refused n t r e _ d) d
+
+  pub release-told : r ≡ 0 → told (graphOf n t) out ≡ releaseCall n t out
+  unfolding releaseCall told
+  release-told z = step (decide (ltb (length out) (length (release (graphOf n t)))))
+    where
+      rs : Reasons
+      rs = (ltb (length out) (length (release (graphOf n t))), 18) ∷ []
+
+      first : firstOf (releaseReasons n t out) ≡ firstOf ((ltb (length out) (length (release (graphOf n t))), 18) ∷ [])
+      first = unfold releaseReasons in table-rest n t r e z ((ltb (length out) (length (release (graphOf n t))), 18) ∷ [])
+
+      step : (ltb (length out) (length (release (graphOf n t))) ≡ true) ⊎ (ltb (length out) (length (release (graphOf n t))) ≡ false)
+          → cond (ltb (length out) (length (release (graphOf n t)))) (releaseRefused out 18) (released (graphOf n t) out) ≡ releaseCall n t out
+      step (inl x) = rw x (call-refused (releaseReasons n t out) (releaseRefused out) (released (graphOf n t) out) 18 (first ∙ unfold firstOf in rw x) (omega arith))
+      step (inr x) = rw x (call-done (releaseReasons n t out) (releaseRefused out) (released (graphOf n t) out) (first ∙ unfold firstOf in rw x))
+
+-- a file is judged by what it is decoded as, released again and compared
+pub judged-none : (s edges hidden : List ℕ) {r : Decoded} → Decodes s edges hidden r → r ≡ answer.NoRelease → Judged s edges hidden answer.NoRelease
+judged-none s edges hidden {r} d e = record {
+  rows = d .rows;
+  size = d .size;
+  none = λ z. refused-is-none s edges hidden (rw e at d);
+  is = λ n z. never n z;
+  graph = λ n z. never n z;
+  holds = λ n z. never n z;
+}
+  where
+    never : {X : Type 0} (n : ℕ) → answer.NoRelease ≡ answer.Graph n → X
+    never n z = let w : _≡_ {A = ℕ} 0 1 = cc in absurd (omega arith)
+
+module _ (s edges hidden : List ℕ) (n : ℕ) (d : Decodes s edges hidden (answer.Graph n)) (b : Bool) (c : b ≡ sameList s (release (graphIn n edges hidden))) where
+  pub judged-other : b ≡ false → Judged s edges hidden answer.NoRelease
+  judged-other z = record {
+    rows = d .rows;
+    size = d .size;
+    none = λ w. release-compared s edges hidden n d ∙ sym c ∙ z;
+    is = λ m w. never m w;
+    graph = λ m w. never m w;
+    holds = λ m w. never m w;
+  }
+    where
+      never : {X : Type 0} (m : ℕ) → answer.NoRelease ≡ answer.Graph m → X
+      never m z = let w : _≡_ {A = ℕ} 0 1 = cc in absurd (omega arith)
+
+  pub judged-release : b ≡ true → Judged s edges hidden (answer.Graph n)
+  judged-release z = record {
+    rows = d .rows;
+    size = d .size;
+    none = λ w. never w;
+    is = λ m w. yes′;
+    graph = λ m w. let q : n ≡ m = cc in ap (λ (k : ℕ). graphIn k edges hidden) (sym q) ∙ release-read s edges hidden n d yes′;
+    holds = λ m w. decodes-simple s edges hidden (answer.Graph n) m d w;
+  }
+    where
+      yes′ : isRelease s ≡ true
+      yes′ = release-compared s edges hidden n d ∙ sym c ∙ z
+
+      never : {X : Type 0} → answer.Graph n ≡ answer.NoRelease → X
+      never z = let w : _≡_ {A = ℕ} 0 1 = cc in absurd (omega arith)

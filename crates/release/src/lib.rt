@@ -1,0 +1,1 @@
+// Releases: written, read back, asked.
