@@ -1,1 +1,2 @@
 // Releases: written, read back, asked.
+mod copies;
