@@ -1,6 +1,5 @@
 // A release file read record by record into local arrays.
 ghost use mathlib.Core.Path.{_≡_};
-ghost use mathlib.Core.Bool.{Bool};
 ghost use Prim.Native.Nat.{_+_, _*_, _≤_, _<_};
 ghost use lib.ListN.{length, replicate};
 ghost use Rattle.model.specs.Reading.{u16At};
@@ -70,6 +69,7 @@ pub struct Read {
     pub item: Record,
 }
 
+// A byte as a number of 16 bits.
 fn wide(x: u8) -> u16
     ensures { λ r. ⌜ (r ≡ x) × (r < 256) ⌝ }
 {
@@ -95,6 +95,7 @@ fn is_mark(file: &[u8], at: usize, mark: &[u8; 2]) -> bool
     file[at + 1] == mark[1]
 }
 
+// No record: the place stays.
 fn malformed(at: usize) -> Read
     ensures { λ r. ⌜ r ≡ malformedAt at ⌝ }
 {
@@ -104,6 +105,7 @@ fn malformed(at: usize) -> Read
     }
 }
 
+// A head, if its eight bytes are there.
 fn head_at(file: &[u8], at: usize) -> Read
     requires { ⌜ at + 2 ≤ length (now file) ⌝ }
     ensures { λ r. ⌜ r ≡ headAt (now (file .entry)) at ⌝ }
@@ -120,6 +122,7 @@ fn head_at(file: &[u8], at: usize) -> Read
     }
 }
 
+// The start of a group, if its four bytes are there. The members follow.
 fn group_at(file: &[u8], at: usize, clique: bool) -> Read
     requires { ⌜ at + 2 ≤ length (now file) ⌝ }
     ensures { λ r. ⌜ r ≡ groupAt clique (now (file .entry)) at ⌝ }
@@ -134,6 +137,7 @@ fn group_at(file: &[u8], at: usize, clique: bool) -> Read
     }
 }
 
+// A superedge, if its six bytes are there.
 fn superedge_at(file: &[u8], at: usize) -> Read
     requires { ⌜ at + 2 ≤ length (now file) ⌝ }
     ensures { λ r. ⌜ r ≡ superedgeAt (now (file .entry)) at ⌝ }
@@ -252,7 +256,7 @@ fn draw_clique(edges: &mut [u64], file: &[u8], group: usize, clique: bool)
 }
 
 // A group just taken: whether a clique, the place after it, and what is left of the counts.
-pub enum Grouped {
+enum Grouped {
     Taken {
         clique: bool,
         next: usize,
@@ -317,7 +321,7 @@ fn take_group(file: &[u8], at: usize, n: usize, counts: Counts, hidden: &mut [u1
 }
 
 // All groups read: the place after them, and what is left of the counts.
-pub enum Groups {
+enum Groups {
     Whole { next: usize, left: Counts },
     Broken,
 }
@@ -444,7 +448,7 @@ fn draw(
     requires { ⌜ (from ≡ 8) × (n ≤ 512) × (g ≤ 512) × (4096 ≤ length (now edges)) × (n ≤ length (now hidden)) ⌝ }
     ensures { λ r. ⌜ Drawn (now (file .entry)) n m g (now (edges .entry)) (now (edges .exit)) (now (hidden .entry)) (now (hidden .exit)) r ⌝ }
 {
-    let mut starts = [0usize; 512];
+    let mut starts = [0usize; rows::Graph::NODES];
     let counts = Counts {
         members: m,
         groups: g,
