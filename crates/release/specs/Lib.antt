@@ -1,5 +1,5 @@
 pub mod Release
-pub mod ReleaseLaws
-pub mod ReadLaws
 pub mod Fill
 pub mod FillLaws
+pub mod ReleaseLaws
+pub mod ReadLaws

@@ -13,7 +13,7 @@ use Rattle.model.specs.Graph.{Graph, Proper, rowWords}
 use Rattle.model.specs.Lists.{sameList}
 use Rattle.model.specs.Tables.{Tables, tablesOf, graphOf, edgeBit, nodeNumber, holds}
 use Rattle.model.specs.Refusals.{Reasons, firstOf, lengths, wrongSize}
-use Rattle.model.specs.Release.{release, isVisible}
+use Rattle.model.specs.Release.{release, isVisible, visibleEdge}
 use Rattle.model.specs.Reading.{decode, isRelease}
 use Rattle.model.specs.Queries.{neighbours}
 use Rattle.model.specs.Calls.{released, releaseReasons, releaseRefused, releaseCall, Opened, openRefused, readReasons, readCall, listRefused, fileNeighboursReasons, fileNeighboursCall, onto}
@@ -24,7 +24,16 @@ use Rattle.reader.specs.Decoding.{graphIn, HoldsGraph, Decodes}
 use Rattle.reader.specs.HeldLaws.{decodes-simple, refused-is-none, release-read, release-compared}
 use Rattle.index.specs.Index.{opened, listed, tableReasons}
 use Rattle.index.specs.IndexLaws.{table-refused, table-rest, call-refused, call-done}
+use Rattle.index.specs.Update.{Held}
+use Rattle.index.specs.UpdateLaws.{held-sized}
+use Rattle.rows.specs.Search.{edgesIn}
+use Rattle.visible.specs.Visible.{markedGraph, Drawn}
+use Rattle.layout.specs.File.{Partition, fileOf, writtenFile}
+use Rattle.layout.specs.Truth.{Truth}
+use Rattle.layout.specs.TruthLaws.{truth-partition, written-is, file-is}
+use Rattle.model.specs.ReadBackLaws.{visible-inside}
 use Rattle.release.specs.Release.{told, Marks, Judged}
+use Rattle.release.specs.Fill.{MarksTaken}
 
 -- the graph of edges and marks is that of the tables
 pub marks-graph : (n : ℕ) (t : Tables) (hidden : List ℕ) → Marks n (t .nodes) hidden → graphIn n (t .edges) hidden ≡ graphOf n t
@@ -99,3 +108,71 @@ module _ (s edges hidden : List ℕ) (n : ℕ) (d : Decodes s edges hidden (answ
 
       never : {X : Type 0} → answer.Graph n ≡ answer.NoRelease → X
       never z = let w : _≡_ {A = ℕ} 0 1 = cc in absurd (omega arith)
+
+-- the two names of the graph of edges and marks
+pub marked-in : (n : ℕ) (edges hidden : List ℕ) → markedGraph n edges hidden ≡ graphIn n edges hidden
+unfolding markedGraph graphIn edgesIn
+marked-in n edges hidden = refl
+
+-- the writer looks at edges of visible nodes only, so it may have the table before masking
+pub truth-whole : (n : ℕ) {edges : List ℕ} (hidden : List ℕ) {lst masked : List ℕ} → length edges ≡ rowWords * n → Truth (markedGraph n edges hidden) lst masked → Truth (markedGraph n edges hidden) lst edges
+truth-whole n {edges} hidden {lst} {masked} l t = record {
+  proper = t .proper;
+  size = t .size;
+  rows = unfold markedGraph in omega (arith, l);
+  visible-least = t .visible-least;
+  hidden-least = t .hidden-least;
+  edge-is = λ p q x y. bit p q x y;
+}
+  where
+    g : Graph
+    g = markedGraph n edges hidden
+
+    below : (p : ℕ) → isVisible (markedGraph n edges hidden) p ≡ true → p < n
+    below p x = unfold markedGraph in visible-inside (markedGraph n edges hidden) p x
+
+    bit : (p q : ℕ) → isVisible (markedGraph n edges hidden) p ≡ true → isVisible (markedGraph n edges hidden) q ≡ true → edgeBit edges p q ≡ visibleEdge (markedGraph n edges hidden) p q
+    bit p q x y = sym (shown p q x y ∙ inside p q x y)
+      where
+        shown : (p q : ℕ) → isVisible (markedGraph n edges hidden) p ≡ true → isVisible (markedGraph n edges hidden) q ≡ true → visibleEdge (markedGraph n edges hidden) p q ≡ markedGraph n edges hidden .edge p q
+        shown p q x y = unfold visibleEdge in rw (x, y)
+
+        inside : (p q : ℕ) → isVisible (markedGraph n edges hidden) p ≡ true → isVisible (markedGraph n edges hidden) q ≡ true → markedGraph n edges hidden .edge p q ≡ edgeBit edges p q
+        inside p q x y = unfold markedGraph edgesIn in rw (lt-ltb p n (below p x), lt-ltb q n (below q y))
+
+-- tables that hold a graph, with their marks apart
+pub drawn-held : {n : ℕ} {t : Tables} {hidden₀ hidden : List ℕ} → Held n t → n ≤ length hidden₀ → MarksTaken n (t .nodes) hidden₀ hidden → Drawn n (t .edges) hidden
+drawn-held {n} {t} {hidden₀} {hidden} h l m =
+    let s = held-sized h in
+    record { small = s .small; proper = rw (same-graph m) (h .proper); size = s .edges; marked = omega (arith, m .size) }
+  where
+    same-graph : MarksTaken n (t .nodes) hidden₀ hidden → markedGraph n (t .edges) hidden ≡ graphOf n t
+    same-graph m = marked-in n (t .edges) hidden ∙ marks-graph n t hidden (record { same = m .marks })
+
+pub taken-graph : (n : ℕ) (t : Tables) {hidden₀ hidden : List ℕ} → MarksTaken n (t .nodes) hidden₀ hidden → markedGraph n (t .edges) hidden ≡ graphOf n t
+taken-graph n t {hidden₀} {hidden} m = marked-in n (t .edges) hidden ∙ marks-graph n t hidden (record { same = m .marks })
+
+-- the file that is written from such least members
+pub written-told : (g : Graph) (n : ℕ) (lst edges out : List ℕ) → n ≡ g .nodeCount → Truth g lst edges → writtenFile n lst edges out ≡ told g out
+unfolding told
+written-told g n lst edges out e t = rw e (written-is g lst edges t out)
+
+pub truth-parts : (g : Graph) (n : ℕ) (lst edges : List ℕ) → n ≡ g .nodeCount → Truth g lst edges → Partition n lst edges
+truth-parts g n lst edges e t = rw e (truth-partition g lst edges t)
+
+pub file-told : (g : Graph) (n : ℕ) (lst edges s : List ℕ) → n ≡ g .nodeCount → Truth g lst edges → sameList s (fileOf n lst edges) ≡ sameList s (release g)
+file-told g n lst edges s e t = rw e (ap (sameList s) (file-is g lst edges t))
+
+-- what a release is written from: edges, and least members of the visible part
+module _ (n : ℕ) (edges hidden : List ℕ) {lst : List ℕ} (w : Truth (markedGraph n edges hidden) lst edges) where
+  same-size : n ≡ markedGraph n edges hidden .nodeCount
+  same-size = unfold markedGraph in refl
+
+  pub visible-parts : Partition n lst edges
+  visible-parts = truth-parts (markedGraph n edges hidden) n lst edges same-size w
+
+  pub visible-told : (t : Tables) {hidden₀ : List ℕ} → t .edges ≡ edges → MarksTaken n (t .nodes) hidden₀ hidden → (out : List ℕ) → writtenFile n lst edges out ≡ told (graphOf n t) out
+  visible-told t e m out = written-told (markedGraph n edges hidden) n lst edges out same-size w ∙ ap (λ (g : Graph). told g out) (ap (λ (x : List ℕ). markedGraph n x hidden) (sym e) ∙ taken-graph n t m)
+
+  pub visible-file : (s : List ℕ) → sameList s (fileOf n lst edges) ≡ sameList s (release (graphIn n edges hidden))
+  visible-file s = file-told (markedGraph n edges hidden) n lst edges s same-size w ∙ ap (λ (g : Graph). sameList s (release g)) (marked-in n edges hidden)
