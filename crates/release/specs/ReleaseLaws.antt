@@ -3,15 +3,15 @@ use mathlib.Core.Path.{_≡_, refl, sym, ap, ap₂, _∙_, fun-ext}
 use mathlib.Core.Bool.{Bool, true, false, cond, not, _&&_}
 use mathlib.Core.List.{List, [], _∷_}
 use mathlib.Core.Logic.{_≢_, _⊎_, inl, inr}
-use Prim.Native.Nat.{ℕ, _*_, _/_, _%_, _≤_, _<_}
+use Prim.Native.Nat.{ℕ, _+_, _*_, _/_, _%_, _≤_, _<_}
 use native.Mathlib.Omega.{arith}
 use lib.Dec.{eqb, ltb}
 use lib.ListN.{length, getD, take}
-use lib.Seq.{getD-take}
+use lib.Seq.{getD-take, length-take-le}
 use borrow.Author.Tests.{ltb-true, lt-ltb, le-ltb, eq-eqb, ne-eqb, not-true, not-false}
-use Rattle.model.specs.Graph.{Graph, Proper, rowWords}
+use Rattle.model.specs.Graph.{Graph, Proper, maxNodes, rowWords}
 use Rattle.model.specs.Lists.{sameList}
-use Rattle.model.specs.Tables.{Tables, tablesOf, graphOf, edgeBit, nodeNumber, holds}
+use Rattle.model.specs.Tables.{Tables, tablesOf, graphOf, edgeBit, bitAt, nodeNumber, holds}
 use Rattle.model.specs.Refusals.{Reasons, firstOf, lengths, wrongSize}
 use Rattle.model.specs.Release.{release, isVisible, visibleEdge}
 use Rattle.model.specs.Reading.{decode, isRelease}
@@ -79,7 +79,10 @@ judged-none s edges hidden {r} d e = record {
     never : {X : Type 0} (n : ℕ) → answer.NoRelease ≡ answer.Graph n → X
     never n z = let w : _≡_ {A = ℕ} 0 1 = cc in absurd (omega arith)
 
-module _ (s edges hidden : List ℕ) (n : ℕ) (d : Decodes s edges hidden (answer.Graph n)) (b : Bool) (c : b ≡ sameList s (release (graphIn n edges hidden))) where
+module _ (s edges hidden : List ℕ) (n : ℕ) {r : Decoded} (d₀ : Decodes s edges hidden r) (told-n : r ≡ answer.Graph n) (b : Bool) (c : b ≡ sameList s (release (graphIn n edges hidden))) where
+  d : Decodes s edges hidden (answer.Graph n)
+  d = rw told-n at d₀
+
   pub judged-other : b ≡ false → Judged s edges hidden answer.NoRelease
   judged-other z = record {
     rows = d .rows;
@@ -176,3 +179,35 @@ module _ (n : ℕ) (edges hidden : List ℕ) {lst : List ℕ} (w : Truth (marked
 
   pub visible-file : (s : List ℕ) → sameList s (fileOf n lst edges) ≡ sameList s (release (graphIn n edges hidden))
   visible-file s = file-told (markedGraph n edges hidden) n lst edges s same-size w ∙ ap (λ (g : Graph). sameList s (release g)) (marked-in n edges hidden)
+
+-- the rows of n nodes at the start of a longer table
+take-bit : (n : ℕ) (edges : List ℕ) (p q : ℕ) → p < n → q < 512 → edgeBit (take (rowWords * n) edges) p q ≡ edgeBit edges p q
+unfolding edgeBit
+take-bit n edges p q hp hq = ap (λ (x : ℕ). bitAt x (q % 64)) (getD-take (8 * n) edges (8 * p + q / 64) 0 (omega arith))
+
+pub take-graph : (n : ℕ) (edges hidden : List ℕ) → n ≤ maxNodes → graphIn n (take (rowWords * n) edges) hidden ≡ graphIn n edges hidden
+unfolding graphIn
+take-graph n edges hidden small = λ i. record { nodeCount = n; edge = fun-ext (λ p. fun-ext (λ q. bit p q (decide (ltb p n)) (decide (ltb q n)))) i; hidden = λ p. ltb p n && eqb (getD hidden p 0) 1 }
+  where
+    bit : (p q : ℕ) → (ltb p n ≡ true) ⊎ (ltb p n ≡ false) → (ltb q n ≡ true) ⊎ (ltb q n ≡ false) → (ltb p n && (ltb q n && edgeBit (take (rowWords * n) edges) p q)) ≡ (ltb p n && (ltb q n && edgeBit edges p q))
+    bit p q (inl x) (inl y) = rw (x, y) (take-bit n edges p q (ltb-true p n x) (omega (arith, ltb-true q n y)))
+    bit p q (inl x) (inr y) = rw (x, y)
+    bit p q (inr x) y = rw x
+
+module _ (n : ℕ) {edges hidden : List ℕ} (h : HoldsGraph n edges hidden) (l : length edges ≡ 4096) (k : length hidden ≡ 512) where
+  pub held-small : n ≤ maxNodes
+  held-small = unfold graphIn in h .proper .small
+
+  pub taken-size : rowWords * n ≡ length (take (rowWords * n) edges)
+  taken-size = sym (length-take-le (rowWords * n) edges (omega (arith, held-small)))
+
+  pub drawn-decoded : Drawn n (take (rowWords * n) edges) hidden
+  drawn-decoded = record {
+    small = held-small;
+    proper = rw (marked-in n (take (rowWords * n) edges) hidden ∙ take-graph n edges hidden held-small) (h .proper);
+    size = sym taken-size;
+    marked = omega (arith, held-small);
+  }
+
+  pub same-release : {lst : List ℕ} → Truth (markedGraph n (take (rowWords * n) edges) hidden) lst (take (rowWords * n) edges) → (s : List ℕ) (b : Bool) → b ≡ sameList s (fileOf n lst (take (rowWords * n) edges)) → b ≡ sameList s (release (graphIn n edges hidden))
+  same-release w s b e = e ∙ visible-file n (take (rowWords * n) edges) hidden w s ∙ ap (λ (g : Graph). sameList s (release g)) (take-graph n edges hidden held-small)

@@ -20,6 +20,7 @@ use rows::Graph;
 use writer::Written;
 
 mod copies;
+mod judging;
 
 // The least members of the groups of the visible nodes.
 fn least_members(edges: &[u64], hidden: &[u16], n: usize, least: &mut [u16])
