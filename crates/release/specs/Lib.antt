@@ -3,3 +3,4 @@ pub mod Fill
 pub mod FillLaws
 pub mod ReleaseLaws
 pub mod ReadLaws
+pub mod TableLaws

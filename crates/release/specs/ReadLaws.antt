@@ -1,5 +1,5 @@
 -- Reading a release back, and asking it, are the model's calls.
-use mathlib.Core.Path.{_≡_, refl, sym, ap, ap₂, _∙_, fun-ext}
+use mathlib.Core.Path.{_≡_, refl, sym, ap, ap₂, subst, _∙_}
 use mathlib.Core.Bool.{Bool, true, false, cond, not, _&&_}
 use mathlib.Core.List.{List, [], _∷_, _++_}
 use mathlib.Core.Logic.{_≢_, _⊎_, inl, inr}
@@ -97,3 +97,6 @@ module _ (s : List ℕ) (p : ℕ) (out : List ℕ) {edges hidden : List ℕ} {r 
         where
           whole : (xs : List ℕ) → length xs ≤ length out → sets out 0 xs ≡ onto xs out
           whole xs q = let f : 0 + length xs ≡ length xs = omega arith in sets-eq xs out 0 (omega arith) ∙ ap (λ (i : ℕ). xs ++ drop i out) f
+
+pub judged-holds : {s edges hidden : List ℕ} {r : Decoded} → Judged s edges hidden r → (m : ℕ) → r ≡ answer.Graph m → (n : ℕ) → m ≡ n → HoldsGraph n edges hidden
+judged-holds {s} {edges} {hidden} j m e n d = subst (λ (k : ℕ). HoldsGraph k edges hidden) d (j .holds m e)

@@ -21,6 +21,7 @@ use writer::Written;
 
 mod copies;
 mod judging;
+mod reading;
 
 // The least members of the groups of the visible nodes.
 fn least_members(edges: &[u64], hidden: &[u16], n: usize, least: &mut [u16])
@@ -53,4 +54,30 @@ pub fn release(n: usize, edges: &[u64], nodes: &[u16], keys: &[u32], out: &mut [
         return Written { result: number, nodes: 0, groups: 0, superedges: 0, bytes: 0 };
     }
     write_visible(n, edges, nodes, keys, out)
+}
+
+// A release read back into tables: hidden nodes are those missing, without edges. 0, or 11, 19, 20.
+pub fn read(
+    n: usize,
+    edges: &mut [u64],
+    nodes: &mut [u16],
+    keys: &mut [u32],
+    file: &[u8],
+) -> u16
+    ensures { λ r. ⌜ opened r (lent (now (edges .exit)) (now (nodes .exit)) (now (keys .exit))) ≡ readCall n (lent (now (edges .entry)) (now (nodes .entry)) (now (keys .entry))) (now (file .entry)) ⌝ }
+{
+    if !index::right_size(n, edges, nodes, keys) {
+        return 11;
+    }
+    let mut drawn = [0u64; Graph::NODES * Graph::ROW_WORDS];
+    let mut hidden = [1u16; Graph::NODES];
+    let judged = judging::judge(file, &mut drawn, &mut hidden);
+    let Decoded::Graph { n: told } = judged else {
+        return 19;
+    };
+    if told != n {
+        return 20;
+    }
+    reading::fill(n, &drawn, &hidden, edges, nodes, keys);
+    0
 }
