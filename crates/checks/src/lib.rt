@@ -22,7 +22,11 @@ ghost use Rattle.checks.specs.Checks.{
   twinOf,
   twinsHold,
 };
-use groups::{number, LEAST, MARK, NEXT, PREVIOUS};
+use groups::LEAST;
+use groups::MARK;
+use groups::NEXT;
+use groups::PREVIOUS;
+use groups::number;
 use rows::Graph;
 
 // Whether q is another node, with p's bit in its row.

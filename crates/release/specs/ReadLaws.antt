@@ -7,7 +7,7 @@ use Prim.Native.Nat.{ℕ, _+_, _*_, _/_, _%_, _≤_, _<_}
 use native.Mathlib.Omega.{arith}
 use lib.Dec.{eqb, ltb}
 use lib.ListN.{length, getD, take, drop}
-use lib.Seq.{sets, sets-eq}
+use lib.Seq.{sets, sets-eq, length-take-le}
 use borrow.Author.Tests.{ltb-true, ltb-false, lt-ltb, le-ltb, eq-eqb, ne-eqb, not-true, not-false, not-true}
 use Rattle.model.specs.Lists.{filter, nodes}
 use Rattle.model.specs.Graph.{Graph, Proper, rowWords, maxNodes}
@@ -26,7 +26,8 @@ use Rattle.reader.specs.Decoding.{graphIn, HoldsGraph}
 use Rattle.index.specs.Index.{opened, listed}
 use Rattle.index.specs.IndexLaws.{call-refused, call-done}
 use Rattle.index.specs.QueryLaws.{scan-nodes}
-use Rattle.release.specs.Release.{Judged}
+use Rattle.release.specs.Release.{Judged, rowTold}
+use Rattle.release.specs.ReleaseLaws.{take-bit}
 
 -- read
 module _ (n : ℕ) (t : Tables) (s : List ℕ) (f : Bool) (e : f ≡ not (wrongSize n (lengths t))) where
@@ -72,31 +73,50 @@ module _ (s : List ℕ) (p : ℕ) (out : List ℕ) {edges hidden : List ℕ} {r 
     unfolding fileNeighboursCall fileNeighboursReasons firstOf
     ask-hidden h k = rw (j .is n z, seen, lt-ltb p n h, eq-eqb (getD hidden p 0) 1 k)
 
-    module _ (h : p < n) (v : getD hidden p 0 ≢ 1) (rows : List ℕ) (k : ℕ) (same : (q : ℕ) → q < n → edgeBit rows p q ≡ edgeBit edges p q) (c : k ≡ length (scan (edgeBit rows p) n 0)) where
-      list : scan (edgeBit rows p) n 0 ≡ neighbours (decode s) p
-      list = scan-nodes (edgeBit rows p) n ∙ told ∙ ap (λ (g : Graph). neighbours g p) (j .graph n z)
-        where
-          told : filter (edgeBit rows p) (nodes n) ≡ neighbours (graphIn n edges hidden) p
-          told = unfold neighbours graphIn in filter-cong (edgeBit rows p) (λ q. ltb p n && (ltb q n && edgeBit edges p q)) (nodes n) (λ q m. same q (nodes-out n q m) ∙ sym (rw (lt-ltb p n h, lt-ltb q n (nodes-out n q m))))
+    pub ask-row : p < n → getD hidden p 0 ≢ 1 → rowTold edges n p out ≡ fileNeighboursCall s p out
+    unfolding rowTold
+    ask-row h v = rw list (step (decide (ltb (length out) (length (neighbours (decode s) p)))))
+      where
+        list : scan (edgeBit edges p) n 0 ≡ neighbours (decode s) p
+        list = scan-nodes (edgeBit edges p) n ∙ told ∙ ap (λ (g : Graph). neighbours g p) (j .graph n z)
+          where
+            told : filter (edgeBit edges p) (nodes n) ≡ neighbours (graphIn n edges hidden) p
+            told = unfold neighbours graphIn in filter-cong (edgeBit edges p) (λ q. ltb p n && (ltb q n && edgeBit edges p q)) (nodes n) (λ q m. sym (rw (lt-ltb p n h, lt-ltb q n (nodes-out n q m))))
 
-      number : k ≡ length (neighbours (decode s) p)
-      number = c ∙ ap length list
+        shown : isVisible (decode s) p ≡ true
+        shown = seen ∙ rw (lt-ltb p n h, ne-eqb (getD hidden p 0) 1 v)
 
-      visible′ : isVisible (decode s) p ≡ true
-      visible′ = seen ∙ rw (lt-ltb p n h, ne-eqb (getD hidden p 0) 1 v)
+        first : firstOf (fileNeighboursReasons s p out) ≡ cond (ltb (length out) (length (neighbours (decode s) p))) 18 0
+        first = unfold fileNeighboursReasons firstOf in rw (j .is n z, shown)
 
-      pub ask-short : length out < k → listed 18 0 out ≡ fileNeighboursCall s p out
-      unfolding fileNeighboursCall fileNeighboursReasons firstOf
-      ask-short l = rw (j .is n z, visible′, lt-ltb (length out) (length (neighbours (decode s) p)) (omega (arith, number)))
+        step : (ltb (length out) (length (neighbours (decode s) p)) ≡ true) ⊎ (ltb (length out) (length (neighbours (decode s) p)) ≡ false)
+            → cond (ltb (length out) (length (neighbours (decode s) p))) (listRefused out 18) (record { result = 0; count = length (neighbours (decode s) p); out = onto (neighbours (decode s) p) out }) ≡ fileNeighboursCall s p out
+        step (inl x) = unfold fileNeighboursCall in rw x (call-refused (fileNeighboursReasons s p out) (listRefused out) _ 18 (first ∙ rw x) (omega arith))
+        step (inr x) = unfold fileNeighboursCall in rw x (call-done (fileNeighboursReasons s p out) (listRefused out) _ (first ∙ rw x))
 
-      pub ask-done : k ≤ length out → {out₁ : List ℕ} → out₁ ≡ sets out 0 (scan (edgeBit rows p) n 0) → listed 0 k out₁ ≡ fileNeighboursCall s p out
-      unfolding fileNeighboursCall fileNeighboursReasons firstOf
-      ask-done l w =
-          rw (j .is n z, visible′, le-ltb (length out) (length (neighbours (decode s) p)) (omega (arith, number)))
-          (ap₂ (listed 0) number (w ∙ ap (sets out 0) list ∙ whole (neighbours (decode s) p) (omega (arith, number))))
-        where
-          whole : (xs : List ℕ) → length xs ≤ length out → sets out 0 xs ≡ onto xs out
-          whole xs q = let f : 0 + length xs ≡ length xs = omega arith in sets-eq xs out 0 (omega arith) ∙ ap (λ (i : ℕ). xs ++ drop i out) f
+-- the rows of n nodes at the start of a longer table tell the same
+pub prefix-scan : (n p : ℕ) (edges : List ℕ) → n ≤ maxNodes → p < n → scan (edgeBit (take (rowWords * n) edges) p) n 0 ≡ scan (edgeBit edges p) n 0
+prefix-scan n p edges small h = scan-nodes (edgeBit (take (rowWords * n) edges) p) n ∙ filter-cong (edgeBit (take (rowWords * n) edges) p) (edgeBit edges p) (nodes n) (λ q m. take-bit n edges p q h (omega (arith, nodes-out n q m))) ∙ sym (scan-nodes (edgeBit edges p) n)
+
+module _ (n p : ℕ) (edges out : List ℕ) (small : n ≤ maxNodes) (h : p < n) (k : ℕ) (c : k ≡ length (scan (edgeBit (take (rowWords * n) edges) p) n 0)) where
+  number : k ≡ length (scan (edgeBit edges p) n 0)
+  number = c ∙ ap length (prefix-scan n p edges small h)
+
+  pub row-short : length out < k → listed 18 0 out ≡ rowTold edges n p out
+  unfolding rowTold
+  row-short l = rw (lt-ltb (length out) (length (scan (edgeBit edges p) n 0)) (omega (arith, number)))
+
+  pub row-done : k ≤ length out → {out₁ : List ℕ} → out₁ ≡ sets out 0 (scan (edgeBit (take (rowWords * n) edges) p) n 0) → listed 0 k out₁ ≡ rowTold edges n p out
+  unfolding rowTold
+  row-done l w =
+      rw (le-ltb (length out) (length (scan (edgeBit edges p) n 0)) (omega (arith, number)))
+      (ap₂ (listed 0) number (w ∙ ap (sets out 0) (prefix-scan n p edges small h) ∙ whole (scan (edgeBit edges p) n 0) (omega (arith, number))))
+    where
+      whole : (xs : List ℕ) → length xs ≤ length out → sets out 0 xs ≡ onto xs out
+      whole xs q = let f : 0 + length xs ≡ length xs = omega arith in sets-eq xs out 0 (omega arith) ∙ ap (λ (i : ℕ). xs ++ drop i out) f
 
 pub judged-holds : {s edges hidden : List ℕ} {r : Decoded} → Judged s edges hidden r → (m : ℕ) → r ≡ answer.Graph m → (n : ℕ) → m ≡ n → HoldsGraph n edges hidden
 judged-holds {s} {edges} {hidden} j m e n d = subst (λ (k : ℕ). HoldsGraph k edges hidden) d (j .holds m e)
+
+pub rows-size : (n : ℕ) (edges : List ℕ) → n ≤ maxNodes → length edges ≡ 4096 → rowWords * n ≡ length (take (rowWords * n) edges)
+rows-size n edges small l = sym (length-take-le (rowWords * n) edges (omega arith))

@@ -6,10 +6,11 @@ use Prim.Native.Nat.{ℕ, _<_}
 use lib.Dec.{ltb}
 use lib.ListN.{length, getD}
 use Rattle.model.specs.Graph.{Graph}
-use Rattle.model.specs.Tables.{nodeNumber}
+use Rattle.model.specs.Tables.{edgeBit, nodeNumber}
+use Rattle.layout.specs.Scan.{scan}
 use Rattle.model.specs.Release.{release}
 use Rattle.model.specs.Reading.{decode, isRelease}
-use Rattle.model.specs.Calls.{Released, releaseRefused, released}
+use Rattle.model.specs.Calls.{Listed, listRefused, onto, Released, releaseRefused, released}
 use Rattle.reader.specs.declared.Decoded.{Decoded}
 use Rattle.reader.specs.declared.Decoded.the-variants as answer
 use Rattle.reader.specs.Decoding.{graphIn, HoldsGraph}
@@ -30,3 +31,9 @@ pub record Judged (s edges hidden : List ℕ) (r : Decoded) : Type 0 where
   pub is : (n : ℕ) → r ≡ answer.Graph n → isRelease s ≡ true
   pub graph : (n : ℕ) → r ≡ answer.Graph n → graphIn n edges hidden ≡ decode s
   pub holds : (n : ℕ) → r ≡ answer.Graph n → HoldsGraph n edges hidden
+
+-- the neighbours that p's row tells, into a buffer, or 18
+unfoldable pub rowTold : List ℕ → ℕ → ℕ → List ℕ → Listed
+rowTold edges n p out =
+    cond (ltb (length out) (length (scan (edgeBit edges p) n 0))) (listRefused out 18)
+    (record { result = 0; count = length (scan (edgeBit edges p) n 0); out = onto (scan (edgeBit edges p) n 0) out })

@@ -181,7 +181,7 @@ module _ (n : ℕ) (edges hidden : List ℕ) {lst : List ℕ} (w : Truth (marked
   visible-file s = file-told (markedGraph n edges hidden) n lst edges s same-size w ∙ ap (λ (g : Graph). sameList s (release g)) (marked-in n edges hidden)
 
 -- the rows of n nodes at the start of a longer table
-take-bit : (n : ℕ) (edges : List ℕ) (p q : ℕ) → p < n → q < 512 → edgeBit (take (rowWords * n) edges) p q ≡ edgeBit edges p q
+pub take-bit : (n : ℕ) (edges : List ℕ) (p q : ℕ) → p < n → q < 512 → edgeBit (take (rowWords * n) edges) p q ≡ edgeBit edges p q
 unfolding edgeBit
 take-bit n edges p q hp hq = ap (λ (x : ℕ). bitAt x (q % 64)) (getD-take (8 * n) edges (8 * p + q / 64) 0 (omega arith))
 

@@ -21,7 +21,7 @@ slice-aggregate-summarise : tie.Need-slice-aggregate-summarise
 slice-aggregate-summarise c = prefix-length (8 * c .before .before .before .before .args .n) (replicate 4096 0) (omega (arith, length-replicate {A = ℕ} 4096 0, c .before .before .before .before .pre .0 .small))
 
 summarise-requires : tie.Need-summarise-requires
-summarise-requires c κs = 
+summarise-requires c κs =
     let pre = c .before .before .before .before .before .pre in
     (pre .0, sym (prefix-length (8 * c .before .before .before .before .before .args .n) (replicate 4096 0) (omega (arith, length-replicate {A = ℕ} 4096 0, pre .0 .small))), pre .1)
 
@@ -29,7 +29,7 @@ same-length : tie.Need-same-length
 same-length c = search needs
 
 returns : tie.Need-returns
-returns c = 
+returns c =
     let s = c .before .before .before in
     truth-whole _ _ (s .before .before .before .before .before .before .pre .0 .size) (s .summarise .ensures)
 

@@ -53,7 +53,7 @@ same-length-6 : tie.Need-same-length-6
 same-length-6 c = search needs
 
 returns-2 : tie.Need-returns-2
-returns-2 c = 
+returns-2 c =
     let j = c .before .before .before .before in
     let i = j .before .before .before in
     read-none _ _ _ _ (i .before .right-size .ensures) (not-false _ (i .if1 .left)) (j .judge .ensures) (c .enum-told .given .1)
@@ -68,7 +68,7 @@ same-length-9 : tie.Need-same-length-9
 same-length-9 c = search needs
 
 returns-3 : tie.Need-returns-3
-returns-3 c = 
+returns-3 c =
     let j = c .before .before .before .before .before .before in
     let i = j .before .before .before in
     read-other _ _ _ _ (i .before .right-size .ensures) (not-false _ (i .if1 .left)) (j .judge .ensures) _ (c .before .before .judged .given .1) (c .if2 .taken)
@@ -80,7 +80,7 @@ slice-aggregate-fill-2 : tie.Need-slice-aggregate-fill-2
 slice-aggregate-fill-2 c = search needs
 
 fill-requires : tie.Need-fill-requires
-fill-requires c κs = 
+fill-requires c κs =
     let t = c .before .before .before .before .before .before .before in
     let j = t .before .before .before .before in
     let i = j .before .before .before in
@@ -96,7 +96,7 @@ same-length-12 : tie.Need-same-length-12
 same-length-12 c = search needs
 
 returns-4 : tie.Need-returns-4
-returns-4 c = 
+returns-4 c =
     let f = c .before .before .before .before .before .before in
     let t = f .before .before .before .before .before .before .before .before in
     let j = t .before .before .before .before in

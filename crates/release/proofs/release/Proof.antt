@@ -22,7 +22,7 @@ same-length : tie.Need-same-length
 same-length c = search needs
 
 returns-2 : tie.Need-returns-2
-returns-2 c = 
+returns-2 c =
     let w = c .before .before in
     w .write-visible .ensures ∙ release-told _ _ _ _ (w .before .before .before .table-refusal .ensures) (w .before .before .if1 .left)
 

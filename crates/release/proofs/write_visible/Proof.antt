@@ -17,7 +17,7 @@ slice-aggregate-take-marks : tie.Need-slice-aggregate-take-marks
 slice-aggregate-take-marks c = search needs
 
 take-marks-requires : tie.Need-take-marks-requires
-take-marks-requires c κs = 
+take-marks-requires c κs =
     let s = held-sized (c .before .before .before .before .before .pre) in
     (s .small, s .nodes, s .small)
 
@@ -28,7 +28,7 @@ slice-aggregate-least-members-2 : tie.Need-slice-aggregate-least-members-2
 slice-aggregate-least-members-2 c = search needs
 
 least-members-requires : tie.Need-least-members-requires
-least-members-requires c κs = 
+least-members-requires c κs =
     let m = c .before .before .before in
     let start = m .before .before .before .before .before .before in
     let s = held-sized (start .pre) in
@@ -38,7 +38,7 @@ slice-aggregate-write : tie.Need-slice-aggregate-write
 slice-aggregate-write c = search needs
 
 write-requires : tie.Need-write-requires
-write-requires c κs = 
+write-requires c κs =
     let l = c .before .before .before in
     let m = l .before .before .before .before in
     visible-parts _ _ _ (l .least-members .ensures)
@@ -47,7 +47,7 @@ same-length : tie.Need-same-length
 same-length c = search needs
 
 returns : tie.Need-returns
-returns c = 
+returns c =
     let w = c .before .before in
     let l = w .before .before .before .before in
     let m = l .before .before .before .before in

@@ -9,7 +9,7 @@ use Rattle.compare.proofs.same_file.Reads as same-file-reads
 use Rattle.release.proofs.least_members.Reads as least-members-reads
 
 mul-end : tie.Need-mul-end
-mul-end c = 
+mul-end c =
     let pre = c .before .before .before .pre in
     let s = held-small _ (pre .0) (pre .1) (pre .2) in
     omega arith
@@ -21,7 +21,7 @@ slice-aggregate-least-members : tie.Need-slice-aggregate-least-members
 slice-aggregate-least-members c = search needs
 
 least-members-requires : tie.Need-least-members-requires
-least-members-requires c κs = 
+least-members-requires c κs =
     let pre = c .before .before .before .before .before .pre in
     (drawn-decoded _ (pre .0) (pre .1) (pre .2), held-small _ (pre .0) (pre .1) (pre .2))
 
@@ -32,7 +32,7 @@ same-file-requires : tie.Need-same-file-requires
 same-file-requires c κs = visible-parts _ _ _ (c .before .before .least-members .ensures)
 
 returns : tie.Need-returns
-returns c = 
+returns c =
     let l = c .before .before .before in
     let pre = l .before .before .before .before .before .before .pre in
     same-release _ (pre .0) (pre .1) (pre .2) (l .least-members .ensures) _ _ (c .same-file .ensures)

@@ -29,7 +29,7 @@ returns : tie.Need-returns
 returns c = judged-none _ _ _ (c .before .before .before .before .before .before .decode .ensures) (c .enum-told .given .1)
 
 is-same-requires : tie.Need-is-same-requires
-is-same-requires c κs = 
+is-same-requires c κs =
     let d = c .before .before .before .before .before .before .before .before .before .decode .ensures in
     (decodes-simple _ _ _ _ _ d (c .before .before .before .told .given .1), d .rows, d .size)
 

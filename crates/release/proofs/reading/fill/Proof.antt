@@ -18,14 +18,14 @@ put-marks-requires : tie.Need-put-marks-requires
 put-marks-requires c κs = search needs
 
 sum-keys-requires : tie.Need-sum-keys-requires
-sum-keys-requires c κs = 
+sum-keys-requires c κs =
     let m = c .before .before .before .before in
     let e = m .before .before .before .before in
     let pre = e .before .before .before .before .before .before .before .pre in
     (filled-within _ (pre .0) _ _ (pre .3 .edges) (pre .3 .nodes) (e .copy-words .ensures) (λ i. m .before .before .slice-known4 .given i .fits) (m .put-marks .ensures), pre .3 .keys)
 
 build-requires : tie.Need-build-requires
-build-requires c κs = 
+build-requires c κs =
     let k = c .before .before .before .before .before in
     let m = k .before .before .before .before .before in
     let e = m .before .before .before .before in
@@ -42,7 +42,7 @@ same-length-3 : tie.Need-same-length-3
 same-length-3 c = search needs
 
 returns : tie.Need-returns
-returns c = 
+returns c =
     let b = c .before .before in
     let k = b .before .before .before .before .before .before in
     let m = k .before .before .before .before .before in
