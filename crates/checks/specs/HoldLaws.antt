@@ -51,11 +51,11 @@ module _ (n : ℕ) (t : Tables) (small : n ≤ maxNodes) (size : length (t .edge
     mirror p q hp hq e =
         rw e at (all-elim (nodes 512) (λ q. not (edgeBit (t .edges) p q) || mirrored n (t .edges) p q) (and-fst (rowHolds n (t .edges) p) _ (row p hp)) q (nodes-in 512 q hq))
 
-    mirror-inside : (p q : ℕ) → p < n → q < 512 → edgeBit (t .edges) p q ≡ true → q < n
+    pub mirror-inside : (p q : ℕ) → p < n → q < 512 → edgeBit (t .edges) p q ≡ true → q < n
     unfolding mirrored
     mirror-inside p q hp hq e = ltb-true q n (and-fst (ltb q n) _ (mirror p q hp hq e))
 
-    mirror-back : (p q : ℕ) → p < n → q < 512 → edgeBit (t .edges) p q ≡ true → edgeBit (t .edges) q p ≡ true
+    pub mirror-back : (p q : ℕ) → p < n → q < 512 → edgeBit (t .edges) p q ≡ true → edgeBit (t .edges) q p ≡ true
     unfolding mirrored
     mirror-back p q hp hq e = and-snd (not (eqb q p)) _ (and-snd (ltb q n) _ (mirror p q hp hq e))
 

@@ -7,3 +7,5 @@ pub mod CertificateLaws
 pub mod HoldLaws
 pub mod Dense
 pub mod BlockLaws
+pub mod SumLaws
+pub mod DenseLaws

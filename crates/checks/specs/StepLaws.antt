@@ -68,7 +68,7 @@ module _ (keys : List ℕ) (p sum : ℕ) where
   unfolding agrees
   by-closed x r h e f = rw (eq-eqb (getD keys (2 * p) 0) sum h, f, e)
 
-no-cubes : (l : List ℕ) → sumCubes (filter (λ q. false) l) ≡ 0
+pub no-cubes : (l : List ℕ) → sumCubes (filter (λ q. false) l) ≡ 0
 unfolding filter sumCubes
 no-cubes [] = refl
 no-cubes (x ∷ xs) = no-cubes xs

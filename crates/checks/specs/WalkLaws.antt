@@ -95,7 +95,7 @@ module _ (x : ℕ) (small : x < 2 ^ 64) (some : x ≡ 0 → ⊥) where
   pub cleared-off : (j : ℕ) → (j ≡ trailingZeros 64 x → ⊥) → bitAt (bitAnd x (x - 1)) j ≡ bitAt x j
   cleared-off j d = sym (bits j ∙ ap (λ (b : Bool). cond b (not (bitAt (bitAnd x (x - 1)) j)) (bitAt (bitAnd x (x - 1)) j)) (ne-eqb j t d))
 
-bit-zero : (j : ℕ) → bitAt 0 j ≡ false
+pub bit-zero : (j : ℕ) → bitAt 0 j ≡ false
 unfolding bitAt
 bit-zero j = ne-eqb (0 / 2 ^ j % 2) 1 (let z : 0 / 2 ^ j ≡ 0 = zero-div (2 ^ j) in omega arith)
 

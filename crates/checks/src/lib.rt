@@ -22,6 +22,9 @@ ghost use Rattle.checks.specs.Checks.{
   twinOf,
   twinsHold,
 };
+
+mod dense;
+
 use groups::number;
 use rows::Graph;
 
