@@ -22,7 +22,7 @@ use Rattle.checks.specs.StepLaws.{all-fail}
 use Rattle.checks.specs.HoldLaws.{mirror-back, mirror-inside}
 use Rattle.checks.specs.Dense.{even, rowCubes}
 use Rattle.checks.specs.BlockLaws.{all-even, even-all, no-row}
-use Rattle.checks.specs.SumLaws.{dense-key}
+use Rattle.checks.specs.FourLaws.{dense-key}
 
 module _ (n : ℕ) (edges : List ℕ) (small : n ≤ maxNodes) (size : length edges ≡ rowWords * n) where
   outside : (p q : ℕ) → n ≤ p → edgeBit edges p q ≡ false

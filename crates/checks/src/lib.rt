@@ -25,16 +25,12 @@ ghost use Rattle.checks.specs.Checks.{
 
 mod dense;
 
+use groups::LEAST;
+use groups::MARK;
+use groups::NEXT;
+use groups::PREVIOUS;
 use groups::number;
 use rows::Graph;
-
-const LEAST: usize = 0;
-
-const NEXT: usize = 1;
-
-const PREVIOUS: usize = 2;
-
-const MARK: usize = 3;
 
 // Whether q is another node, with p's bit in its row.
 fn is_mirrored(edges: &[u64], n: usize, p: usize, q: usize) -> bool

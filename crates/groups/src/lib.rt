@@ -26,11 +26,14 @@ ghost use Rattle.rings.specs.Steps.{
 ghost use Rattle.groups.specs.Groups.{Asked, Bare, edgeUpdate, similarIn};
 use rows::Graph;
 
-const LEAST: usize = 0;
+// The numbers of a node.
+pub const LEAST: usize = 0;
 
-const NEXT: usize = 1;
+pub const NEXT: usize = 1;
 
-const PREVIOUS: usize = 2;
+pub const PREVIOUS: usize = 2;
+
+pub const MARK: usize = 3;
 
 // Number k of node p.
 pub fn number(nodes: &[u16], p: usize, k: usize) -> usize
@@ -224,5 +227,7 @@ pub fn update_edge(
     rows::change_keys(keys, u, v, insert);
     let a_joined = put_back(edges, nodes, keys, n, n, a, b);
     let b_joined = put_back(edges, nodes, keys, n, n, b, b);
-    difference(a_left + b_left, a_joined + b_joined)
+    let left = a_left + b_left;
+    let joined = a_joined + b_joined;
+    difference(left, joined)
 }

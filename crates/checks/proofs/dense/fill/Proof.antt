@@ -2,7 +2,7 @@
 use Prim.Native.Nat.{_*_, _-_, _≤_}
 use native.Mathlib.Omega.{arith}
 use Rattle.checks.specs.Dense.{Filled}
-use Rattle.checks.specs.SumLaws.{filled-none, filled-start}
+use Rattle.checks.specs.FourLaws.{filled-none, filled-start}
 use Rattle.checks.proofs.dense.fill.Statement.{statement}
 use Rattle.checks.proofs.dense.fill.Tie as tie
 

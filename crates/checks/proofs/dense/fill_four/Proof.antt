@@ -4,7 +4,7 @@ use Prim.Native.Nat.{_+_, _*_, _-_, _≤_}
 use native.Mathlib.Omega.{arith}
 use Rattle.rows.specs.KeyLaws.{cube-le}
 use Rattle.checks.specs.Dense.{Filled}
-use Rattle.checks.specs.SumLaws.{filled-more, filled-start}
+use Rattle.checks.specs.FourLaws.{filled-more, filled-start}
 use Rattle.checks.proofs.dense.fill_four.Statement.{statement}
 use Rattle.checks.proofs.dense.fill_four.Tie as tie
 

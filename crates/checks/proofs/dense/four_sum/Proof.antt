@@ -2,7 +2,7 @@
 use native.Mathlib.Omega.{arith}
 use Prim.Native.Nat.{_+_, _*_, _/_, _%_, _^_}
 use borrow.Author.Needs.{needs}
-use Rattle.checks.specs.SumLaws.{entry-at}
+use Rattle.checks.specs.FourLaws.{entry-at}
 use Rattle.checks.proofs.dense.four_sum.Statement.{statement}
 use Rattle.checks.proofs.dense.four_sum.Tie as tie
 

@@ -1,6 +1,6 @@
 -- One digit chooses.
 use native.Mathlib.Omega.{arith}
-use Rattle.checks.specs.SumLaws.{chosen, unchosen}
+use Rattle.checks.specs.FourLaws.{chosen, unchosen}
 use Rattle.checks.proofs.dense.if_odd.Statement.{statement}
 use Rattle.checks.proofs.dense.if_odd.Tie as tie
 

@@ -3,7 +3,7 @@ use mathlib.Core.Path.{_≡_}
 use Prim.Native.Nat.{_*_, _-_, _≤_}
 use native.Mathlib.Omega.{arith}
 use Rattle.checks.specs.Dense.{rowCubes}
-use Rattle.checks.specs.SumLaws.{row-done, row-more, row-none}
+use Rattle.checks.specs.FourLaws.{row-done, row-more, row-none}
 use Rattle.checks.proofs.dense.row_sum.Statement.{statement}
 use Rattle.checks.proofs.dense.row_sum.Tie as tie
 

@@ -3,7 +3,7 @@ use mathlib.Core.Path.{_≡_}
 use Prim.Native.Nat.{_*_, _-_, _≤_}
 use native.Mathlib.Omega.{arith}
 use Rattle.checks.specs.Dense.{wordCubes}
-use Rattle.checks.specs.SumLaws.{word-done, word-more, words-none}
+use Rattle.checks.specs.FourLaws.{word-done, word-more, words-none}
 use Rattle.checks.proofs.dense.word_sum.Statement.{statement}
 use Rattle.checks.proofs.dense.word_sum.Tie as tie
 

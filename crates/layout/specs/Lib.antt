@@ -1,0 +1,14 @@
+pub mod Wrote
+pub mod WroteLaws
+pub mod Scan
+pub mod ScanLaws
+pub mod File
+pub mod FileLaws
+pub mod LinkLaws
+pub mod WholeLaws
+pub mod Words
+pub mod WordLaws
+pub mod Truth
+pub mod TruthLaws
+pub mod Matches
+pub mod MatchLaws
