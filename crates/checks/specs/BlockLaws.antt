@@ -1,6 +1,6 @@
 -- Laws of blocks of 64 rows and 64 columns: exchanged digit by digit, and compared across the diagonal.
 use mathlib.Core.Path.{_≡_, refl, sym, ap, ap₂, _∙_, subst}
-use mathlib.Core.Bool.{Bool, true, false, not, cond, xor, _&&_, _||_, Bool·beq}
+use mathlib.Core.Bool.{Bool, true, false, cond, xor, _&&_, _||_, Bool·beq}
 use mathlib.Core.List.{List}
 use mathlib.Core.Logic.{_⊎_, inl, inr}
 use Prim.Native.Nat.{ℕ, zero, suc, _+_, _*_, _-_, _/_, _%_, _^_, _≤_, _<_, min}
@@ -12,7 +12,7 @@ use lib.Dec.{eqb, ltb}
 use lib.ListN.{length, getD, set, length-set, List·getD-eq-default}
 use lib.Pow.{mod-pow-add, pow-pos, shl-shr, shr-shr}
 use lib.Seq.{getD-set-same, getD-set-other}
-use borrow.Author.Tests.{eqb-true, eqb-false, eq-eqb, ne-eqb, ltb-true, ltb-false, lt-ltb, le-ltb}
+use borrow.Author.Tests.{ltb-true, ltb-false, lt-ltb, le-ltb}
 use Rattle.model.specs.Lists.{all, from, nodes}
 use Rattle.model.specs.Tables.{bitAt, edgeBit}
 use Rattle.model.specs.TestLaws.{and-fst, and-snd, beq-eq, decide, eq-beq, or-right}
@@ -111,9 +111,6 @@ module _ (k : ℕ) where
 module _ (a : List ℕ) (k r : ℕ) (hk : k < 6) (hr : r < 64) {high low : ℕ} (m : Masks k high low) where
   abbrev Bit : ℕ → ℕ → Bool
   Bit i c = bitAt (getD a i 0) c
-
-  abbrev Goal : ℕ → ℕ → Type 0
-  Goal x c = bitAt x c ≡ bitAt (getD a (swapped k r c) 0) (swapped k c r)
 
   pub low-row : (x : ℕ) {j : ℕ} → r / 2 ^ k % 2 ≡ 0 → j ≡ 2 ^ k
       → ((c : ℕ) → bitAt x c ≡ cond (bitAt high c) (bitAt (getD a (r + j) 0 * 2 ^ j % 2 ^ 64) c) (bitAt (getD a r 0) c)) → RowSwapped k a r x
@@ -366,7 +363,6 @@ module _ (edges : List ℕ) where
     half-even : (p q : ℕ) → p < 512 → q < 512 → p / 64 ≤ q / 64 → edgeBit edges p q ≡ edgeBit edges q p
     unfolding even blockEven columnEven
     half-even p q hp hq l =
-        let b : ℕ = 8 * (p / 64) + q / 64 in
         let i : (8 * (p / 64) + q / 64) / 8 ≡ p / 64 = omega arith in
         let j : (8 * (p / 64) + q / 64) % 8 ≡ q / 64 = omega arith in
         let whole = all-elim (nodes 64) (λ b. ltb (b % 8) (b / 8) || blockEven edges (b / 8) (b % 8)) h (8 * (p / 64) + q / 64) (nodes-in 64 (8 * (p / 64) + q / 64) (omega arith)) in

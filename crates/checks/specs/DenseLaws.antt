@@ -3,23 +3,23 @@ use mathlib.Core.Path.{_≡_, refl, sym, ap, _∙_}
 use mathlib.Core.Bool.{Bool, true, false, not, _&&_, _||_}
 use mathlib.Core.List.{List, []}
 use mathlib.Core.Logic.{_⊎_, inl, inr}
-use Prim.Native.Nat.{ℕ, _+_, _*_, _/_, _%_, _^_, _≤_, _<_}
+use Prim.Native.Nat.{ℕ, _*_, _/_, _%_, _^_, _≤_, _<_}
 use native.Mathlib.Omega.{arith}
 use lib.Dec.{eqb, ltb}
-use lib.ListN.{length, getD}
-use borrow.Author.Tests.{eq-eqb, ne-eqb, lt-ltb, ltb-true, ltb-false, not-false}
-use Rattle.model.specs.Lists.{all, nodes}
+use lib.ListN.{length}
+use borrow.Author.Tests.{eq-eqb, ne-eqb, lt-ltb, ltb-true, ltb-false}
+use Rattle.model.specs.Lists.{nodes}
 use Rattle.model.specs.Graph.{maxNodes, rowWords}
 use Rattle.model.specs.Grouping.{openKey}
 use Rattle.model.specs.Tables.{bitAt, edgeBit}
 use Rattle.model.specs.TestLaws.{and-true, decide, differ, iff-eq}
-use Rattle.model.specs.ListLaws.{all-elim, all-intro, nodes-in, nodes-out}
+use Rattle.model.specs.ListLaws.{all-intro, nodes-out}
 use Rattle.rows.specs.Rows.{Words, lent}
 use Rattle.rows.specs.Search.{edgesIn}
 use Rattle.checks.specs.Checks.{agrees, bitHolds, keysHold, mirrored, rowHolds, rowsHold}
 use Rattle.checks.specs.WalkLaws.{bit-zero}
 use Rattle.checks.specs.StepLaws.{all-fail}
-use Rattle.checks.specs.HoldLaws.{mirror-back, mirror-inside}
+use Rattle.checks.specs.HoldLaws.{mirror-back}
 use Rattle.checks.specs.Dense.{even, rowCubes}
 use Rattle.checks.specs.BlockLaws.{all-even, even-all, no-row}
 use Rattle.checks.specs.FourLaws.{dense-key}

@@ -9,13 +9,13 @@ use lib.Dec.{eqb, ltb}
 use lib.ListN.{length, getD, set}
 use lib.Pow.{shr-shr}
 use borrow.Author.Tests.{lt-ltb}
-use Rattle.model.specs.Lists.{_∈_, filter, from, nodes}
+use Rattle.model.specs.Lists.{filter, from, nodes}
 use Rattle.model.specs.Grouping.{cube, openKey, sumCubes}
 use Rattle.model.specs.Tables.{bitAt, edgeBit}
 use Rattle.model.specs.TestLaws.{decide}
-use Rattle.model.specs.ListLaws.{from-out, nodes-out}
+use Rattle.model.specs.ListLaws.{from-out}
 use Rattle.rows.specs.Search.{edgesIn}
-use Rattle.rows.specs.KeyLaws.{cube-le, cubes-cong}
+use Rattle.rows.specs.KeyLaws.{cubes-cong}
 use Rattle.checks.specs.SumLaws.{no-cubes}
 use Rattle.checks.specs.Dense.{Filled, fourCubes, rowCubes, wordCubes}
 use Rattle.checks.specs.BlockLaws.{stored, stored-size, word-bit}
@@ -40,19 +40,18 @@ digit-bit x m y = digit-cond (x / 2 ^ m % 2) y (omega arith)
 four-more : (w x i : ℕ) → wordCubes w x (4 * i) + fourCubes (16 * w + i) (x / 2 ^ (4 * i) % 16) ≡ wordCubes w x (4 * (i + 1))
 unfolding wordCubes
 four-more w x i =
-    let y : ℕ = x / 2 ^ (4 * i) in
-    let d₀ : x / 2 ^ (4 * i) % 16 % 2 * cube (4 * (16 * w + i)) ≡ cond (bitAt x (4 * i)) (cube (64 * w + 4 * i)) 0 = ap₂ _*_ (low 0) (ap cubed (omega arith)) ∙ digit-bit x (4 * i) (cube (64 * w + 4 * i)) in
-    let d₁ : x / 2 ^ (4 * i) % 16 / 2 % 2 * cube (4 * (16 * w + i) + 1) ≡ cond (bitAt x (suc (4 * i))) (cube (64 * w + suc (4 * i))) 0 = ap₂ _*_ (one) (ap cubed (omega arith)) ∙ digit-bit x (suc (4 * i)) (cube (64 * w + suc (4 * i))) in
-    let d₂ : x / 2 ^ (4 * i) % 16 / 4 % 2 * cube (4 * (16 * w + i) + 2) ≡ cond (bitAt x (suc (suc (4 * i)))) (cube (64 * w + suc (suc (4 * i)))) 0 = ap₂ _*_ (two) (ap cubed (omega arith)) ∙ digit-bit x (suc (suc (4 * i))) (cube (64 * w + suc (suc (4 * i)))) in
-    let d₃ : x / 2 ^ (4 * i) % 16 / 8 % 2 * cube (4 * (16 * w + i) + 3) ≡ cond (bitAt x (suc (suc (suc (4 * i))))) (cube (64 * w + suc (suc (suc (4 * i))))) 0 = ap₂ _*_ (three) (ap cubed (omega arith)) ∙ digit-bit x (suc (suc (suc (4 * i)))) (cube (64 * w + suc (suc (suc (4 * i))))) in
+    let d₀ : x / 2 ^ (4 * i) % 16 % 2 * cube (4 * (16 * w + i)) ≡ cond (bitAt x (4 * i)) (cube (64 * w + 4 * i)) 0 = ap₂ _*_ zeroth (ap cubed (omega arith)) ∙ digit-bit x (4 * i) (cube (64 * w + 4 * i)) in
+    let d₁ : x / 2 ^ (4 * i) % 16 / 2 % 2 * cube (4 * (16 * w + i) + 1) ≡ cond (bitAt x (suc (4 * i))) (cube (64 * w + suc (4 * i))) 0 = ap₂ _*_ one (ap cubed (omega arith)) ∙ digit-bit x (suc (4 * i)) (cube (64 * w + suc (4 * i))) in
+    let d₂ : x / 2 ^ (4 * i) % 16 / 4 % 2 * cube (4 * (16 * w + i) + 2) ≡ cond (bitAt x (suc (suc (4 * i)))) (cube (64 * w + suc (suc (4 * i)))) 0 = ap₂ _*_ two (ap cubed (omega arith)) ∙ digit-bit x (suc (suc (4 * i))) (cube (64 * w + suc (suc (4 * i)))) in
+    let d₃ : x / 2 ^ (4 * i) % 16 / 8 % 2 * cube (4 * (16 * w + i) + 3) ≡ cond (bitAt x (suc (suc (suc (4 * i))))) (cube (64 * w + suc (suc (suc (4 * i))))) 0 = ap₂ _*_ three (ap cubed (omega arith)) ∙ digit-bit x (suc (suc (suc (4 * i)))) (cube (64 * w + suc (suc (suc (4 * i))))) in
     let e : 4 * (i + 1) ≡ suc (suc (suc (suc (4 * i)))) = omega arith in
     rw e (omega arith)
   where
     cubed : ℕ → ℕ
     cubed p = cube p
 
-    low : (k : ℕ) → x / 2 ^ (4 * i) % 16 % 2 ≡ x / 2 ^ (4 * i) % 2
-    low k = omega arith
+    zeroth : x / 2 ^ (4 * i) % 16 % 2 ≡ x / 2 ^ (4 * i) % 2
+    zeroth = omega arith
 
     at : (j : ℕ) → x / 2 ^ (4 * i) / 2 ^ j ≡ x / 2 ^ (4 * i + j)
     at j = shr-shr x (4 * i) j
@@ -148,9 +147,6 @@ cubes-one f a = step (f a)
     step false = refl
 
 module _ (edges : List ℕ) (p : ℕ) where
-  abbrev bit : ℕ → Bool
-  bit q = edgeBit edges p q
-
   word-cubes : (w m : ℕ) → m ≤ 64 → wordCubes w (getD edges (8 * p + w) 0) m ≡ sumCubes (filter (edgeBit edges p) (from (64 * w) m))
   unfolding wordCubes
   word-cubes w zero h = nothing

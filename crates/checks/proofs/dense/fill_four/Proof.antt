@@ -1,5 +1,4 @@
 -- The invariant: the entries before 16 * b + v are there.
-use mathlib.Core.Path.{_≡_}
 use Prim.Native.Nat.{_+_, _*_, _-_, _≤_}
 use native.Mathlib.Omega.{arith}
 use Rattle.rows.specs.KeyLaws.{cube-le}
