@@ -3,11 +3,11 @@ use mathlib.Core.Path.{_≡_, refl, sym, ap, _∙_}
 use mathlib.Core.Bool.{Bool, true, false, not, _&&_, _||_}
 use mathlib.Core.List.{List}
 use mathlib.Core.Logic.{_⊎_, inl, inr}
-use Prim.Native.Nat.{ℕ, _+_, _*_, _-_, _/_, _%_, _^_, _≤_, _<_}
+use Prim.Native.Nat.{ℕ, _+_, _*_, _-_, _%_, _^_, _≤_, _<_}
 use native.Mathlib.Omega.{arith}
 use lib.Bits.{bitAnd, xor-self}
 use lib.Count.{trailingZeros}
-use lib.Dec.{eqb, leb, ltb}
+use lib.Dec.{eqb, ltb}
 use lib.ListN.{getD}
 use borrow.Author.Tests.{eqb-true, eqb-false, eq-eqb, ne-eqb, le-leb, lt-leb, le-ltb, lt-ltb, ltb-true, not-false, not-true}
 use Rattle.model.specs.Lists.{all, nodes}
@@ -39,10 +39,6 @@ all-fail f n p l h = step (decide (all (nodes n) f))
     step : (all (nodes n) f ≡ true) ⊎ (all (nodes n) f ≡ false) → false ≡ all (nodes n) f
     step (inl t) = differ (all-elim (nodes n) f t p (nodes-in n p l)) h
     step (inr t) = sym t
-
-and-false : (a : Bool) {b : Bool} → b ≡ false → (a && b) ≡ false
-and-false true e = e
-and-false false e = refl
 
 -- a bit and its mirror
 module _ (n : ℕ) (edges : List ℕ) (p q : ℕ) where

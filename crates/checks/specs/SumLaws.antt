@@ -1,12 +1,12 @@
 -- A walk over the bits of a row that adds up the cubes of its nodes.
 use mathlib.Core.Path.{_≡_, refl, sym, ap, _∙_}
-use mathlib.Core.Bool.{Bool, true, false, _&&_}
+use mathlib.Core.Bool.{true, false, _&&_}
 use mathlib.Core.List.{List, [], _∷_}
-use Prim.Native.Nat.{ℕ, _+_, _*_, _-_, _/_, _%_, _^_, _≤_, _<_}
+use Prim.Native.Nat.{ℕ, _+_, _*_, _-_, _%_, _^_, _≤_, _<_}
 use native.Mathlib.Omega.{arith}
 use lib.Bits.{bitAnd}
 use lib.Count.{trailingZeros}
-use lib.Dec.{eqb, ltb}
+use lib.Dec.{ltb}
 use lib.ListN.{getD}
 use borrow.Author.Tests.{lt-ltb}
 use Rattle.model.specs.Lists.{filter, nodes}
@@ -20,7 +20,7 @@ use Rattle.rows.specs.KeyLaws.{cubes-cong, cubes-set}
 use Rattle.checks.specs.Walk.{ahead}
 use Rattle.checks.specs.WalkLaws.{ahead-end, ahead-gone, ahead-here, ahead-next, ahead-off, ahead-start, cleared-less, lowest-small}
 
-no-cubes : (l : List ℕ) → sumCubes (filter (λ q. false) l) ≡ 0
+pub no-cubes : (l : List ℕ) → sumCubes (filter (λ q. false) l) ≡ 0
 unfolding filter sumCubes
 no-cubes [] = refl
 no-cubes (x ∷ xs) = no-cubes xs
