@@ -222,7 +222,7 @@ pub least-at : (g : Graph) (p : ℕ) → p < g .nodeCount → nodeNumber (nodesO
 unfolding nodeNumber nodesOf nodeOf groupIn least
 least-at g p h = rw (getD-blocks (nodeOf g) 4 (length-node g) (nodes (g .nodeCount)) p 0 (rw length-nodes h) (omega arith), getD-nodes (g .nodeCount) p h)
 
-map-cong : (f h : ℕ → List ℕ) (l : List ℕ) → ((p : ℕ) → p ∈ l → f p ≡ h p) → map f l ≡ map h l
+pub map-cong : (f h : ℕ → List ℕ) (l : List ℕ) → ((p : ℕ) → p ∈ l → f p ≡ h p) → map f l ≡ map h l
 map-cong f h [] s = refl
 map-cong f h (x ∷ xs) s = ap₂ _∷_ (s x (List·Memᴰ·head refl)) (map-cong f h xs (λ p m. s p (List·Memᴰ·tail m)))
 

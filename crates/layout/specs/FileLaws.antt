@@ -1,0 +1,209 @@
+-- Laws of the records.
+use mathlib.Core.Path.{_≡_, refl, sym, ap, _∙_}
+use mathlib.Core.Bool.{Bool, true, false, cond}
+use mathlib.Core.List.{List, [], _∷_, _++_, append-assoc}
+use Prim.Native.Nat.{ℕ, suc, zero, _+_, _*_, _-_, _/_, _%_, _≤_, _<_}
+use native.Mathlib.Omega.{arith}
+use native.Mathlib.Numerals.{add-one}
+use lib.Dec.{ltb}
+use lib.ListN.{length, getD, set, length-append}
+use borrow.Author.Tests.{eq-eqb, ne-eqb, lt-ltb, le-ltb}
+use Rattle.model.specs.Lists.{concat}
+use Rattle.model.specs.Tables.{edgeBit}
+use Rattle.model.specs.Release.{headRecord, superedgeRecord, u16}
+use Rattle.model.specs.ReleaseLaws.{length-u16s}
+use Rattle.layout.specs.Wrote.{Left, Wrote}
+use Rattle.layout.specs.WroteLaws.{left-done, left-room, left-start, left-step, wrote-before, wrote-length, wrote-then}
+use Rattle.layout.specs.Scan.{flat, scan}
+use Rattle.layout.specs.ScanLaws.{flat-step, scan-end, scan-length, scan-no, scan-yes}
+use Rattle.layout.specs.File.{Rows, chain, firstTwo, groupBytes, groupMark, inGroup, later, leads, meets, superedgesTo, u16s}
+
+pub wrote-two : (s : List ℕ) (at a b : ℕ) → Wrote s at (a ∷ b ∷ []) (set (set s at a) (at + 1) b) (at + 2)
+wrote-two s at a b = record { bytes = rw (add-one at); place = refl }
+
+pub wrote-u16 : (s : List ℕ) (at v : ℕ) → Wrote s at (u16 v) (set (set s at (v % 256)) (at + 1) (v / 256)) (at + 2)
+unfolding u16
+wrote-u16 s at v = wrote-two s at (v % 256) (v / 256)
+
+pub length-u16 : (v : ℕ) → length (u16 v) ≡ 2
+unfolding u16
+length-u16 v = refl
+
+pub length-superedge : (i j : ℕ) → length (superedgeRecord (i, j)) ≡ 6
+unfolding superedgeRecord u16
+length-superedge i j = refl
+
+-- the records in steps
+pub head-steps : (n m g : ℕ) → headRecord n m g ≡ (((0x48 ∷ 0x44 ∷ []) ++ u16 n) ++ u16 m) ++ u16 g
+unfolding headRecord u16
+head-steps n m g = refl
+
+pub superedge-steps : (i j : ℕ) → superedgeRecord (i, j) ≡ ((0x53 ∷ 0x45 ∷ []) ++ u16 i) ++ u16 j
+unfolding superedgeRecord u16
+superedge-steps i j = refl
+
+pub wrote-head : (n m g : ℕ) {s : List ℕ} {at : ℕ} {s₁ : List ℕ} {a : ℕ} {s₂ : List ℕ} {b : ℕ} {s₃ : List ℕ} {c : ℕ} {s₄ : List ℕ} {d : ℕ}
+    → Wrote s at (0x48 ∷ 0x44 ∷ []) s₁ a → Wrote s₁ a (u16 n) s₂ b → Wrote s₂ b (u16 m) s₃ c → Wrote s₃ c (u16 g) s₄ d → Wrote s at (headRecord n m g) s₄ d
+wrote-head n m g p q r t = rw (head-steps n m g) (wrote-then (wrote-then (wrote-then p q) r) t)
+
+pub wrote-superedge : (i j : ℕ) {s : List ℕ} {at : ℕ} {s₁ : List ℕ} {a : ℕ} {s₂ : List ℕ} {b : ℕ} {s₃ : List ℕ} {c : ℕ}
+    → Wrote s at (0x53 ∷ 0x45 ∷ []) s₁ a → Wrote s₁ a (u16 i) s₂ b → Wrote s₂ b (u16 j) s₃ c → Wrote s at (superedgeRecord (i, j)) s₃ c
+wrote-superedge i j p q r = rw (superedge-steps i j) (wrote-then (wrote-then p q) r)
+
+-- members, by the table of next members
+u16s-cons : (q : ℕ) (l : List ℕ) → u16s (q ∷ l) ≡ u16 q ++ u16s l
+unfolding u16s concat
+u16s-cons q l = refl
+
+pub record MembersLeft (s₀ : List ℕ) (at₀ : ℕ) (next : List ℕ) (n first : ℕ) (s : List ℕ) (at q : ℕ) : Type 0 where
+  pub fuel : ℕ
+  pub enough : n ≤ q + fuel
+  pub left : Left s₀ at₀ (u16s (chain n next n first)) s at (u16s (chain fuel next n q))
+
+pub members-start : (s : List ℕ) (at : ℕ) (next : List ℕ) (n first : ℕ) → MembersLeft s at next n first s at first
+members-start s at next n first = record { fuel = n; enough = omega arith; left = left-start s at _ }
+
+chain-on : (k : ℕ) (next : List ℕ) (n q : ℕ) → q < n → chain (suc k) next n q ≡ q ∷ chain k next n (getD next q 0)
+unfolding chain
+chain-on k next n q h = rw (lt-ltb q n h)
+
+chain-off : (k : ℕ) (next : List ℕ) (n q : ℕ) → n ≤ q → chain k next n q ≡ []
+unfolding chain
+chain-off zero next n q h = refl
+chain-off (suc k) next n q h = rw (le-ltb q n h)
+
+pub chain-length : (k : ℕ) (next : List ℕ) (n q : ℕ) → length (chain k next n q) ≤ k
+unfolding chain
+chain-length zero next n q = omega arith
+chain-length (suc k) next n q = step (ltb q n) (chain-length k next n (getD next q 0))
+  where
+    step : (b : Bool) → length (chain k next n (getD next q 0)) ≤ k → length (cond b (q ∷ chain k next n (getD next q 0)) []) ≤ suc k
+    step true h = omega arith
+    step false h = omega arith
+
+members-u16s : (k : ℕ) (next : List ℕ) (n q : ℕ) → q < n → u16s (chain (suc k) next n q) ≡ u16 q ++ u16s (chain k next n (getD next q 0))
+members-u16s k next n q h = ap u16s (chain-on k next n q h) ∙ u16s-cons q _
+
+pub members-room : {s₀ : List ℕ} {at₀ : ℕ} {next : List ℕ} {n first : ℕ} {s : List ℕ} {at q : ℕ} → MembersLeft s₀ at₀ next n first s at q → q < n → at₀ + length (u16s (chain n next n first)) ≤ length s₀ → at + 2 ≤ length s
+members-room {s₀} {at₀} {next} {n} {first} {s} {at} {q} m h room = go (m .fuel) (m .enough) (m .left)
+  where
+    go : (k : ℕ) → n ≤ q + k → Left s₀ at₀ (u16s (chain n next n first)) s at (u16s (chain k next n q)) → at + 2 ≤ length s
+    go zero e l = absurd (omega arith)
+    go (suc k) e l = omega (arith, left-room l room (u16 q) _ (members-u16s k next n q h), length-u16 q)
+
+pub members-step : {s₀ : List ℕ} {at₀ : ℕ} {next : List ℕ} {n first : ℕ} {s : List ℕ} {at q : ℕ} {t : List ℕ} {to : ℕ} → MembersLeft s₀ at₀ next n first s at q → q < n → q < getD next q 0 → Wrote s at (u16 q) t to → MembersLeft s₀ at₀ next n first t to (getD next q 0)
+members-step {s₀} {at₀} {next} {n} {first} {s} {at} {q} {t} {to} m h up w = go (m .fuel) (m .enough) (m .left)
+  where
+    go : (k : ℕ) → n ≤ q + k → Left s₀ at₀ (u16s (chain n next n first)) s at (u16s (chain k next n q)) → MembersLeft s₀ at₀ next n first t to (getD next q 0)
+    go zero e l = absurd (omega arith)
+    go (suc k) e l = record { fuel = k; enough = omega arith; left = left-step l w (members-u16s k next n q h) }
+
+pub members-done : {s₀ : List ℕ} {at₀ : ℕ} {next : List ℕ} {n first : ℕ} {s : List ℕ} {at q : ℕ} → MembersLeft s₀ at₀ next n first s at q → n ≤ q → Wrote s₀ at₀ (u16s (chain n next n first)) s at
+unfolding u16s concat
+members-done {next = next} {n = n} {q = q} m h = left-done (m .left) (ap u16s (chain-off (m .fuel) next n q h))
+
+-- one group
+two-edge : (e : ℕ → ℕ → Bool) (next : List ℕ) (n l : ℕ) → l < n → l < getD next l 0 → getD next l 0 < n → firstTwo e (chain n next n l) ≡ e l (getD next l 0)
+unfolding firstTwo
+two-edge e next zero l h u k = absurd (omega arith)
+two-edge e next (suc zero) l h u k = absurd (omega arith)
+two-edge e next (suc (suc n)) l h u k = rw (chain-on (suc n) next (suc (suc n)) l h, chain-on n next (suc (suc n)) (getD next l 0) k)
+
+pub clique-is : (edges next : List ℕ) (n l second : ℕ) {b : Bool} → second ≡ getD next l 0 → l < n → l < getD next l 0 → second < n → b ≡ edgeBit edges l second → b ≡ firstTwo (edgeBit edges) (chain n next n l)
+clique-is edges next n l second q h u k t = t ∙ ap (edgeBit edges l) q ∙ sym (two-edge (edgeBit edges) next n l h u (omega arith))
+
+pub one-alone : (e : ℕ → ℕ → Bool) (next : List ℕ) (n l : ℕ) → l < n → n ≤ getD next l 0 → firstTwo e (chain n next n l) ≡ false
+unfolding firstTwo
+one-alone e next zero l h k = absurd (omega arith)
+one-alone e next (suc n) l h k = rw (chain-on n next (suc n) l h, chain-off n next (suc n) (getD next l 0) k)
+
+pub length-members : (l : List ℕ) → length (u16s l) ≡ 2 * length l
+unfolding u16s
+length-members l = length-u16s l
+
+pub length-group : (e : ℕ → ℕ → Bool) (g : List ℕ) → length (groupBytes e g) ≡ 4 + 2 * length g
+unfolding groupBytes u16
+length-group e g = omega (arith, length-members g)
+
+-- the members first, then the mark, then the count between them
+pub wrote-group : (e : ℕ → ℕ → Bool) (g : List ℕ) {s : List ℕ} {at : ℕ} {s₁ : List ℕ} {to : ℕ} {c : Bool} {s₂ : List ℕ} {a : ℕ} {s₃ : List ℕ} {b : ℕ}
+    → Wrote s (at + 4) (u16s g) s₁ to → c ≡ firstTwo e g → Wrote s₁ at (groupMark c) s₂ a → Wrote s₂ a (u16 ((to - at - 4) / 2)) s₃ b → Wrote s at (groupBytes e g) s₃ to
+unfolding groupBytes
+wrote-group e g {s} {at} {s₁} {to} {c} {s₂} {a} {s₃} {b} m q h k =
+    let len : (to - at - 4) / 2 ≡ length g = omega (arith, m .place, length-members g) in
+    let two : Wrote s₁ at (groupMark c ++ u16 ((to - at - 4) / 2)) s₃ b = wrote-then h k in
+    let there : b ≡ at + 4 = omega (arith, k .place, h .place, length-u16 ((to - at - 4) / 2)) in
+    rw (← q, ← len) (rw (append-assoc (groupMark c) (u16 ((to - at - 4) / 2)) (u16s g)) at (wrote-before m (rw there at two)))
+
+-- tests of the code
+pub inGroup-yes : (least : List ℕ) (n p w : ℕ) → w ≡ getD least p 0 → w < n → inGroup least n p ≡ true
+unfolding inGroup
+inGroup-yes least n p w e h = lt-ltb (getD least p 0) n (omega arith)
+
+pub inGroup-no : (least : List ℕ) (n p w : ℕ) → w ≡ getD least p 0 → n ≤ w → inGroup least n p ≡ false
+unfolding inGroup
+inGroup-no least n p w e h = le-ltb (getD least p 0) n (omega arith)
+
+pub leads-yes : (least : List ℕ) (p w : ℕ) → w ≡ getD least p 0 → w ≡ p → leads least p ≡ true
+unfolding leads
+leads-yes least p w e h = eq-eqb (getD least p 0) p (omega arith)
+
+pub leads-no : (least : List ℕ) (p w : ℕ) → w ≡ getD least p 0 → (w ≡ p → ⊥) → leads least p ≡ false
+unfolding leads
+leads-no least p w e h = ne-eqb (getD least p 0) p (λ k. h (omega arith))
+
+pub meets-is : (edges ls : List ℕ) (i j p q : ℕ) {b : Bool} → p ≡ getD ls i 0 → q ≡ getD ls j 0 → b ≡ edgeBit edges p q → meets (edgeBit edges) ls i j ≡ b
+unfolding meets
+meets-is edges ls i j p q x y t = rw (← x, ← y) (sym t)
+
+-- leaders put into a list
+pub collect-yes : (least : List ℕ) (n p : ℕ) {s₀ : List ℕ} {s : List ℕ} {g : ℕ} → Left s₀ 0 (scan (leads least) n 0) s g (scan (leads least) n p) → p < n → leads least p ≡ true → Left s₀ 0 (scan (leads least) n 0) (set s g p) (g + 1) (scan (leads least) n (p + 1))
+collect-yes least n p l h t = left-step {bs = p ∷ []} l (record { bytes = refl; place = refl }) (scan-yes (leads least) n p h t)
+
+-- superedgeBytes
+to-cons : (i j : ℕ) (js : List ℕ) → superedgesTo i (j ∷ js) ≡ superedgeRecord (i, j) ++ superedgesTo i js
+unfolding superedgesTo concat
+to-cons i j js = refl
+
+pub super-yes : (e : ℕ → ℕ → Bool) (ls : List ℕ) (i j : ℕ) → j < length ls → meets e ls i j ≡ true → superedgesTo i (scan (meets e ls i) (length ls) j) ≡ superedgeRecord (i, j) ++ superedgesTo i (scan (meets e ls i) (length ls) (j + 1))
+super-yes e ls i j h t = ap (superedgesTo i) (scan-yes (meets e ls i) (length ls) j h t) ∙ to-cons i j _
+
+pub super-no : (e : ℕ → ℕ → Bool) (ls : List ℕ) (i j : ℕ) → j < length ls → meets e ls i j ≡ false → superedgesTo i (scan (meets e ls i) (length ls) j) ≡ superedgesTo i (scan (meets e ls i) (length ls) (j + 1))
+super-no e ls i j h t = ap (superedgesTo i) (scan-no (meets e ls i) (length ls) j h t)
+
+pub super-end : (e : ℕ → ℕ → Bool) (ls : List ℕ) (i j : ℕ) → length ls ≤ j → superedgesTo i (scan (meets e ls i) (length ls) j) ≡ []
+unfolding superedgesTo concat
+super-end e ls i j h = ap (superedgesTo i) (scan-end (meets e ls i) (length ls) j h)
+
+pub super-room : (e : ℕ → ℕ → Bool) (ls : List ℕ) (i j : ℕ) {s₀ : List ℕ} {at₀ : ℕ} {all s : List ℕ} {at : ℕ} → Left s₀ at₀ all s at (superedgesTo i (scan (meets e ls i) (length ls) j)) → at₀ + length all ≤ length s₀ → j < length ls → meets e ls i j ≡ true → at + 6 ≤ length s
+super-room e ls i j l room h t = omega (arith, left-room l room (superedgeRecord (i, j)) _ (super-yes e ls i j h t), length-superedge i j)
+
+pub later-length : (e : ℕ → ℕ → Bool) (ls : List ℕ) (i : ℕ) → length (later e ls i) ≤ length ls
+unfolding later
+later-length e ls i = omega (arith, scan-length (meets e ls i) (length ls) (i + 1))
+
+pub later-more : (e : ℕ → ℕ → Bool) (ls : List ℕ) (i : ℕ) → i < length ls → length (flat (later e ls) (length ls) i) ≡ length (later e ls i) + length (flat (later e ls) (length ls) (i + 1))
+later-more e ls i h = ap length (flat-step (later e ls) (length ls) i h) ∙ length-append (later e ls i) _
+
+-- room for the parts of a group
+pub room-members : (e : ℕ → ℕ → Bool) (g : List ℕ) (at : ℕ) {k : ℕ} → at + length (groupBytes e g) ≤ k → at + 4 + length (u16s g) ≤ k
+room-members e g at h = omega (arith, length-group e g, length-members g)
+
+pub room-mark : (e : ℕ → ℕ → Bool) (g : List ℕ) (at : ℕ) {s : List ℕ} {x : ℕ} {bs t : List ℕ} {y : ℕ} → at + length (groupBytes e g) ≤ length s → Wrote s x bs t y → at + 2 ≤ length t
+room-mark e g at h w = omega (arith, length-group e g, wrote-length w)
+
+pub room-count : (e : ℕ → ℕ → Bool) (g : List ℕ) {at : ℕ} {s : List ℕ} {x : ℕ} {bs t : List ℕ} {y : ℕ} (c : Bool) {u : List ℕ} {a : ℕ} → at + length (groupBytes e g) ≤ length s → Wrote s x bs t y → Wrote t at (groupMark c) u a → a + 2 ≤ length u
+room-count e g c h w v = omega (arith, length-group e g, wrote-length w, wrote-length v, v .place)
+
+pub count-fits : (next : List ℕ) (n l at : ℕ) {s : List ℕ} {t : List ℕ} {to : ℕ} → n ≤ 512 → Wrote s (at + 4) (u16s (chain n next n l)) t to → (to - at - 4) / 2 < 65536
+count-fits next n l at h w = omega (arith, w .place, length-members (chain n next n l), chain-length n next n l)
+
+pub later-small : (e : ℕ → ℕ → Bool) (i : ℕ) {n : ℕ} {edges ls : List ℕ} {k : ℕ} → Rows n edges ls → k ≡ length (later e ls i) → k ≤ 512
+later-small e i {ls = ls} r q = omega (arith, later-length e ls i, r .few, r .small)
+
+-- a run of records, one for each number
+pub flat-room : (f : ℕ → List ℕ) (n p : ℕ) {s₀ : List ℕ} {at₀ : ℕ} {all s : List ℕ} {at : ℕ} → Left s₀ at₀ all s at (flat f n p) → at₀ + length all ≤ length s₀ → p < n → at + length (f p) ≤ length s
+flat-room f n p l room h = left-room l room (f p) (flat f n (p + 1)) (flat-step f n p h)
+
+pub flat-more : (f : ℕ → List ℕ) (n p : ℕ) {s₀ : List ℕ} {at₀ : ℕ} {all s : List ℕ} {at : ℕ} {t : List ℕ} {to : ℕ} → Left s₀ at₀ all s at (flat f n p) → p < n → Wrote s at (f p) t to → Left s₀ at₀ all t to (flat f n (p + 1))
+flat-more f n p l h w = left-step l w (flat-step f n p h)

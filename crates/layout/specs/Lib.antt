@@ -1,0 +1,12 @@
+pub mod Wrote
+pub mod WroteLaws
+pub mod Scan
+pub mod ScanLaws
+pub mod File
+pub mod FileLaws
+pub mod LinkLaws
+pub mod WholeLaws
+pub mod Truth
+pub mod TruthLaws
+pub mod Matches
+pub mod MatchLaws

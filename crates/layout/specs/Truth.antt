@@ -1,0 +1,18 @@
+-- When lent least members and edges tell the visible part of a graph.
+use mathlib.Core.Path.{_≡_}
+use mathlib.Core.Bool.{true, false}
+use mathlib.Core.List.{List}
+use Prim.Native.Nat.{ℕ, _*_, _≤_, _<_}
+use lib.ListN.{length, getD}
+use Rattle.model.specs.Graph.{Graph, Proper, rowWords}
+use Rattle.model.specs.Grouping.{least, similar}
+use Rattle.model.specs.Tables.{edgeBit}
+use Rattle.model.specs.Release.{isVisible, visible, visibleEdge}
+
+pub record Truth (g : Graph) (lst edges : List ℕ) : Type 0 where
+  pub proper : Proper g
+  pub size : g .nodeCount ≤ length lst
+  pub rows : rowWords * g .nodeCount ≤ length edges
+  pub visible-least : (p : ℕ) → isVisible g p ≡ true → getD lst p 0 ≡ least (visible g) (similar (visible g) (visibleEdge g)) p
+  pub hidden-least : (p : ℕ) → p < g .nodeCount → isVisible g p ≡ false → g .nodeCount ≤ getD lst p 0
+  pub edge-is : (p q : ℕ) → isVisible g p ≡ true → isVisible g q ≡ true → edgeBit edges p q ≡ visibleEdge g p q
