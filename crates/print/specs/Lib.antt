@@ -1,3 +1,6 @@
+pub mod Lines
 pub mod DecimalLaws
 pub mod TextLaws
 pub mod SignedLaws
+pub mod LineLaws
+pub mod ChangeLaws

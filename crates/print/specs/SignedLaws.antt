@@ -95,3 +95,7 @@ wrote-below x k f n a e b = rw (signed-below x f n, ← magnitude-of x k f e) (w
 pub wrote-else : {s : List ℕ} {at : ℕ} {t : List ℕ} {next : ℕ} (x : ℤ) (k : ℕ) → SFits w16 x → ltZ (toZ w16 (ofZ w16 x)) (pos 0) ≡ false
     → k ≡ natAbs (toZ w16 (ofZ w16 x)) → Wrote s at (decimal k) t next → Wrote s at (signed x) t next
 wrote-else x k f n e b = rw (signed-else x f n, ← magnitude-of x k f e) b
+
+-- the text of a number that is handed on
+pub signed-kept : (x : ℤ) → SFits w16 x → signed (toZ w16 (ofZ w16 x)) ≡ signed x
+signed-kept x f = ap signed (toZ-ofZ f)
