@@ -4,3 +4,4 @@ pub mod TextLaws
 pub mod SignedLaws
 pub mod LineLaws
 pub mod ChangeLaws
+pub mod WalkLaws

@@ -1,7 +1,7 @@
 -- The lines of a release, told by its file alone.
 use mathlib.Core.Bool.{true, false}
 use mathlib.Core.List.{List, [], _∷_, _++_, map}
-use Prim.Native.Nat.{ℕ, suc, zero, _*_}
+use Prim.Native.Nat.{ℕ, suc, zero, _+_, _*_}
 use lib.ListN.{length, getD, drop}
 use Rattle.model.specs.Lists.{concat}
 use Rattle.model.specs.Reading.{afterGroups, superedgesAt, u16At, u16s}
@@ -14,6 +14,10 @@ memberTexts k s = concat (map spaced (u16s k s))
 -- the line of the group record at the front: `I` or `C`, as in the file, and the members
 unfoldable pub groupText : List ℕ → List ℕ
 groupText s = getD s 1 0 ∷ (memberTexts (u16At s 2) (drop 4 s) ++ text "\n")
+
+-- the place after the group record at p
+unfoldable pub nextGroup : List ℕ → ℕ → ℕ
+nextGroup s p = p + 4 + 2 * u16At s (p + 2)
 
 -- the lines of k group records
 unfoldable pub groupTexts : ℕ → List ℕ → List ℕ
