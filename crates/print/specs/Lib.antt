@@ -5,3 +5,4 @@ pub mod SignedLaws
 pub mod LineLaws
 pub mod ChangeLaws
 pub mod WalkLaws
+pub mod ReleaseTextLaws
