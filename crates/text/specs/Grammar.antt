@@ -1,0 +1,26 @@
+-- The cases of the parser's answers, as the model's definitions.
+use mathlib.Core.Bool.{Bool, true, false, not, _&&_, _||_, cond}
+use mathlib.Core.List.{List, [], _∷_}
+use Prim.Native.Nat.{ℕ, suc, zero, _+_, _*_, _-_}
+use lib.Dec.{eqb, leb}
+use lib.ListN.{length, take}
+use Rattle.model.specs.Lists.{headOr}
+use Rattle.model.specs.Program.{isNumber, valueOf}
+use Rattle.text.specs.declared.Number.{Number}
+use Rattle.text.specs.declared.Number.the-variants.{Value, NoNumber}
+
+-- how many bytes stand before the first separator; all of them if there is none
+unfoldable pub upTo : ℕ → List ℕ → ℕ
+upTo sep [] = 0
+upTo sep (b ∷ bs) = cond (eqb b sep) 0 (suc (upTo sep bs))
+
+-- a digit's worth; 10 of any other byte
+unfoldable pub digitOf : ℕ → ℕ
+digitOf b = cond (leb 0x30 b && leb b 0x39) (b - 0x30) 10
+
+-- 1 to 5 bytes, and no zero leads more
+unfoldable pub shape : List ℕ → Bool
+shape ds = (leb 1 (length ds) && leb (length ds) 5) && (eqb (length ds) 1 || not (eqb (headOr 0 ds) 0x30))
+
+unfoldable pub numberOf : List ℕ → Number
+numberOf ds = cond (isNumber ds) (Value (valueOf 0 ds)) NoNumber

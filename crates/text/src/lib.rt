@@ -1,0 +1,92 @@
+// The program's input: n on the first line, then a line for each change.
+ghost use mathlib.Core.Path.{_≡_};
+ghost use mathlib.Core.List.{[], _∷_};
+ghost use Prim.Native.Nat.{ℕ, _+_, _*_, _≤_, _<_};
+ghost use lib.ListN.{length, drop};
+ghost use Rattle.model.specs.Program.{edgeLine, inputOf, lineOf, linesFrom, markLine, pieces};
+ghost use Rattle.layout.specs.Wrote.{Wrote};
+ghost use Rattle.text.specs.Grammar.{digitOf, numberOf, shape, upTo};
+
+// A number of the input, or none.
+pub enum Number {
+    Value(u16),
+    NoNumber,
+}
+
+// A line after the first: a change, or an ill-formed line.
+pub enum Line {
+    Change { kind: u16, u: u16, v: u16 },
+    NoChange,
+}
+
+// The whole input: refused at a line, or n and as many changes.
+pub enum Parsed {
+    Refused { line: usize },
+    Accepted { n: usize, count: usize },
+}
+
+// How many bytes stand before the first `separator`; all of them if there is none.
+fn find(s: &[u8], separator: u8) -> usize
+    ensures { λ r. ⌜ r ≡ upTo separator (now (s .entry)) ⌝ }
+{
+    let mut i = 0;
+    while i < s.len() {
+        if s[i] == separator {
+            return i;
+        }
+        i += 1;
+    }
+    i
+}
+
+// A digit's worth; 10 of any other byte.
+fn digit(b: u8) -> usize
+    ensures { λ r. ⌜ r ≡ digitOf b ⌝ }
+{
+    if b < b'0' {
+        return 10;
+    }
+    if b > b'9' {
+        return 10;
+    }
+    (b - b'0') as usize
+}
+
+// Whether s has 1 to 5 bytes and no zero leads more.
+fn has_shape(s: &[u8]) -> bool
+    ensures { λ r. ⌜ r ≡ shape (now (s .entry)) ⌝ }
+{
+    if s.len() == 0 {
+        return false;
+    }
+    if s.len() > 5 {
+        return false;
+    }
+    if s.len() == 1 {
+        return true;
+    }
+    s[0] != b'0'
+}
+
+// The number that the whole of s is: 1 to 5 digits, no leading zero, at most 65,535.
+fn read_number(s: &[u8]) -> Number
+    ensures { λ r. ⌜ r ≡ numberOf (now (s .entry)) ⌝ }
+{
+    if !has_shape(s) {
+        return Number::NoNumber;
+    }
+    let mut value = 0;
+    let mut i = 0;
+    while i < s.len() {
+        let d = digit(s[i]);
+        if d > 9 {
+            return Number::NoNumber;
+        }
+        value = 10 * value + d;
+        if value > 65535 {
+            return Number::NoNumber;
+        }
+        i += 1;
+    }
+    Number::Value(value as u16)
+}
