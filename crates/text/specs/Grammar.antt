@@ -5,7 +5,9 @@ use Prim.Native.Nat.{ℕ, suc, zero, _+_, _*_, _-_}
 use lib.Dec.{eqb, leb}
 use lib.ListN.{length, take}
 use Rattle.model.specs.Lists.{headOr}
-use Rattle.model.specs.Program.{isNumber, valueOf}
+use Rattle.model.specs.Program.{Line as ModelLine, change, illFormed, isNumber, valueOf}
+use Rattle.text.specs.declared.Line.{Line}
+use Rattle.text.specs.declared.Line.the-variants.{Change, NoChange}
 use Rattle.text.specs.declared.Number.{Number}
 use Rattle.text.specs.declared.Number.the-variants.{Value, NoNumber}
 
@@ -24,3 +26,18 @@ shape ds = (leb 1 (length ds) && leb (length ds) 5) && (eqb (length ds) 1 || not
 
 unfoldable pub numberOf : List ℕ → Number
 numberOf ds = cond (isNumber ds) (Value (valueOf 0 ds)) NoNumber
+
+-- the line that each case is
+unfoldable pub lineIn : Line → ModelLine
+lineIn (Change kind u v) = change (record { kind = kind; u = u; v = v })
+lineIn NoChange = illFormed
+
+-- a change with its numbers, if all of them are there
+unfoldable pub edgeChange : ℕ → Number → Number → Line
+edgeChange kind (Value u) (Value v) = Change kind u v
+edgeChange kind (Value u) NoNumber = NoChange
+edgeChange kind NoNumber second = NoChange
+
+unfoldable pub markChange : ℕ → Number → Line
+markChange kind (Value u) = Change kind u 0
+markChange kind NoNumber = NoChange

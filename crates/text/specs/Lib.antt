@@ -1,3 +1,4 @@
 pub mod Grammar
 pub mod NumberLaws
 pub mod PieceLaws
+pub mod LineLaws

@@ -143,3 +143,6 @@ number-done {s} {v} {i} x h t =
     let q : v ≡ valueOf 0 s = rw e at (x .value) in
     let d : true ≡ all s isDigit = rw e at (x .digits) in
     rw (is-number s, t, ← d, ← q, le-leb v 65535 (x .small))
+
+pub number-digits : (s : List ℕ) → isNumber s ≡ true → all s isDigit ≡ true
+number-digits s h = and-fst (all s isDigit) (leb (valueOf 0 s) 65535) (and-snd (shape s) (all s isDigit && leb (valueOf 0 s) 65535) (sym (is-number s) ∙ h))

@@ -5,7 +5,7 @@ ghost use Prim.Native.Nat.{ℕ, _+_, _*_, _≤_, _<_};
 ghost use lib.ListN.{length, drop};
 ghost use Rattle.model.specs.Program.{edgeLine, inputOf, lineOf, linesFrom, markLine, pieces};
 ghost use Rattle.layout.specs.Wrote.{Wrote};
-ghost use Rattle.text.specs.Grammar.{digitOf, numberOf, shape, upTo};
+ghost use Rattle.text.specs.Grammar.{digitOf, edgeChange, lineIn, markChange, numberOf, shape, upTo};
 
 // A number of the input, or none.
 pub enum Number {
@@ -89,4 +89,65 @@ fn read_number(s: &[u8]) -> Number
         i += 1;
     }
     Number::Value(value as u16)
+}
+
+// An insertion or deletion of the edge between two nodes, if both numbers are there.
+fn edge_change(kind: u16, first: Number, second: Number) -> Line
+    ensures { λ r. ⌜ r ≡ edgeChange kind first second ⌝ }
+{
+    let Number::Value(u) = first else {
+        return Line::NoChange;
+    };
+    let Number::Value(v) = second else {
+        return Line::NoChange;
+    };
+    Line::Change { kind, u, v }
+}
+
+// A node hidden or revealed, if its number is there.
+fn mark_change(kind: u16, first: Number) -> Line
+    ensures { λ r. ⌜ r ≡ markChange kind first ⌝ }
+{
+    let Number::Value(u) = first else {
+        return Line::NoChange;
+    };
+    Line::Change { kind, u, v: 0 }
+}
+
+// What follows the letter and its space in a line that inserts or deletes an edge: two numbers.
+fn edge_line(kind: u16, s: &[u8]) -> Line
+    ensures { λ r. ⌜ lineIn r ≡ edgeLine kind ([] ∷ pieces 0x20 (now (s .entry))) ⌝ }
+{
+    let end = find(s, b' ');
+    if end == s.len() {
+        return Line::NoChange;
+    }
+    edge_change(kind, read_number(&s[..end]), read_number(&s[end + 1..]))
+}
+
+// What follows the letter and its space in a line that hides or reveals a node: one number.
+fn mark_line(kind: u16, s: &[u8]) -> Line
+    ensures { λ r. ⌜ lineIn r ≡ markLine kind ([] ∷ pieces 0x20 (now (s .entry))) ⌝ }
+{
+    mark_change(kind, read_number(s))
+}
+
+// A line after the first, without its line feed.
+fn read_line(s: &[u8]) -> Line
+    ensures { λ r. ⌜ lineIn r ≡ lineOf (now (s .entry)) ⌝ }
+{
+    if find(s, b' ') != 1 {
+        return Line::NoChange;
+    }
+    if s.len() == 1 {
+        return Line::NoChange;
+    }
+    let letter = s[0];
+    match letter {
+        b't' => edge_line(1, &s[2..]),
+        b'u' => edge_line(2, &s[2..]),
+        b'w' => mark_line(3, &s[2..]),
+        b'o' => mark_line(4, &s[2..]),
+        _ => Line::NoChange,
+    }
 }
