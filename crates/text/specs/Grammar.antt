@@ -1,13 +1,18 @@
 -- The cases of the parser's answers, as the model's definitions.
 use mathlib.Core.Bool.{Bool, true, false, not, _&&_, _||_, cond}
 use mathlib.Core.List.{List, [], _∷_}
+use mathlib.Core.Path.{_≡_}
 use Prim.Native.Nat.{ℕ, suc, zero, _+_, _*_, _-_}
 use lib.Dec.{eqb, leb}
-use lib.ListN.{length, take}
+use lib.ListN.{length, take, drop}
 use Rattle.model.specs.Lists.{headOr}
-use Rattle.model.specs.Program.{Line as ModelLine, change, illFormed, isNumber, valueOf}
+use Rattle.model.specs.Graph.{maxUpdates}
+use Rattle.model.specs.Updates.{inThrees}
+use Rattle.model.specs.Program.{Input, Line as ModelLine, accepted, change, illFormed, isNumber, refusedAt, valueOf}
 use Rattle.text.specs.declared.Line.{Line}
 use Rattle.text.specs.declared.Line.the-variants.{Change, NoChange}
+use Rattle.text.specs.declared.Parsed.{Parsed}
+use Rattle.text.specs.declared.Parsed.the-variants.{Accepted, Refused}
 use Rattle.text.specs.declared.Number.{Number}
 use Rattle.text.specs.declared.Number.the-variants.{Value, NoNumber}
 
@@ -41,3 +46,18 @@ edgeChange kind NoNumber second = NoChange
 unfoldable pub markChange : ℕ → Number → Line
 markChange kind (Value u) = Change kind u 0
 markChange kind NoNumber = NoChange
+
+-- the input that each case is, its changes in the first numbers of the batch
+unfoldable pub inputIn : Parsed → List ℕ → Input
+inputIn (Refused line) batch = refusedAt line
+inputIn (Accepted n count) batch = accepted n (inThrees (take (3 * count) batch))
+
+-- how many changes the batch may hold; of a refused input as many as fit
+unfoldable pub used : Parsed → ℕ
+used (Refused line) = maxUpdates
+used (Accepted n count) = count
+
+-- the answer is the input, and the numbers of the batch beyond its changes keep their value
+pub record Told (all : Input) (before after : List ℕ) (r : Parsed) : Type 0 where
+  pub input : inputIn r after ≡ all
+  pub beyond : drop (3 * used r) after ≡ drop (3 * used r) before

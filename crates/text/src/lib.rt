@@ -5,7 +5,7 @@ ghost use Prim.Native.Nat.{ℕ, _+_, _*_, _≤_, _<_};
 ghost use lib.ListN.{length, drop};
 ghost use Rattle.model.specs.Program.{edgeLine, inputOf, lineOf, linesFrom, markLine, pieces};
 ghost use Rattle.layout.specs.Wrote.{Wrote};
-ghost use Rattle.text.specs.Grammar.{digitOf, edgeChange, lineIn, markChange, numberOf, shape, upTo};
+ghost use Rattle.text.specs.Grammar.{Told, digitOf, edgeChange, lineIn, markChange, numberOf, shape, upTo};
 
 // A number of the input, or none.
 pub enum Number {
@@ -150,4 +150,63 @@ fn read_line(s: &[u8]) -> Line
         b'o' => mark_line(4, &s[2..]),
         _ => Line::NoChange,
     }
+}
+
+// A change into the batch, after `count` others.
+fn put_change(batch: &mut [u16], count: usize, kind: u16, u: u16, v: u16)
+    requires { ⌜ (count < 4096) × (12288 ≤ length (now batch)) ⌝ }
+    ensures { λ _. ⌜ Wrote (now (batch .entry)) (3 * count) (kind ∷ u ∷ v ∷ []) (now (batch .exit)) (3 * (count + 1)) ⌝ }
+{
+    let at = 3 * count;
+    batch[at] = kind;
+    batch[at + 1] = u;
+    batch[at + 2] = v;
+}
+
+// The lines after the first, from the place `from` on.
+fn read_lines(input: &[u8], from: usize, n: usize, batch: &mut [u16]) -> Parsed
+    requires { ⌜ (from ≤ length (now input)) × (12288 ≤ length (now batch)) ⌝ }
+    ensures { λ r. ⌜ Told (linesFrom n 2 (pieces 0x0A (drop from (now (input .entry))))) (now (batch .entry)) (now (batch .exit)) r ⌝ }
+{
+    let mut at = from;
+    let mut count = 0;
+    while at < input.len() {
+        let end = at + find(&input[at..], b'\n');
+        if end == input.len() {
+            return Parsed::Refused { line: count + 2 };
+        }
+        if count == 4096 {
+            return Parsed::Refused { line: count + 2 };
+        }
+        let line = read_line(&input[at..end]);
+        let Line::Change { kind, u, v } = line else {
+            return Parsed::Refused { line: count + 2 };
+        };
+        put_change(batch, count, kind, u, v);
+        count += 1;
+        at = end + 1;
+    }
+    Parsed::Accepted { n, count }
+}
+
+// The program's whole input. Its changes go to the batch, three numbers for each, which has room for 4,096 of them.
+pub fn parse(input: &[u8], batch: &mut [u16]) -> Parsed
+    requires { ⌜ 12288 ≤ length (now batch) ⌝ }
+    ensures { λ r. ⌜ Told (inputOf (now (input .entry))) (now (batch .entry)) (now (batch .exit)) r ⌝ }
+{
+    if input.len() > 65536 {
+        return Parsed::Refused { line: 0 };
+    }
+    let end = find(input, b'\n');
+    if end == input.len() {
+        return Parsed::Refused { line: 1 };
+    }
+    let first = read_number(&input[..end]);
+    let Number::Value(n) = first else {
+        return Parsed::Refused { line: 1 };
+    };
+    if n > 512 {
+        return Parsed::Refused { line: 1 };
+    }
+    read_lines(input, end + 1, n as usize, batch)
 }
