@@ -1,14 +1,14 @@
 -- Laws of the change lines, one answer after the other.
-use mathlib.Core.Path.{_≡_, refl, ap, _∙_}
-use mathlib.Core.List.{List, [], _∷_, _++_}
-use Prim.Native.Nat.{ℕ, suc, _+_, _≤_, _<_}
+use mathlib.Core.Path.{_≡_, ap, _∙_}
+use mathlib.Core.List.{List, [], _++_}
+use Prim.Native.Nat.{ℕ, _+_, _≤_, _<_}
 use native.Mathlib.Numerals.{add-one}
 use lib.IntN.{ℤ, pos}
 use lib.ListN.{length, getD, drop, drop-of-length-le}
 use lib.Seq.{drop-cons}
+use mir.Facts.{toZ-ofZ}
 use mir.Syntax.{w16}
 use mir.Val.{SFits, ofZ, toZ}
-use mir.Facts.{toZ-ofZ}
 use Rattle.model.specs.Program.{changeLine, changeLines}
 use Rattle.layout.specs.Wrote.{Left, Wrote}
 use Rattle.layout.specs.WroteLaws.{left-done, left-room, left-step}

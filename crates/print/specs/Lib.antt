@@ -6,3 +6,4 @@ pub mod LineLaws
 pub mod ChangeLaws
 pub mod WalkLaws
 pub mod ReleaseTextLaws
+pub mod LengthLaws

@@ -1,11 +1,14 @@
 -- The lines of a release, told by its file alone.
-use mathlib.Core.Bool.{true, false}
 use mathlib.Core.List.{List, [], _∷_, _++_, map}
 use Prim.Native.Nat.{ℕ, suc, zero, _+_, _*_}
 use lib.ListN.{length, getD, drop}
 use Rattle.model.specs.Lists.{concat}
-use Rattle.model.specs.Reading.{afterGroups, superedgesAt, u16At, u16s}
 use Rattle.model.specs.Program.{openLine, spaced, superedgeLine, text}
+use Rattle.model.specs.Reading.{afterGroups, superedgesAt, u16At, u16s}
+
+-- no output is longer
+abbrev pub maxText : ℕ
+maxText = 131072
 
 -- k numbers, each after a space
 unfoldable pub memberTexts : ℕ → List ℕ → List ℕ

@@ -1,17 +1,17 @@
 -- How far a signed number is from 0, and its text.
-use mathlib.Core.Path.{_≡_, refl, sym, ap, _∙_}
+use mathlib.Core.Path.{_≡_, refl, ap, _∙_}
 use mathlib.Core.Bool.{true, false}
 use mathlib.Core.List.{List, [], _∷_, _++_}
-use Prim.Native.Nat.{ℕ, suc, _+_, _≤_, _<_}
+use Prim.Native.Nat.{ℕ, _+_, _<_}
 use native.Mathlib.Omega.{arith}
 use lib.Dec.{T}
 use lib.IntN.{ℤ, pos, negsuc, natAbs, _-ℤ_}
 use lib.ListN.{length}
 use lib.Signed.{ltZ, nonNeg}
 use borrow.Author.Tests.{ltb-true}
+use mir.Facts.{toZ-ofZ}
 use mir.Syntax.{w16, w32, w64}
 use mir.Val.{Fits, SFits, ofZ, toZ}
-use mir.Facts.{toZ-ofZ}
 use Rattle.model.specs.Program.{decimal, signed, text}
 use Rattle.model.specs.TestLaws.{differ}
 use Rattle.layout.specs.Wrote.{Wrote}

@@ -1,19 +1,19 @@
 -- Laws of a walk over a file: what stands from a place on, record by record.
-use mathlib.Core.Path.{_≡_, refl, sym, ap, ap₂, _∙_}
+use mathlib.Core.Path.{_≡_, refl, sym, ap, _∙_}
 use mathlib.Core.Bool.{true, false}
-use mathlib.Core.List.{List, [], _∷_, _++_, map}
+use mathlib.Core.List.{List, [], _∷_, _++_}
+use mathlib.Core.Logic.{_⊎_, inl, inr}
 use Prim.Native.Nat.{ℕ, suc, zero, _+_, _*_, _-_, _≤_, _<_}
 use native.Mathlib.Numerals.{add-one}
 use native.Mathlib.Omega.{arith}
-use lib.Dec.{eqb, ltb}
+use lib.Dec.{ltb}
 use lib.ListN.{length, getD, drop, List·getD-eq-default}
 use lib.Seq.{drop-drop, getD-drop}
 use borrow.Author.Tests.{eq-eqb, ltb-false, ltb-true, ne-eqb}
-use mathlib.Core.Logic.{_⊎_, inl, inr}
-use Rattle.model.specs.TestLaws.{decide}
 use Rattle.model.specs.Lists.{concat}
-use Rattle.model.specs.Reading.{afterGroups, superedgesAt, u16At, u16s}
 use Rattle.model.specs.Program.{openLine, spaced, superedgeLine, text}
+use Rattle.model.specs.Reading.{afterGroups, superedgesAt, u16At, u16s}
+use Rattle.model.specs.TestLaws.{decide}
 use Rattle.layout.specs.Wrote.{Left, Wrote}
 use Rattle.layout.specs.WroteLaws.{left-done, left-room, left-start, left-step}
 use Rattle.print.specs.Lines.{fileText, groupText, groupTexts, memberTexts, nextGroup, superedgePart, superedgeTexts, superedgeTotal}

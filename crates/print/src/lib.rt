@@ -1,7 +1,7 @@
 // The program's output text, written into a lent buffer from a place on; each function hands back the place after it.
 ghost use mathlib.Core.Path.{_≡_};
 ghost use mathlib.Core.List.{[], _∷_, _++_};
-ghost use Prim.Native.Nat.{ℕ, _+_, _≤_, _<_};
+ghost use Prim.Native.Nat.{_+_, _≤_, _<_};
 ghost use lib.IntN.{natAbs};
 ghost use lib.ListN.{length, getD, drop};
 ghost use Rattle.model.specs.Reading.{afterGroups, superedgesAt, u16At};

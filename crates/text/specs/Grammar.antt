@@ -1,20 +1,20 @@
 -- The cases of the parser's answers, as the model's definitions.
-use mathlib.Core.Bool.{Bool, true, false, not, _&&_, _||_, cond}
-use mathlib.Core.List.{List, [], _∷_}
 use mathlib.Core.Path.{_≡_}
-use Prim.Native.Nat.{ℕ, suc, zero, _+_, _*_, _-_}
+use mathlib.Core.Bool.{Bool, not, _&&_, _||_, cond}
+use mathlib.Core.List.{List, [], _∷_}
+use Prim.Native.Nat.{ℕ, suc, _*_, _-_, _≤_}
 use lib.Dec.{eqb, leb}
 use lib.ListN.{length, take, drop}
-use Rattle.model.specs.Lists.{headOr}
 use Rattle.model.specs.Graph.{maxUpdates}
-use Rattle.model.specs.Updates.{inThrees}
+use Rattle.model.specs.Lists.{headOr}
 use Rattle.model.specs.Program.{Input, Line as ModelLine, accepted, change, illFormed, isNumber, refusedAt, valueOf}
+use Rattle.model.specs.Updates.{inThrees}
 use Rattle.text.specs.declared.Line.{Line}
 use Rattle.text.specs.declared.Line.the-variants.{Change, NoChange}
-use Rattle.text.specs.declared.Parsed.{Parsed}
-use Rattle.text.specs.declared.Parsed.the-variants.{Accepted, Refused}
 use Rattle.text.specs.declared.Number.{Number}
 use Rattle.text.specs.declared.Number.the-variants.{Value, NoNumber}
+use Rattle.text.specs.declared.Parsed.{Parsed}
+use Rattle.text.specs.declared.Parsed.the-variants.{Accepted, Refused}
 
 -- how many bytes stand before the first separator; all of them if there is none
 unfoldable pub upTo : ℕ → List ℕ → ℕ
@@ -57,7 +57,8 @@ unfoldable pub used : Parsed → ℕ
 used (Refused line) = maxUpdates
 used (Accepted n count) = count
 
--- the answer is the input, and the numbers of the batch beyond its changes keep their value
+-- the answer is the input, its changes fit the batch, and the numbers beyond them keep their value
 pub record Told (all : Input) (before after : List ℕ) (r : Parsed) : Type 0 where
   pub input : inputIn r after ≡ all
+  pub few : used r ≤ maxUpdates
   pub beyond : drop (3 * used r) after ≡ drop (3 * used r) before

@@ -1,18 +1,17 @@
 -- Laws of the lines after the first, field by field.
 use mathlib.Core.Path.{_≡_, refl, sym, ap, _∙_}
-use mathlib.Core.Bool.{Bool, true, false, not, _&&_, cond, and-false}
+use mathlib.Core.Bool.{Bool, true, false, _&&_, cond, and-false}
 use mathlib.Core.List.{List, [], _∷_}
 use mathlib.Core.Logic.{_⊎_, inl, inr}
-use Prim.Native.Nat.{ℕ, suc, zero, _+_, _-_, _≤_, _<_}
+use Prim.Native.Nat.{ℕ, suc, _+_, _-_, _≤_, _<_}
 use native.Mathlib.Omega.{arith}
 use lib.Dec.{eqb, leb, ltb, eqb·suc-suc}
 use lib.ListN.{length, getD, take, drop, length-drop, length-take}
-use lib.Seq.{take-all, take-suc}
-use borrow.Author.Tests.{eq-eqb, leb-true, ltb-false, ltb-true, ne-eqb}
+use lib.Seq.{take-all}
+use borrow.Author.Tests.{leb-true, ltb-false, ltb-true, ne-eqb}
 use Rattle.model.specs.Lists.{all, sameList}
-use Rattle.model.specs.TestLaws.{and-fst, and-one, and-snd, decide, differ}
-use Rattle.model.specs.ListLaws.{same-eq}
-use Rattle.model.specs.Program.{Line as ModelLine, change, edgeLine, field, illFormed, isNumber, lineOf, markLine, pieces, text, valueOf}
+use Rattle.model.specs.Program.{Line as ModelLine, edgeLine, field, illFormed, isNumber, lineOf, markLine, pieces, text}
+use Rattle.model.specs.TestLaws.{and-fst, and-one, and-snd, decide}
 use Rattle.text.specs.declared.Line.{Line}
 use Rattle.text.specs.declared.Line.the-variants.{Change, NoChange}
 use Rattle.text.specs.declared.Number.{Number}
@@ -73,15 +72,12 @@ one-field s = go (decide (ltb (upTo 0x20 s) (length s))) (decide (isNumber s))
     go (inr t) (inr n) = rw (pieces-one 0x20 s (omega (arith, upTo-le 0x20 s, ltb-false (upTo 0x20 s) (length s) t)))
     go (inl t) (inr n) = rw (pieces-more 0x20 s (ltb-true (upTo 0x20 s) (length s) t), ne-eqb (suc (length (pieces 0x20 (drop (upTo 0x20 s + 1) s)))) 1 (λ e. omega (arith, some-piece (drop (upTo 0x20 s + 1) s)))) (sym n)
 
-shorter : (n k : ℕ) → eqb (suc n) (suc k) ≡ eqb n k
-shorter n k = eqb·suc-suc n k
-
 -- two numbers after the letter
 pub edge-by : (kind u : ℕ) (s : List ℕ) → u ≡ upTo 0x20 s → (u ≡ length s → ⊥) → lineIn (edgeChange kind (numberOf (take u s)) (numberOf (drop (u + 1) s))) ≡ edgeLine kind ([] ∷ pieces 0x20 s)
 edge-by kind u s e n = rw e (rw (pieces-more 0x20 s (omega (arith, e, n, upTo-le 0x20 s))) (two (take (upTo 0x20 s) s) (drop (upTo 0x20 s + 1) s)))
   where
     test : (t : List ℕ) (fs : List (List ℕ)) → isNumber t ≡ true → (eqb (length fs) 1 && isNumber (field fs 0)) ≡ false → (eqb (suc (suc (length fs))) 3 && (isNumber t && isNumber (field fs 0))) ≡ false
-    test t fs a b = rw (shorter (suc (length fs)) 2, shorter (length fs) 1, a) b
+    test t fs a b = rw (eqb·suc-suc (suc (length fs)) 2, eqb·suc-suc (length fs) 1, a) b
 
     two : (t d : List ℕ) → lineIn (edgeChange kind (numberOf t) (numberOf d)) ≡ edgeLine kind ([] ∷ (t ∷ pieces 0x20 d))
     two t d = step (decide (isNumber t)) (decide (isNumber d))
@@ -97,7 +93,7 @@ unfolding numberOf markChange lineIn markLine
 mark-by kind s = step (decide (isNumber s))
   where
     test : (fs : List (List ℕ)) → (eqb (length fs) 1 && isNumber (field fs 0)) ≡ false → (eqb (suc (length fs)) 2 && isNumber (field fs 0)) ≡ false
-    test fs b = rw (shorter (length fs) 1) b
+    test fs b = rw (eqb·suc-suc (length fs) 1) b
 
     step : (isNumber s ≡ true) ⊎ (isNumber s ≡ false) → lineIn (markChange kind (numberOf s)) ≡ markLine kind ([] ∷ pieces 0x20 s)
     step (inl b) = rw (number-alone s b, b)

@@ -3,19 +3,18 @@ use mathlib.Core.Path.{_≡_, refl, sym, ap, _∙_}
 use mathlib.Core.Bool.{Bool, true, false, not, _&&_, _||_, cond}
 use mathlib.Core.List.{List, [], _∷_}
 use mathlib.Core.Logic.{_⊎_, inl, inr}
-use Prim.Native.Nat.{ℕ, suc, zero, _+_, _*_, _-_, _≤_, _<_}
+use Prim.Native.Nat.{ℕ, _+_, _*_, _-_, _≤_, _<_}
 use native.Mathlib.Numerals.{add-one}
 use native.Mathlib.Omega.{arith}
-use lib.Dec.{eqb, ltb, leb}
+use lib.Dec.{eqb, leb}
 use lib.ListN.{length, getD, drop, drop-of-length-le}
 use lib.Seq.{drop-cons}
-use borrow.Author.Tests.{eq-eqb, le-leb, leb-true, leb-false, lt-leb, ltb-false, ltb-true, ne-eqb}
+use borrow.Author.Tests.{eq-eqb, le-leb, leb-true, lt-leb, ne-eqb}
 use Rattle.model.specs.Lists.{all, headOr}
-use Rattle.model.specs.TestLaws.{and-fst, and-snd, and-true, decide, differ, iff-eq}
 use Rattle.model.specs.Program.{isNumber, valueOf}
-use Rattle.text.specs.declared.Number.{Number}
+use Rattle.model.specs.TestLaws.{and-fst, and-snd, decide}
 use Rattle.text.specs.declared.Number.the-variants.{Value, NoNumber}
-use Rattle.text.specs.Grammar.{digitOf, numberOf, shape, upTo}
+use Rattle.text.specs.Grammar.{digitOf, numberOf, shape}
 
 -- a digit
 pub digit-low : (b : ℕ) → b < 0x30 → 10 ≡ digitOf b

@@ -1,21 +1,19 @@
 -- Laws of the whole input: its first line, then line after line with the changes so far in the batch.
-use mathlib.Core.Path.{_≡_, refl, sym, ap, ap₂, _∙_}
-use mathlib.Core.Bool.{Bool, true, false, not, _&&_, _||_, cond}
+use mathlib.Core.Path.{_≡_, refl, sym, ap, _∙_}
+use mathlib.Core.Bool.{true, false, not, cond}
 use mathlib.Core.List.{List, [], _∷_, _++_, append-assoc, append-nil}
 use mathlib.Core.Logic.{_⊎_, inl, inr}
-use Prim.Native.Nat.{ℕ, suc, zero, _+_, _*_, _-_, _≤_, _<_}
-use native.Mathlib.Numerals.{add-one}
+use Prim.Native.Nat.{ℕ, suc, _+_, _*_, _-_, _≤_, _<_}
 use native.Mathlib.Omega.{arith}
-use lib.Dec.{eqb, leb, ltb}
+use lib.Dec.{leb, ltb}
 use lib.ListN.{length, take, drop, set, length-append, length-drop, drop-of-length-le}
 use lib.Seq.{drop-drop, drop-set-lt, sets, sets-eq, take-at}
-use borrow.Author.Tests.{eq-eqb, le-leb, le-ltb, leb-true, lt-leb, lt-ltb, ltb-false, ltb-true, ne-eqb}
-use Rattle.model.specs.Graph.{maxNodes, maxUpdates}
-use Rattle.model.specs.Updates.{Update, inThrees}
+use borrow.Author.Tests.{le-leb, le-ltb, lt-leb, lt-ltb, ltb-false, ltb-true, ne-eqb}
+use Rattle.model.specs.Program.{Input, Line as ModelLine, accepted, change, firstLine, illFormed, inputOf, isCount, isNone, isNumber, lineOf, linesFrom, pieces, refusedAt, valueOf, withLine, withUpdate}
 use Rattle.model.specs.TestLaws.{decide}
-use Rattle.model.specs.Program.{Input, Line as ModelLine, accepted, change, firstLine, illFormed, inputOf, isCount, isNone, isNumber, lineOf, linesFrom, maxBytes, pieces, refusedAt, valueOf, withLine, withUpdate}
+use Rattle.model.specs.Updates.{Update, inThrees}
 use Rattle.layout.specs.Wrote.{Wrote}
-use Rattle.layout.specs.WroteLaws.{wrote-length, wrote-then}
+use Rattle.layout.specs.WroteLaws.{wrote-then}
 use Rattle.text.specs.declared.Line.{Line}
 use Rattle.text.specs.declared.Line.the-variants.{Change, NoChange}
 use Rattle.text.specs.declared.Number.{Number}
@@ -102,6 +100,7 @@ module _ {input before after : List ℕ} {all : Input} {n at count : ℕ} (x : R
   unfolding following inputIn used
   refused e = record {
     input = sym (ap (following (x .changes)) e) ∙ x .same;
+    few = omega arith;
     beyond = ap (drop (3 * 4096)) (x .wrote .bytes) ∙ drop-sets (numbers (x .changes)) before 0 (3 * 4096) (omega (arith, numbers-length (x .changes), x .size, x .few));
   }
 
@@ -178,6 +177,7 @@ module _ {input before after : List ℕ} {all : Input} {n at count : ℕ} (x : R
   unfolding following inputIn used
   reading-done h = record {
     input = ap (accepted n) (ap inThrees front ∙ numbers-back (x .changes)) ∙ sym (ap (accepted n) (append-nil (x .changes))) ∙ sym (ap (following (x .changes)) none) ∙ x .same;
+    few = x .few;
     beyond = ap (drop (3 * count)) (x .wrote .bytes) ∙ drop-sets (numbers (x .changes)) before 0 (3 * count) (omega (arith, numbers-length (x .changes), x .size));
   }
     where
@@ -230,8 +230,8 @@ count-none ds h = rw (number-none ds h)
 
 -- refused at the first line, or for its length, with the batch as it was
 refused-at : (input batch : List ℕ) (k : ℕ) → inputOf input ≡ refusedAt k → Told (inputOf input) batch batch (Refused k)
-unfolding inputIn
-refused-at input batch k e = record { input = sym e; beyond = refl }
+unfolding inputIn used
+refused-at input batch k e = record { input = sym e; few = omega arith; beyond = refl }
 
 pub first-long : (input batch : List ℕ) → 65536 < length input → Told (inputOf input) batch batch (Refused 0)
 first-long input batch h = refused-at input batch 0 (unfold inputOf in rw (lt-ltb 65536 (length input) h))
@@ -257,5 +257,6 @@ module _ (input : List ℕ) (small : length input ≤ 65536) where
       → Told (linesFrom v 2 (pieces 0x0A (drop (u + 1) input))) before after r → Told (inputOf input) before after r
   first-then u v e l x y h t = record {
     input = t .input ∙ sym (first-line u e l ∙ rw (count-is (take u input) v (sym x ∙ y), le-leb v 512 h, number-value (take u input) v (sym x ∙ y) .1));
+    few = t .few;
     beyond = t .beyond;
   }

@@ -1,15 +1,16 @@
+-- `print::put_decimal` meets its contract.
 use Prim.Native.Nat.{ℕ, _<_}
 use native.Mathlib.Omega.{arith}
 use borrow.Author.Needs.{needs}
 use borrow.Fn.Kinds.{In}
 use borrow.Fn.PlainCycle.{Measures, is, falls, and}
-use Rattle.print.specs.DecimalLaws.{length-short, length-long, wrote-short, wrote-long}
 use Rattle.layout.specs.WroteLaws.{wrote-length}
-use Rattle.print.proofs.put_decimal.Reads as put-decimal
-use Rattle.print.proofs.put_decimal.Kinds as put-decimal-kinds
-use Rattle.print.proofs.+put_decimal.Lts-put_decimal as put-decimal-lts
+use Rattle.print.specs.DecimalLaws.{length-short, length-long, wrote-short, wrote-long}
 use Rattle.print.proofs.+put_decimal.{statement}
+use Rattle.print.proofs.+put_decimal.Lts-put_decimal as put-decimal-lts
 use Rattle.print.proofs.+put_decimal.Tie.{close}
+use Rattle.print.proofs.put_decimal.Kinds as put-decimal-kinds
+use Rattle.print.proofs.put_decimal.Reads as put-decimal
 
 abbrev μ-put-decimal : Measures 1 put-decimal-kinds.ps ℕ
 μ-put-decimal κs a = a .1 .1 .0
@@ -22,91 +23,78 @@ abbrev put-decimal-below : ℕ → In 1 put-decimal-kinds.ps
 put-decimal-below t =
     and 1 put-decimal-kinds.ps (falls 1 put-decimal-kinds.ps _<_ μ-put-decimal t) put-decimal.Pre
 
--- src/lib.rt:27:20
 put-decimal-add-out : (t : ℕ) → put-decimal-lts.Need-add-out (
   put-decimal-below t,
   put-decimal.Post,
 ) (put-decimal-at t) put-decimal.Post
 put-decimal-add-out t c = search needs
 
--- src/lib.rt:27:19
 put-decimal-cast-out : (t : ℕ) → put-decimal-lts.Need-cast-out (
   put-decimal-below t,
   put-decimal.Post,
 ) (put-decimal-at t) put-decimal.Post
 put-decimal-cast-out t c = search needs
 
--- src/lib.rt:27:9
 put-decimal-slice-write-out : (t : ℕ) → put-decimal-lts.Need-slice-write-out (
   put-decimal-below t,
   put-decimal.Post,
 ) (put-decimal-at t) put-decimal.Post
 put-decimal-slice-write-out t c = omega (arith, length-short _ (c .if1 .taken))
 
--- src/lib.rt:28:16
 put-decimal-add-result : (t : ℕ) → put-decimal-lts.Need-add-result (
   put-decimal-below t,
   put-decimal.Post,
 ) (put-decimal-at t) put-decimal.Post
 put-decimal-add-result t c = omega (arith, length-short _ (c .if1 .taken))
 
--- src/lib.rt:28:9
 put-decimal-same-length : (t : ℕ) → put-decimal-lts.Need-same-length (
   put-decimal-below t,
   put-decimal.Post,
 ) (put-decimal-at t) put-decimal.Post
 put-decimal-same-length t c = search needs
 
--- src/lib.rt:28:9
 put-decimal-returns : (t : ℕ) → put-decimal-lts.Need-returns (
   put-decimal-below t,
   put-decimal.Post,
 ) (put-decimal-at t) put-decimal.Post
 put-decimal-returns t c = wrote-short _ _ _ (c .if1 .taken)
 
--- src/lib.rt:30:9
 put-decimal-put-decimal-requires : (t : ℕ) → put-decimal-lts.Need-put-decimal-requires (
   put-decimal-below t,
   put-decimal.Post,
 ) (put-decimal-at t) put-decimal.Post
 put-decimal-put-decimal-requires t c κs = (omega arith, omega (arith, length-long _ (c .before .if1 .left)))
 
--- src/lib.rt:31:18
 put-decimal-add-out-2 : (t : ℕ) → put-decimal-lts.Need-add-out-2 (
   put-decimal-below t,
   put-decimal.Post,
 ) (put-decimal-at t) put-decimal.Post
 put-decimal-add-out-2 t c = search needs
 
--- src/lib.rt:31:17
 put-decimal-cast-out-2 : (t : ℕ) → put-decimal-lts.Need-cast-out-2 (
   put-decimal-below t,
   put-decimal.Post,
 ) (put-decimal-at t) put-decimal.Post
 put-decimal-cast-out-2 t c = search needs
 
--- src/lib.rt:31:5
 put-decimal-slice-write-out-2 : (t : ℕ) → put-decimal-lts.Need-slice-write-out-2 (
   put-decimal-below t,
   put-decimal.Post,
 ) (put-decimal-at t) put-decimal.Post
 put-decimal-slice-write-out-2 t c = omega (arith, length-long _ (c .before .before .before .before .if1 .left), c .before .before .put-decimal .ensures .place, wrote-length (c .before .before .put-decimal .ensures))
 
--- src/lib.rt:32:5
 put-decimal-add-result-2 : (t : ℕ) → put-decimal-lts.Need-add-result-2 (
   put-decimal-below t,
   put-decimal.Post,
 ) (put-decimal-at t) put-decimal.Post
 put-decimal-add-result-2 t c = omega (arith, length-long _ (c .before .before .before .before .if1 .left), c .before .before .put-decimal .ensures .place)
 
--- src/lib.rt:22:1
 put-decimal-same-length-2 : (t : ℕ) → put-decimal-lts.Need-same-length-2 (
   put-decimal-below t,
   put-decimal.Post,
 ) (put-decimal-at t) put-decimal.Post
 put-decimal-same-length-2 t c = search needs
 
--- src/lib.rt:22:1
 put-decimal-returns-2 : (t : ℕ) → put-decimal-lts.Need-returns-2 (
   put-decimal-below t,
   put-decimal.Post,

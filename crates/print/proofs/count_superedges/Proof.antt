@@ -1,15 +1,13 @@
+-- `print::count_superedges` meets its contract.
 use mathlib.Core.Path.{sym, _∙_}
 use Prim.Native.Nat.{_-_}
 use native.Mathlib.Omega.{arith}
-use borrow.Author.Needs.{needs}
 use lib.ListN.{length, drop}
+use borrow.Author.Needs.{needs}
 use Rattle.model.specs.Reading.{superedgesAt}
 use Rattle.print.specs.WalkLaws.{ToCount, count-done, count-start, count-step, mark-below}
 use Rattle.print.proofs.count_superedges.Statement.{statement}
 use Rattle.print.proofs.count_superedges.Tie as tie
-use Rattle.print.proofs.count_superedges.Reads as reads
-use Rattle.print.proofs.count_superedges.Lts as lts
-use Rattle.print.proofs.byte_at.Reads as byte-at-reads
 
 abbrev Inv-loop : tie.InvT-loop
 Inv-loop file from p₀ count₀ p count = ToCount file (length (superedgesAt (length file) (drop from file))) count p
@@ -17,31 +15,24 @@ Inv-loop file from p₀ count₀ p count = ToCount file (length (superedgesAt (l
 abbrev μ-loop : tie.MeasureT-loop
 μ-loop file from p₀ count₀ p count = length file - p
 
--- src/lib.rt:177:5
 loop-holds : tie.Need-loop-holds Inv-loop μ-loop
 loop-holds c = count-start _ _
 
--- src/lib.rt:177:11
 byte-at-requires : tie.Need-byte-at-requires Inv-loop μ-loop
 byte-at-requires c κs = search needs
 
--- src/lib.rt:178:9
 add-p : tie.Need-add-p Inv-loop μ-loop
 add-p c = omega (arith, mark-below (c .before .before .before .before .args .file .now) (c .before .before .loop .p) (sym (c .before .byte-at .ensures) ∙ c .if1 .taken))
 
--- src/lib.rt:179:9
 add-count : tie.Need-add-count Inv-loop μ-loop
 add-count c = omega (arith, mark-below (c .before .before .before .before .args .file .now) (c .before .before .loop .p) (sym (c .before .byte-at .ensures) ∙ c .if1 .taken))
 
--- src/lib.rt:177:5
 loop-less : tie.Need-loop-less Inv-loop μ-loop
 loop-less c = omega (arith, mark-below (c .before .before .before .before .args .file .now) (c .before .before .loop .p) (sym (c .before .byte-at .ensures) ∙ c .if1 .taken))
 
--- src/lib.rt:177:5
 loop-again : tie.Need-loop-again Inv-loop μ-loop
 loop-again c = count-step _ (c .before .before .loop .inv) (sym (c .before .byte-at .ensures) ∙ c .if1 .taken)
 
--- src/lib.rt:171:1
 returns : tie.Need-returns Inv-loop μ-loop
 returns c = count-done _ (c .before .before .loop .inv) (λ e. c .if1 .left (c .before .byte-at .ensures ∙ e))
 

@@ -1,3 +1,4 @@
+-- `print::groups_end` meets its contract.
 use mathlib.Core.Path.{_≡_, refl, sym, _∙_}
 use Prim.Native.Nat.{_+_, _*_, _≤_}
 use native.Mathlib.Omega.{arith}
@@ -6,9 +7,6 @@ use Rattle.model.specs.Reading.{afterGroups}
 use Rattle.print.specs.WalkLaws.{after-end, after-next}
 use Rattle.print.proofs.groups_end.Statement.{statement}
 use Rattle.print.proofs.groups_end.Tie as tie
-use Rattle.print.proofs.groups_end.Reads as reads
-use Rattle.print.proofs.groups_end.Lts as lts
-use Rattle.print.proofs.next_group.Reads as next-group-reads
 
 abbrev Inv-loop : tie.InvT-loop
 Inv-loop file from k p₀ left₀ p left = (p + 131074 * left ≤ 8 + 131074 * k) × (afterGroups left (drop p file) ≡ afterGroups k (drop from file))
@@ -16,27 +14,21 @@ Inv-loop file from k p₀ left₀ p left = (p + 131074 * left ≤ 8 + 131074 * k
 abbrev μ-loop : tie.MeasureT-loop
 μ-loop file from k p₀ left₀ p left = left
 
--- src/lib.rt:163:5
 loop-holds : tie.Need-loop-holds Inv-loop μ-loop
 loop-holds c = (omega arith, refl)
 
--- src/lib.rt:164:9
 next-group-requires : tie.Need-next-group-requires Inv-loop μ-loop
 next-group-requires c κs = omega arith
 
--- src/lib.rt:165:9
 sub-left : tie.Need-sub-left Inv-loop μ-loop
 sub-left c = omega arith
 
--- src/lib.rt:163:5
 loop-less : tie.Need-loop-less Inv-loop μ-loop
 loop-less c = omega arith
 
--- src/lib.rt:163:5
 loop-again : tie.Need-loop-again Inv-loop μ-loop
 loop-again c = (omega arith, rw (c .next-group .ensures .0) (sym (after-next _ _ _ (c .before .loop-test .taken)) ∙ c .before .before .loop .inv .1))
 
--- src/lib.rt:157:1
 returns : tie.Need-returns Inv-loop μ-loop
 returns c = (after-end _ (c .loop-test .left) (c .before .loop .inv .1), omega arith)
 

@@ -1,36 +1,26 @@
-use Rattle.print.specs.SignedLaws.{kept-whole, turned-abs, turned-fits, turned-whole, wider}
-use mir.Facts.{toZ-ofZ}
+-- `print::magnitude` meets its contract.
 use mathlib.Core.Path.{ap}
 use lib.IntN.{natAbs}
-use mathlib.Core.Path.{_≡_}
-use Prim.Native.Nat.{ℕ}
-use borrow.Author.Needs.{needs}
+use mir.Facts.{toZ-ofZ}
+use Rattle.print.specs.SignedLaws.{kept-whole, turned-abs, turned-fits, turned-whole, wider}
 use Rattle.print.proofs.magnitude.Statement.{statement}
 use Rattle.print.proofs.magnitude.Tie as tie
-use Rattle.print.proofs.magnitude.Reads as reads
-use Rattle.print.proofs.magnitude.Lts as lts
 
--- src/lib.rt:41:21
 cast-result : tie.Need-cast-result
 cast-result c = wider _ (c .before .fits .x)
 
--- src/lib.rt:41:17
 sub-result : tie.Need-sub-result
 sub-result c = turned-fits _ (c .before .fits .x) (c .if1 .taken)
 
--- src/lib.rt:41:16
 cast-result-2 : tie.Need-cast-result-2
 cast-result-2 c = turned-whole _ (c .before .fits .x) (c .if1 .taken)
 
--- src/lib.rt:41:9
 returns : tie.Need-returns
 returns c = turned-abs _ (c .before .fits .x) (c .if1 .taken)
 
--- src/lib.rt:43:5
 cast-result-3 : tie.Need-cast-result-3
 cast-result-3 c = kept-whole _ (c .before .fits .x) (c .if1 .left)
 
--- src/lib.rt:37:1
 returns-2 : tie.Need-returns-2
 returns-2 c = ap natAbs (toZ-ofZ (c .before .fits .x))
 

@@ -1,3 +1,4 @@
+-- `print::put_members` meets its contract.
 use Prim.Native.Nat.{_+_, _*_, _≤_}
 use native.Mathlib.Omega.{arith}
 use lib.ListN.{drop}
@@ -7,10 +8,6 @@ use Rattle.print.specs.Lines.{memberTexts}
 use Rattle.print.specs.WalkLaws.{member-done, member-room, member-step}
 use Rattle.print.proofs.put_members.Statement.{statement}
 use Rattle.print.proofs.put_members.Tie as tie
-use Rattle.print.proofs.put_members.Reads as reads
-use Rattle.print.proofs.put_members.Lts as lts
-use Rattle.print.proofs.number_at.Reads as number-at-reads
-use Rattle.print.proofs.put_spaced.Reads as put-spaced-reads
 
 abbrev Inv-loop : tie.InvT-loop
 Inv-loop out₀ at file from k to₀ p₀ left₀ out to p left = (p + 2 * left ≤ from + 2 * k) × Left out₀ at (memberTexts k (drop from file)) out to (memberTexts left (drop p file))
@@ -18,39 +15,30 @@ Inv-loop out₀ at file from k to₀ p₀ left₀ out to p left = (p + 2 * left 
 abbrev μ-loop : tie.MeasureT-loop
 μ-loop out₀ at file from k to₀ p₀ left₀ out to p left = left
 
--- src/lib.rt:193:5
 loop-holds : tie.Need-loop-holds Inv-loop μ-loop
 loop-holds c = (omega arith, left-start _ _ _)
 
--- src/lib.rt:194:34
 number-at-requires : tie.Need-number-at-requires Inv-loop μ-loop
 number-at-requires c κs = omega arith
 
--- src/lib.rt:194:9
 put-spaced-requires : tie.Need-put-spaced-requires Inv-loop μ-loop
 put-spaced-requires c κs = member-room _ _ _ _ (c .before .before .loop-test .taken) (c .number-at .ensures .0) (c .before .before .before .loop .inv .1) (c .before .before .before .before .before .before .pre .1)
 
--- src/lib.rt:195:9
 add-p : tie.Need-add-p Inv-loop μ-loop
 add-p c = omega arith
 
--- src/lib.rt:196:9
 sub-left : tie.Need-sub-left Inv-loop μ-loop
 sub-left c = omega arith
 
--- src/lib.rt:193:5
 loop-less : tie.Need-loop-less Inv-loop μ-loop
 loop-less c = omega arith
 
--- src/lib.rt:193:5
 loop-again : tie.Need-loop-again Inv-loop μ-loop
 loop-again c = (omega arith, member-step _ _ _ _ (c .before .before .before .before .before .loop-test .taken) (c .before .before .before .number-at .ensures .0) (c .before .before .before .before .before .before .loop .inv .1) (c .before .before .put-spaced .ensures))
 
--- src/lib.rt:185:1
 same-length : tie.Need-same-length Inv-loop μ-loop
 same-length c = c .before .loop .inv .1 .size
 
--- src/lib.rt:185:1
 returns : tie.Need-returns Inv-loop μ-loop
 returns c = member-done _ _ (c .loop-test .left) (c .before .loop .inv .1)
 

@@ -1,40 +1,28 @@
+-- `print::release_lines` meets its contract.
 use mathlib.Core.List.{_++_}
 use native.Mathlib.Omega.{arith}
 use lib.ListN.{length, drop}
+use borrow.Author.Needs.{needs}
 use Rattle.model.specs.Program.{openLine}
 use Rattle.layout.specs.WroteLaws.{wrote-then}
-use Rattle.print.specs.Lines.{groupTexts, superedgeTexts}
 use Rattle.print.specs.LineLaws.{room-first, room-then}
+use Rattle.print.specs.Lines.{groupTexts, superedgeTexts}
 use Rattle.print.specs.WalkLaws.{file-text-is}
-use borrow.Author.Needs.{needs}
 use Rattle.print.proofs.release_lines.Statement.{statement}
 use Rattle.print.proofs.release_lines.Tie as tie
-use Rattle.print.proofs.release_lines.Reads as reads
-use Rattle.print.proofs.release_lines.Lts as lts
-use Rattle.print.proofs.count_superedges.Reads as count-superedges-reads
-use Rattle.print.proofs.group_lines.Reads as group-lines-reads
-use Rattle.print.proofs.groups_end.Reads as groups-end-reads
-use Rattle.print.proofs.number_at.Reads as number-at-reads
-use Rattle.print.proofs.open_line.Reads as open-line-reads
-use Rattle.print.proofs.superedge_lines.Reads as superedge-lines-reads
 
--- src/lib.rt:260:9
 number-at-requires : tie.Need-number-at-requires
 number-at-requires c κs = search needs
 
--- src/lib.rt:261:9
 groups-end-requires : tie.Need-groups-end-requires
 groups-end-requires c κs = search needs
 
--- src/lib.rt:262:37
 number-at-requires-2 : tie.Need-number-at-requires-2
 number-at-requires-2 c κs = search needs
 
--- src/lib.rt:262:60
 count-superedges-requires : tie.Need-count-superedges-requires
 count-superedges-requires c κs = search needs
 
--- src/lib.rt:262:9
 open-line-requires : tie.Need-open-line-requires
 open-line-requires c κs = let f = c .before .before .before .before .before .before .before .args .file .now in
     let g = c .before .before .before .before .number-at in
@@ -42,7 +30,6 @@ open-line-requires c κs = let f = c .before .before .before .before .before .be
     let r = rw (file-text-is f _ _ _ (p .result) (c .before .number-at2 .ensures .0) (g .ensures .0) (p .ensures .0) (c .count-superedges .ensures)) at (c .before .before .before .before .before .before .before .pre) in
     room-first (openLine (c .before .number-at2 .result) (g .result) (c .count-superedges .result)) (groupTexts (g .result) (drop 8 f) ++ superedgeTexts (length f) (drop (p .result) f)) _ _ r
 
--- src/lib.rt:263:9
 group-lines-requires : tie.Need-group-lines-requires
 group-lines-requires c κs = let f = c .before .before .before .before .before .before .before .before .before .before .before .args .file .now in
     let g = c .before .before .before .before .before .before .before .before .number-at in
@@ -53,7 +40,6 @@ group-lines-requires c κs = let f = c .before .before .before .before .before .
           (room-then (c .before .before .before .open-line .ensures) (groupTexts (g .result) (drop 8 f) ++ superedgeTexts (length f) (drop (p .result) f)) r),
     )
 
--- src/lib.rt:264:5
 superedge-lines-requires : tie.Need-superedge-lines-requires
 superedge-lines-requires c κs = let f = c .before .before .before .before .before .before .before .before .before .before .before .before .before .before .before .args .file .now in
     let g = c .before .before .before .before .before .before .before .before .before .before .before .before .number-at in
@@ -64,11 +50,9 @@ superedge-lines-requires c κs = let f = c .before .before .before .before .befo
           (room-then (c .before .before .before .before .before .before .before .open-line .ensures) (groupTexts (g .result) (drop 8 f) ++ superedgeTexts (length f) (drop (p .result) f)) r),
     )
 
--- src/lib.rt:256:1
 same-length : tie.Need-same-length
 same-length c = search needs
 
--- src/lib.rt:256:1
 returns : tie.Need-returns
 returns c = let f = c .before .before .before .before .before .before .before .before .before .before .before .before .before .before .before .before .before .before .args .file .now in
     let g = c .before .before .before .before .before .before .before .before .before .before .before .before .before .before .before .number-at in

@@ -1,3 +1,4 @@
+-- `text::find` meets its contract.
 use mathlib.Core.Path.{_≡_}
 use Prim.Native.Nat.{_+_, _-_, _≤_}
 use native.Mathlib.Omega.{arith}
@@ -6,8 +7,6 @@ use Rattle.text.specs.Grammar.{upTo}
 use Rattle.text.specs.PieceLaws.{find-end, find-here, find-next}
 use Rattle.text.proofs.find.Statement.{statement}
 use Rattle.text.proofs.find.Tie as tie
-use Rattle.text.proofs.find.Reads as reads
-use Rattle.text.proofs.find.Lts as lts
 
 abbrev Inv-loop : tie.InvT-loop
 Inv-loop s separator i₀ i = (i ≤ length s) × (i + upTo separator (drop i s) ≡ upTo separator s)
@@ -15,31 +14,24 @@ Inv-loop s separator i₀ i = (i ≤ length s) × (i + upTo separator (drop i s)
 abbrev μ-loop : tie.MeasureT-loop
 μ-loop s separator i₀ i = length s - i
 
--- src/lib.rt:33:5
 loop-holds : tie.Need-loop-holds Inv-loop μ-loop
 loop-holds c = (omega arith, omega arith)
 
--- src/lib.rt:34:12
 shared-slice-read-if1 : tie.Need-shared-slice-read-if1 Inv-loop μ-loop
 shared-slice-read-if1 c = omega arith
 
--- src/lib.rt:35:13
 returns : tie.Need-returns Inv-loop μ-loop
 returns c = find-here _ (c .before .before .before .before .args .s .now) _ (c .before .before .loop-test .taken) (c .if1 .taken) (c .before .before .before .loop .inv .1)
 
--- src/lib.rt:37:9
 add-i : tie.Need-add-i Inv-loop μ-loop
 add-i c = omega arith
 
--- src/lib.rt:33:5
 loop-less : tie.Need-loop-less Inv-loop μ-loop
 loop-less c = omega arith
 
--- src/lib.rt:33:5
 loop-again : tie.Need-loop-again Inv-loop μ-loop
 loop-again c = (omega arith, find-next _ (c .before .before .before .before .args .s .now) _ (c .before .before .loop-test .taken) (c .if1 .left) (c .before .before .before .loop .inv .1))
 
--- src/lib.rt:29:1
 returns-2 : tie.Need-returns-2 Inv-loop μ-loop
 returns-2 c = find-end _ (c .before .before .args .s .now) _ (c .loop-test .left) (c .before .loop .inv .1)
 

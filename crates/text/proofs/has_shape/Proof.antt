@@ -1,27 +1,21 @@
-use Rattle.text.specs.NumberLaws.{shape-long, shape-more, shape-none, shape-one}
+-- `text::has_shape` meets its contract.
 use borrow.Author.Needs.{needs}
+use Rattle.text.specs.NumberLaws.{shape-long, shape-more, shape-none, shape-one}
 use Rattle.text.proofs.has_shape.Statement.{statement}
 use Rattle.text.proofs.has_shape.Tie as tie
-use Rattle.text.proofs.has_shape.Reads as reads
-use Rattle.text.proofs.has_shape.Lts as lts
 
--- src/lib.rt:60:9
 returns : tie.Need-returns
 returns c = shape-none (c .before .args .s .now) (c .if1 .taken)
 
--- src/lib.rt:63:9
 returns-2 : tie.Need-returns-2
 returns-2 c = shape-long (c .before .before .args .s .now) (c .if2 .taken)
 
--- src/lib.rt:66:9
 returns-3 : tie.Need-returns-3
 returns-3 c = shape-one (c .before .before .before .args .s .now) (c .if3 .taken)
 
--- src/lib.rt:68:5
 shared-slice-read-result : tie.Need-shared-slice-read-result
 shared-slice-read-result c = search needs
 
--- src/lib.rt:56:1
 returns-4 : tie.Need-returns-4
 returns-4 c = shape-more (c .before .before .before .before .args .s .now) (c .before .before .before .if1 .left) (c .before .before .if2 .left) (c .before .if3 .left)
 

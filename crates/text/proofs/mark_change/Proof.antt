@@ -1,23 +1,18 @@
-use Rattle.text.specs.LineLaws.{mark-none, mark-one}
+-- `text::mark_change` meets its contract.
 use borrow.Author.Needs.{needs}
+use Rattle.text.specs.LineLaws.{mark-none, mark-one}
 use Rattle.text.proofs.mark_change.Statement.{statement}
 use Rattle.text.proofs.mark_change.Tie as tie
-use Rattle.text.proofs.mark_change.Reads as reads
-use Rattle.text.proofs.mark_change.Lts as lts
 
--- src/lib.rt:111:23
 enum-known-first : tie.Need-enum-known-first
 enum-known-first c = search needs
 
--- src/lib.rt:112:9
 enum-told : tie.Need-enum-told
 enum-told c = search needs
 
--- src/lib.rt:112:9
 returns : tie.Need-returns
 returns c = mark-none _ (c .enum-told .given .1)
 
--- src/lib.rt:108:1
 returns-2 : tie.Need-returns-2
 returns-2 c = mark-one _ _ (c .before .first .given .1)
 

@@ -1,53 +1,41 @@
+-- `text::put_change` meets its contract.
 use native.Mathlib.Omega.{arith}
 use lib.ListN.{length-set}
-use Rattle.text.specs.ParseLaws.{three-wrote}
 use borrow.Author.Needs.{needs}
+use Rattle.text.specs.ParseLaws.{three-wrote}
 use Rattle.text.proofs.put_change.Statement.{statement}
 use Rattle.text.proofs.put_change.Tie as tie
-use Rattle.text.proofs.put_change.Reads as reads
-use Rattle.text.proofs.put_change.Lts as lts
 
--- src/lib.rt:160:14
 mul-at : tie.Need-mul-at
 mul-at c = search needs
 
--- src/lib.rt:161:5
 mul-batch : tie.Need-mul-batch
 mul-batch c = search needs
 
--- src/lib.rt:161:5
 slice-write-batch : tie.Need-slice-write-batch
 slice-write-batch c = search needs
 
--- src/lib.rt:162:11
 add-batch : tie.Need-add-batch
 add-batch c = search needs
 
--- src/lib.rt:162:5
 mul-batch-2 : tie.Need-mul-batch-2
 mul-batch-2 c = search needs
 
--- src/lib.rt:162:5
 slice-write-batch-2 : tie.Need-slice-write-batch-2
 slice-write-batch-2 c = simp length-set (omega arith)
 
--- src/lib.rt:163:11
 add-batch-2 : tie.Need-add-batch-2
 add-batch-2 c = search needs
 
--- src/lib.rt:163:5
 mul-batch-3 : tie.Need-mul-batch-3
 mul-batch-3 c = search needs
 
--- src/lib.rt:163:5
 slice-write-batch-3 : tie.Need-slice-write-batch-3
 slice-write-batch-3 c = simp length-set (omega arith)
 
--- src/lib.rt:156:1
 same-length : tie.Need-same-length
 same-length c = search needs
 
--- src/lib.rt:156:1
 returns : tie.Need-returns
 returns c = three-wrote _ _ _ _ _
 

@@ -1,112 +1,83 @@
+-- `text::read_line` meets its contract.
 use native.Mathlib.Omega.{arith}
+use borrow.Author.Needs.{needs}
 use Rattle.text.specs.LineLaws.{line-not, line-o, line-other, line-short, line-t, line-u, line-w}
 use Rattle.text.specs.PieceLaws.{upTo-le}
-use borrow.Author.Needs.{needs}
 use Rattle.text.proofs.read_line.Statement.{statement}
 use Rattle.text.proofs.read_line.Tie as tie
-use Rattle.text.proofs.read_line.Reads as reads
-use Rattle.text.proofs.read_line.Lts as lts
-use Rattle.text.proofs.edge_line.Reads as edge-line-reads
-use Rattle.text.proofs.find.Reads as find-reads
-use Rattle.text.proofs.mark_line.Reads as mark-line-reads
 
--- src/lib.rt:139:8
 find-requires : tie.Need-find-requires
 find-requires c κs = search needs
 
--- src/lib.rt:140:9
 returns : tie.Need-returns
 returns c = line-not _ (c .before .before .before .args .s .now) (c .before .find .ensures) (c .if1 .taken)
 
--- src/lib.rt:143:9
 returns-2 : tie.Need-returns-2
 returns-2 c = line-short _ (c .before .before .before .before .args .s .now) (c .before .before .find .ensures) (c .before .if1 .left) (c .if2 .taken)
 
--- src/lib.rt:145:18
 shared-slice-read-letter : tie.Need-shared-slice-read-letter
 shared-slice-read-letter c = omega (arith, c .before .before .before .find .ensures, upTo-le 0x20 (c .before .before .before .before .before .args .s .now))
 
--- src/lib.rt:147:30
 sub-edge-line : tie.Need-sub-edge-line
 sub-edge-line c = omega (arith, c .before .before .before .before .find .ensures, upTo-le 0x20 (c .before .before .before .before .before .before .args .s .now))
 
--- src/lib.rt:147:30
 part-edge-line-start : tie.Need-part-edge-line-start
 part-edge-line-start c = omega (arith, c .before .before .before .before .find .ensures, upTo-le 0x20 (c .before .before .before .before .before .before .args .s .now))
 
--- src/lib.rt:147:30
 part-edge-line-end : tie.Need-part-edge-line-end
 part-edge-line-end c = search needs
 
--- src/lib.rt:147:17
 edge-line-requires : tie.Need-edge-line-requires
 edge-line-requires c κs = search needs
 
--- src/lib.rt:148:30
 sub-edge-line-2 : tie.Need-sub-edge-line-2
 sub-edge-line-2 c = omega (arith, c .before .before .before .before .find .ensures, upTo-le 0x20 (c .before .before .before .before .before .before .args .s .now))
 
--- src/lib.rt:148:30
 part-edge-line-start-2 : tie.Need-part-edge-line-start-2
 part-edge-line-start-2 c = omega (arith, c .before .before .before .before .find .ensures, upTo-le 0x20 (c .before .before .before .before .before .before .args .s .now))
 
--- src/lib.rt:148:30
 part-edge-line-end-2 : tie.Need-part-edge-line-end-2
 part-edge-line-end-2 c = search needs
 
--- src/lib.rt:148:17
 edge-line-requires-2 : tie.Need-edge-line-requires-2
 edge-line-requires-2 c κs = search needs
 
--- src/lib.rt:149:30
 sub-mark-line : tie.Need-sub-mark-line
 sub-mark-line c = omega (arith, c .before .before .before .before .find .ensures, upTo-le 0x20 (c .before .before .before .before .before .before .args .s .now))
 
--- src/lib.rt:149:30
 part-mark-line-start : tie.Need-part-mark-line-start
 part-mark-line-start c = omega (arith, c .before .before .before .before .find .ensures, upTo-le 0x20 (c .before .before .before .before .before .before .args .s .now))
 
--- src/lib.rt:149:30
 part-mark-line-end : tie.Need-part-mark-line-end
 part-mark-line-end c = search needs
 
--- src/lib.rt:149:17
 mark-line-requires : tie.Need-mark-line-requires
 mark-line-requires c κs = search needs
 
--- src/lib.rt:150:30
 sub-mark-line-2 : tie.Need-sub-mark-line-2
 sub-mark-line-2 c = omega (arith, c .before .before .before .before .find .ensures, upTo-le 0x20 (c .before .before .before .before .before .before .args .s .now))
 
--- src/lib.rt:150:30
 part-mark-line-start-2 : tie.Need-part-mark-line-start-2
 part-mark-line-start-2 c = omega (arith, c .before .before .before .before .find .ensures, upTo-le 0x20 (c .before .before .before .before .before .before .args .s .now))
 
--- src/lib.rt:150:30
 part-mark-line-end-2 : tie.Need-part-mark-line-end-2
 part-mark-line-end-2 c = search needs
 
--- src/lib.rt:150:17
 mark-line-requires-2 : tie.Need-mark-line-requires-2
 mark-line-requires-2 c κs = search needs
 
--- src/lib.rt:136:1
 returns-3 : tie.Need-returns-3
 returns-3 c = line-t _ (c .before .before .before .before .before .before .before .before .args .s .now) (c .before .before .before .before .before .before .find .ensures) (c .before .before .before .before .before .if1 .left) (c .before .before .before .before .if2 .left) (c .before .before .match .keys1) (c .edge-line .ensures)
 
--- src/lib.rt:136:1
 returns-4 : tie.Need-returns-4
 returns-4 c = line-u _ (c .before .before .before .before .before .before .before .before .args .s .now) (c .before .before .before .before .before .before .find .ensures) (c .before .before .before .before .before .if1 .left) (c .before .before .before .before .if2 .left) (c .before .before .match .keys2) (c .edge-line2 .ensures)
 
--- src/lib.rt:136:1
 returns-5 : tie.Need-returns-5
 returns-5 c = line-w _ (c .before .before .before .before .before .before .before .before .args .s .now) (c .before .before .before .before .before .before .find .ensures) (c .before .before .before .before .before .if1 .left) (c .before .before .before .before .if2 .left) (c .before .before .match .keys3) (c .mark-line .ensures)
 
--- src/lib.rt:136:1
 returns-6 : tie.Need-returns-6
 returns-6 c = line-o _ (c .before .before .before .before .before .before .before .before .args .s .now) (c .before .before .before .before .before .before .find .ensures) (c .before .before .before .before .before .if1 .left) (c .before .before .before .before .if2 .left) (c .before .before .match .keys4) (c .mark-line2 .ensures)
 
--- src/lib.rt:136:1
 returns-7 : tie.Need-returns-7
 returns-7 c = line-other _ (c .before .before .before .before .before .before .args .s .now) (c .before .before .before .before .find .ensures) (c .before .before .before .if1 .left) (c .before .before .if2 .left) (c .match .rest .0 .0 .0 .1) (c .match .rest .0 .0 .1) (c .match .rest .0 .1) (c .match .rest .1)
 

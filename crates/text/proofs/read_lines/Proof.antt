@@ -1,17 +1,13 @@
+-- `text::read_lines` meets its contract.
 use Prim.Native.Nat.{_-_}
 use native.Mathlib.Omega.{arith}
-use borrow.Author.Needs.{needs}
 use lib.ListN.{length, drop}
+use borrow.Author.Needs.{needs}
 use Rattle.model.specs.Program.{linesFrom, pieces}
 use Rattle.layout.specs.WroteLaws.{wrote-length}
 use Rattle.text.specs.ParseLaws.{Reading, end-within, reading-done, reading-ill, reading-open, reading-over, reading-start, reading-step}
 use Rattle.text.proofs.read_lines.Statement.{statement}
 use Rattle.text.proofs.read_lines.Tie as tie
-use Rattle.text.proofs.read_lines.Reads as reads
-use Rattle.text.proofs.read_lines.Lts as lts
-use Rattle.text.proofs.find.Reads as find-reads
-use Rattle.text.proofs.put_change.Reads as put-change-reads
-use Rattle.text.proofs.read_line.Reads as read-line-reads
 
 abbrev Inv-loop : tie.InvT-loop
 Inv-loop input from n batch₀ at₀ count₀ batch at count = Reading input batch₀ batch (linesFrom n 2 (pieces 0x0A (drop from input))) n at count
@@ -19,115 +15,87 @@ Inv-loop input from n batch₀ at₀ count₀ batch at count = Reading input bat
 abbrev μ-loop : tie.MeasureT-loop
 μ-loop input from n batch₀ at₀ count₀ batch at count = length input - at
 
--- src/lib.rt:173:5
 loop-holds : tie.Need-loop-holds Inv-loop μ-loop
 loop-holds c = reading-start _ _ _ _ (c .before .before .pre .0) (c .before .before .pre .1)
 
--- src/lib.rt:174:29
 sub-find : tie.Need-sub-find Inv-loop μ-loop
 sub-find c = omega arith
 
--- src/lib.rt:174:29
 part-find-start : tie.Need-part-find-start Inv-loop μ-loop
 part-find-start c = omega arith
 
--- src/lib.rt:174:29
 part-find-end : tie.Need-part-find-end Inv-loop μ-loop
 part-find-end c = search needs
 
--- src/lib.rt:174:24
 find-requires : tie.Need-find-requires Inv-loop μ-loop
 find-requires c κs = search needs
 
--- src/lib.rt:174:19
 add-end : tie.Need-add-end Inv-loop μ-loop
 add-end c = omega (arith, end-within (c .before .before .before .before .before .before .args .input .now) _ _ (c .before .before .before .loop .inv .within) (c .find .ensures))
 
--- src/lib.rt:176:44
 add-t18 : tie.Need-add-t18 Inv-loop μ-loop
 add-t18 c = omega arith
 
--- src/lib.rt:176:13
 same-length : tie.Need-same-length Inv-loop μ-loop
 same-length c = wrote-length (c .before .before .before .before .loop .inv .wrote)
 
--- src/lib.rt:176:13
 returns : tie.Need-returns Inv-loop μ-loop
 returns c = reading-open (c .before .before .before .before .loop .inv) _ (c .before .before .before .loop-test .taken) (c .before .find .ensures) (c .if1 .taken)
 
--- src/lib.rt:179:44
 add-t19 : tie.Need-add-t19 Inv-loop μ-loop
 add-t19 c = omega arith
 
--- src/lib.rt:179:13
 same-length-2 : tie.Need-same-length-2 Inv-loop μ-loop
 same-length-2 c = wrote-length (c .before .before .before .before .before .loop .inv .wrote)
 
--- src/lib.rt:179:13
 returns-2 : tie.Need-returns-2 Inv-loop μ-loop
 returns-2 c = reading-over (c .before .before .before .before .before .loop .inv) _ (c .before .before .find .ensures) (c .before .if1 .left) (c .if2 .taken)
 
--- src/lib.rt:181:30
 sub-read-line : tie.Need-sub-read-line Inv-loop μ-loop
 sub-read-line c = omega arith
 
--- src/lib.rt:181:30
 part-read-line-start : tie.Need-part-read-line-start Inv-loop μ-loop
 part-read-line-start c = omega arith
 
--- src/lib.rt:181:30
 part-read-line-end : tie.Need-part-read-line-end Inv-loop μ-loop
 part-read-line-end c = omega (arith, end-within (c .before .before .before .before .before .before .before .before .args .input .now) _ _ (c .before .before .before .before .before .loop .inv .within) (c .before .before .find .ensures))
 
--- src/lib.rt:181:13
 read-line-requires : tie.Need-read-line-requires Inv-loop μ-loop
 read-line-requires c κs = search needs
 
--- src/lib.rt:182:28
 enum-known-line : tie.Need-enum-known-line Inv-loop μ-loop
 enum-known-line c = c .match .keys1
 
--- src/lib.rt:183:44
 enum-told : tie.Need-enum-told Inv-loop μ-loop
 enum-told c = c .match .keys2
 
--- src/lib.rt:183:44
 add-t23 : tie.Need-add-t23 Inv-loop μ-loop
 add-t23 c = omega arith
 
--- src/lib.rt:183:13
 same-length-3 : tie.Need-same-length-3 Inv-loop μ-loop
 same-length-3 c = wrote-length (c .before .before .before .before .before .before .before .before .before .loop .inv .wrote)
 
--- src/lib.rt:183:13
 returns-3 : tie.Need-returns-3 Inv-loop μ-loop
 returns-3 c = reading-ill (c .before .before .before .before .before .before .before .before .before .loop .inv) _ (c .before .before .before .before .before .before .find .ensures) (c .before .before .before .before .before .if1 .left) (c .before .before .read-line .ensures) (c .enum-told .given .1)
 
--- src/lib.rt:185:9
 put-change-requires : tie.Need-put-change-requires Inv-loop μ-loop
 put-change-requires c κs = omega (arith, wrote-length (c .before .before .before .before .before .before .before .before .before .before .before .loop .inv .wrote), c .before .before .before .before .before .before .before .before .before .before .before .loop .inv .few, c .before .before .before .before .before .before .if2 .left)
 
--- src/lib.rt:186:9
 add-count : tie.Need-add-count Inv-loop μ-loop
 add-count c = omega (arith, c .before .before .before .before .before .before .before .before .before .before .before .before .before .before .loop .inv .few)
 
--- src/lib.rt:187:14
 add-at : tie.Need-add-at Inv-loop μ-loop
 add-at c = omega (arith, end-within (c .before .before .before .before .before .before .before .before .before .before .before .before .before .before .before .before .before .args .input .now) _ _ (c .before .before .before .before .before .before .before .before .before .before .before .before .before .before .loop .inv .within) (c .before .before .before .before .before .before .before .before .before .before .before .find .ensures), c .before .before .before .before .before .before .before .before .before .before .if1 .left)
 
--- src/lib.rt:173:5
 loop-less : tie.Need-loop-less Inv-loop μ-loop
 loop-less c = omega (arith, end-within (c .before .before .before .before .before .before .before .before .before .before .before .before .before .before .before .before .before .args .input .now) _ _ (c .before .before .before .before .before .before .before .before .before .before .before .before .before .before .loop .inv .within) (c .before .before .before .before .before .before .before .before .before .before .before .find .ensures), c .before .before .before .before .before .before .before .before .before .before .if1 .left, c .before .before .before .before .before .before .before .before .before .before .before .before .before .loop-test .taken)
 
--- src/lib.rt:173:5
 loop-again : tie.Need-loop-again Inv-loop μ-loop
 loop-again c = reading-step (c .before .before .before .before .before .before .before .before .before .before .before .before .before .before .loop .inv) _ _ _ _ (c .before .before .before .before .before .before .before .before .before .before .before .find .ensures) (c .before .before .before .before .before .before .before .before .before .before .if1 .left) (c .before .before .before .before .before .before .before .before .before .if2 .left) (c .before .before .before .before .before .before .before .read-line .ensures) (c .before .before .before .before .before .line .given .1) (c .before .before .put-change .ensures)
 
--- src/lib.rt:167:1
 same-length-4 : tie.Need-same-length-4 Inv-loop μ-loop
 same-length-4 c = wrote-length (c .before .loop .inv .wrote)
 
--- src/lib.rt:167:1
 returns-4 : tie.Need-returns-4 Inv-loop μ-loop
 returns-4 c = reading-done (c .before .loop .inv) (c .loop-test .left)
 

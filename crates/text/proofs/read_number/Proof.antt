@@ -1,16 +1,13 @@
+-- `text::read_number` meets its contract.
 use mathlib.Core.Path.{sym, _∙_}
 use Prim.Native.Nat.{_-_}
 use native.Mathlib.Omega.{arith}
+use lib.ListN.{length}
 use borrow.Author.Needs.{needs}
 use borrow.Author.Tests.{not-false, not-true}
-use lib.ListN.{length}
 use Rattle.text.specs.NumberLaws.{Digits, digits-start, digits-step, number-done, number-large, number-other, number-shapeless}
 use Rattle.text.proofs.read_number.Statement.{statement}
 use Rattle.text.proofs.read_number.Tie as tie
-use Rattle.text.proofs.read_number.Reads as reads
-use Rattle.text.proofs.read_number.Lts as lts
-use Rattle.text.proofs.digit.Reads as digit-reads
-use Rattle.text.proofs.has_shape.Reads as has-shape-reads
 
 abbrev Inv-loop : tie.InvT-loop
 Inv-loop s value₀ i₀ value i = Digits s value i
@@ -18,59 +15,45 @@ Inv-loop s value₀ i₀ value i = Digits s value i
 abbrev μ-loop : tie.MeasureT-loop
 μ-loop s value₀ i₀ value i = length s - i
 
--- src/lib.rt:75:9
 has-shape-requires : tie.Need-has-shape-requires Inv-loop μ-loop
 has-shape-requires c κs = search needs
 
--- src/lib.rt:76:9
 returns : tie.Need-returns Inv-loop μ-loop
 returns c = number-shapeless _ (sym (c .before .has-shape .ensures) ∙ not-true _ (c .if1 .taken))
 
--- src/lib.rt:80:5
 loop-holds : tie.Need-loop-holds Inv-loop μ-loop
 loop-holds c = digits-start _
 
--- src/lib.rt:81:23
 shared-slice-read-digit : tie.Need-shared-slice-read-digit Inv-loop μ-loop
 shared-slice-read-digit c = omega arith
 
--- src/lib.rt:81:13
 digit-requires : tie.Need-digit-requires Inv-loop μ-loop
 digit-requires c κs = search needs
 
--- src/lib.rt:83:13
 returns-2 : tie.Need-returns-2 Inv-loop μ-loop
 returns-2 c = number-other _ (c .before .before .before .before .loop .inv) (c .before .before .before .loop-test .taken) (c .before .digit .ensures) (c .if2 .taken)
 
--- src/lib.rt:85:17
 mul-value : tie.Need-mul-value Inv-loop μ-loop
 mul-value c = omega arith
 
--- src/lib.rt:85:17
 add-value : tie.Need-add-value Inv-loop μ-loop
 add-value c = omega arith
 
--- src/lib.rt:87:13
 returns-3 : tie.Need-returns-3 Inv-loop μ-loop
 returns-3 c = number-large _ (c .before .before .before .before .before .loop .inv) (c .before .before .before .before .loop-test .taken) (c .before .before .digit .ensures) (c .before .if2 .left) (c .if3 .taken)
 
--- src/lib.rt:89:9
 add-i : tie.Need-add-i Inv-loop μ-loop
 add-i c = omega arith
 
--- src/lib.rt:80:5
 loop-less : tie.Need-loop-less Inv-loop μ-loop
 loop-less c = omega arith
 
--- src/lib.rt:80:5
 loop-again : tie.Need-loop-again Inv-loop μ-loop
 loop-again c = digits-step _ (c .before .before .before .before .before .loop .inv) (c .before .before .before .before .loop-test .taken) (c .before .before .digit .ensures) (c .before .if2 .left) (c .if3 .left)
 
--- src/lib.rt:91:19
 cast-t11 : tie.Need-cast-t11 Inv-loop μ-loop
 cast-t11 c = omega arith
 
--- src/lib.rt:72:1
 returns-4 : tie.Need-returns-4 Inv-loop μ-loop
 returns-4 c = number-done (c .before .loop .inv) (c .loop-test .left) (sym (c .before .before .before .has-shape .ensures) ∙ not-false _ (c .before .before .if1 .left))
 
