@@ -3,7 +3,7 @@ use mathlib.Core.Path.{_≡_, refl, sym, ap, _∙_}
 use mathlib.Core.Bool.{Bool, true, false, _&&_, cond, and-false}
 use mathlib.Core.List.{List, [], _∷_}
 use mathlib.Core.Logic.{_⊎_, inl, inr}
-use Prim.Native.Nat.{ℕ, suc, _+_, _-_, _≤_, _<_}
+use Prim.Native.Nat.{ℕ, suc, _+_, _-_, _<_}
 use native.Mathlib.Omega.{arith}
 use lib.Dec.{eqb, leb, ltb, eqb·suc-suc}
 use lib.ListN.{length, getD, take, drop, length-drop, length-take}
@@ -18,7 +18,7 @@ use Rattle.text.specs.declared.Number.{Number}
 use Rattle.text.specs.declared.Number.the-variants.{Value, NoNumber}
 use Rattle.text.specs.Grammar.{edgeChange, lineIn, markChange, numberOf, upTo}
 use Rattle.text.specs.NumberLaws.{number-digits}
-use Rattle.text.specs.PieceLaws.{pieces-more, pieces-one, upTo-le}
+use Rattle.text.specs.PieceLaws.{pieces-length, pieces-more, pieces-one, upTo-le}
 
 -- the part of a slice from k on is all that follows
 pub part-from : (k : ℕ) (s : List ℕ) → take (length s - k) (drop k s) ≡ drop k s
@@ -56,13 +56,6 @@ digits-spaceless (b ∷ bs) h =
 number-alone : (s : List ℕ) → isNumber s ≡ true → pieces 0x20 s ≡ s ∷ []
 number-alone s h = pieces-one 0x20 s (digits-spaceless s (number-digits s h))
 
-some-piece : (s : List ℕ) → 1 ≤ length (pieces 0x20 s)
-some-piece s = go (decide (ltb (upTo 0x20 s) (length s)))
-  where
-    go : (ltb (upTo 0x20 s) (length s) ≡ true) ⊎ (ltb (upTo 0x20 s) (length s) ≡ false) → 1 ≤ length (pieces 0x20 s)
-    go (inl t) = rw (pieces-more 0x20 s (ltb-true (upTo 0x20 s) (length s) t)) (omega arith)
-    go (inr t) = rw (pieces-one 0x20 s (omega (arith, upTo-le 0x20 s, ltb-false (upTo 0x20 s) (length s) t))) (omega arith)
-
 -- one field that is a number, exactly if the whole is a number
 one-field : (s : List ℕ) → (eqb (length (pieces 0x20 s)) 1 && isNumber (field (pieces 0x20 s) 0)) ≡ isNumber s
 one-field s = go (decide (ltb (upTo 0x20 s) (length s))) (decide (isNumber s))
@@ -70,7 +63,7 @@ one-field s = go (decide (ltb (upTo 0x20 s) (length s))) (decide (isNumber s))
     go : (ltb (upTo 0x20 s) (length s) ≡ true) ⊎ (ltb (upTo 0x20 s) (length s) ≡ false) → (isNumber s ≡ true) ⊎ (isNumber s ≡ false) → (eqb (length (pieces 0x20 s)) 1 && isNumber (field (pieces 0x20 s) 0)) ≡ isNumber s
     go t (inl n) = rw (number-alone s n)
     go (inr t) (inr n) = rw (pieces-one 0x20 s (omega (arith, upTo-le 0x20 s, ltb-false (upTo 0x20 s) (length s) t)))
-    go (inl t) (inr n) = rw (pieces-more 0x20 s (ltb-true (upTo 0x20 s) (length s) t), ne-eqb (suc (length (pieces 0x20 (drop (upTo 0x20 s + 1) s)))) 1 (λ e. omega (arith, some-piece (drop (upTo 0x20 s + 1) s)))) (sym n)
+    go (inl t) (inr n) = rw (pieces-more 0x20 s (ltb-true (upTo 0x20 s) (length s) t), ne-eqb (suc (length (pieces 0x20 (drop (upTo 0x20 s + 1) s)))) 1 (λ e. omega (arith, pieces-length 0x20 (drop (upTo 0x20 s + 1) s)))) (sym n)
 
 -- two numbers after the letter
 pub edge-by : (kind u : ℕ) (s : List ℕ) → u ≡ upTo 0x20 s → (u ≡ length s → ⊥) → lineIn (edgeChange kind (numberOf (take u s)) (numberOf (drop (u + 1) s))) ≡ edgeLine kind ([] ∷ pieces 0x20 s)

@@ -5,11 +5,12 @@ use mathlib.Core.List.{List, [], _∷_, _++_, append-assoc, append-nil}
 use mathlib.Core.Logic.{_⊎_, inl, inr}
 use Prim.Native.Nat.{ℕ, suc, _+_, _*_, _-_, _≤_, _<_}
 use native.Mathlib.Omega.{arith}
-use lib.Dec.{leb, ltb}
+use lib.Dec.{leb}
 use lib.ListN.{length, take, drop, set, length-append, length-drop, drop-of-length-le}
 use lib.Seq.{drop-drop, drop-set-lt, sets, sets-eq, take-at}
-use borrow.Author.Tests.{le-leb, le-ltb, lt-leb, lt-ltb, ltb-false, ltb-true, ne-eqb}
-use Rattle.model.specs.Program.{Input, Line as ModelLine, accepted, change, firstLine, illFormed, inputOf, isCount, isNone, isNumber, lineOf, linesFrom, pieces, refusedAt, valueOf, withLine, withUpdate}
+use borrow.Author.Tests.{le-leb, le-ltb, lt-leb, lt-ltb, ne-eqb}
+use Rattle.model.specs.Graph.{maxNodes, maxUpdates}
+use Rattle.model.specs.Program.{Input, Line as ModelLine, accepted, change, firstLine, illFormed, inputOf, isCount, isNone, isNumber, lineOf, linesFrom, maxBytes, pieces, refusedAt, valueOf, withLine, withUpdate}
 use Rattle.model.specs.TestLaws.{decide}
 use Rattle.model.specs.Updates.{Update, inThrees}
 use Rattle.layout.specs.Wrote.{Wrote}
@@ -22,15 +23,7 @@ use Rattle.text.specs.declared.Parsed.{Parsed}
 use Rattle.text.specs.declared.Parsed.the-variants.{Accepted, Refused}
 use Rattle.text.specs.Grammar.{Told, inputIn, lineIn, numberOf, upTo, used}
 use Rattle.text.specs.LineLaws.{part-from}
-use Rattle.text.specs.PieceLaws.{pieces-more, pieces-one, upTo-le}
-
-some-piece : (s : List ℕ) → isNone (pieces 0x0A s) ≡ false
-unfolding isNone
-some-piece s = go (decide (ltb (upTo 0x0A s) (length s)))
-  where
-    go : (ltb (upTo 0x0A s) (length s) ≡ true) ⊎ (ltb (upTo 0x0A s) (length s) ≡ false) → isNone (pieces 0x0A s) ≡ false
-    go (inl t) = rw (pieces-more 0x0A s (ltb-true (upTo 0x0A s) (length s) t))
-    go (inr t) = rw (pieces-one 0x0A s (omega (arith, upTo-le 0x0A s, ltb-false (upTo 0x0A s) (length s) t)))
+use Rattle.text.specs.PieceLaws.{pieces-more, pieces-one, pieces-some, upTo-le}
 
 -- changes as numbers, three for each
 unfoldable pub numbers : List Update → List ℕ
@@ -75,14 +68,14 @@ drop-sets (b ∷ bs) s at k h = drop-sets bs (set s at b) (suc at) k (omega arit
 -- the changes of the lines before `at` are in the batch, and the lines from there on are still to be read
 pub record Reading (input before after : List ℕ) (all : Input) (n at count : ℕ) : Type 0 where
   pub within : at ≤ length input
-  pub few : count ≤ 4096
-  pub room : 12288 ≤ length before
+  pub few : count ≤ maxUpdates
+  pub room : 3 * maxUpdates ≤ length before
   pub changes : List Update
   pub size : length changes ≡ count
   pub wrote : Wrote before 0 (numbers changes) after (3 * count)
   pub same : following changes (linesFrom n (count + 2) (pieces 0x0A (drop at input))) ≡ all
 
-pub reading-start : (input batch : List ℕ) (n from : ℕ) → from ≤ length input → 12288 ≤ length batch → Reading input batch batch (linesFrom n 2 (pieces 0x0A (drop from input))) n from 0
+pub reading-start : (input batch : List ℕ) (n from : ℕ) → from ≤ length input → 3 * maxUpdates ≤ length batch → Reading input batch batch (linesFrom n 2 (pieces 0x0A (drop from input))) n from 0
 unfolding numbers
 reading-start input batch n from h r = record {
   within = h;
@@ -101,7 +94,7 @@ module _ {input before after : List ℕ} {all : Input} {n at count : ℕ} (x : R
   refused e = record {
     input = sym (ap (following (x .changes)) e) ∙ x .same;
     few = omega arith;
-    beyond = ap (drop (3 * 4096)) (x .wrote .bytes) ∙ drop-sets (numbers (x .changes)) before 0 (3 * 4096) (omega (arith, numbers-length (x .changes), x .size, x .few));
+    beyond = ap (drop (3 * maxUpdates)) (x .wrote .bytes) ∙ drop-sets (numbers (x .changes)) before 0 (3 * maxUpdates) (omega (arith, numbers-length (x .changes), x .size, x .few));
   }
 
   rest-length : length (drop at input) ≡ length input - at
@@ -130,15 +123,15 @@ module _ {input before after : List ℕ} {all : Input} {n at count : ℕ} (x : R
 
       body : linesFrom n (count + 2) (take u (drop at input) ∷ pieces 0x0A (drop (u + 1) (drop at input)))
           ≡ withLine (count + 2) (lineOf (take u (drop at input))) (linesFrom n (suc (count + 2)) (pieces 0x0A (drop (at + u + 1) input)))
-      body = unfold linesFrom in rw (next, some-piece (drop (at + u + 1) input))
+      body = unfold linesFrom in rw (next, pieces-some 0x0A (drop (at + u + 1) input))
 
   -- a 4,097th change, whatever it is
-  pub reading-over : (u : ℕ) → u ≡ upTo 0x0A (take (length input - at) (drop at input)) → (at + u ≡ length input → ⊥) → count ≡ 4096 → Told all before after (Refused (count + 2))
+  pub reading-over : (u : ℕ) → u ≡ upTo 0x0A (take (length input - at) (drop at input)) → (at + u ≡ length input → ⊥) → count ≡ maxUpdates → Told all before after (Refused (count + 2))
   reading-over u e l f = refused (line-first u e l ∙ over (lineOf (take u (drop at input))))
     where
       over : (y : ModelLine) → withLine (count + 2) y (linesFrom n (suc (count + 2)) (pieces 0x0A (drop (at + u + 1) input))) ≡ refusedAt (count + 2)
       over illFormed = unfold withLine in refl
-      over (change c) = unfold withLine in rw (lt-ltb 4097 (count + 2) (omega arith))
+      over (change c) = unfold withLine in rw (lt-ltb (suc maxUpdates) (count + 2) (omega arith))
 
   part-line : (u : ℕ) → take (at + u - at) (drop at input) ≡ take u (drop at input)
   part-line u = let z : at + u - at ≡ u = omega arith in ap (λ (k : ℕ). take k (drop at input)) z
@@ -149,7 +142,7 @@ module _ {input before after : List ℕ} {all : Input} {n at count : ℕ} (x : R
   reading-ill u e l t c = refused (line-first u e l ∙ rw (← part-line u, ← t, c) (unfold lineIn withLine in refl))
 
   -- a change
-  pub reading-step : {r : Line} {batch : List ℕ} (u kind p q : ℕ) → u ≡ upTo 0x0A (take (length input - at) (drop at input)) → (at + u ≡ length input → ⊥) → (count ≡ 4096 → ⊥)
+  pub reading-step : {r : Line} {batch : List ℕ} (u kind p q : ℕ) → u ≡ upTo 0x0A (take (length input - at) (drop at input)) → (at + u ≡ length input → ⊥) → (count ≡ maxUpdates → ⊥)
       → lineIn r ≡ lineOf (take (at + u - at) (drop at input)) → r ≡ Change kind p q → Wrote after (3 * count) (kind ∷ p ∷ q ∷ []) batch (3 * (count + 1)) → Reading input before batch all n (at + u + 1) (count + 1)
   reading-step {r} {batch} u kind p q e l f t y w = record {
     within = omega (arith, e, l, upTo-le 0x0A (take (length input - at) (drop at input)), ap length (part-from at input), rest-length, x .within);
@@ -170,7 +163,7 @@ module _ {input before after : List ℕ} {all : Input} {n at count : ℕ} (x : R
       first : linesFrom n (count + 2) (pieces 0x0A (drop at input)) ≡ withUpdate c rest
       first =
           let z : suc (count + 2) ≡ count + 1 + 2 = omega arith in
-          line-first u e l ∙ rw (← part-line u, ← t, y, z) (unfold lineIn withLine in rw (le-ltb 4097 (count + 2) (omega (arith, f, x .few))))
+          line-first u e l ∙ rw (← part-line u, ← t, y, z) (unfold lineIn withLine in rw (le-ltb (suc maxUpdates) (count + 2) (omega (arith, f, x .few))))
 
   -- no line is left
   pub reading-done : length input ≤ at → Told all before after (Accepted n count)
@@ -220,7 +213,7 @@ number-none ds h = go (decide (isNumber ds)) h
     go (inl t) e = let q : Value (valueOf 0 ds) ≡ NoNumber = rw t at e in let z : _≡_ {A = ℕ} 0 1 = cc in absurd (omega arith)
     go (inr t) e = t
 
-count-is : (ds : List ℕ) (v : ℕ) → numberOf ds ≡ Value v → isCount ds ≡ leb v 512
+count-is : (ds : List ℕ) (v : ℕ) → numberOf ds ≡ Value v → isCount ds ≡ leb v maxNodes
 unfolding isCount
 count-is ds v h = rw (number-value ds v h .0, number-value ds v h .1)
 
@@ -233,30 +226,30 @@ refused-at : (input batch : List ℕ) (k : ℕ) → inputOf input ≡ refusedAt 
 unfolding inputIn used
 refused-at input batch k e = record { input = sym e; few = omega arith; beyond = refl }
 
-pub first-long : (input batch : List ℕ) → 65536 < length input → Told (inputOf input) batch batch (Refused 0)
-first-long input batch h = refused-at input batch 0 (unfold inputOf in rw (lt-ltb 65536 (length input) h))
+pub first-long : (input batch : List ℕ) → maxBytes < length input → Told (inputOf input) batch batch (Refused 0)
+first-long input batch h = refused-at input batch 0 (unfold inputOf in rw (lt-ltb maxBytes (length input) h))
 
-module _ (input : List ℕ) (small : length input ≤ 65536) where
+module _ (input : List ℕ) (small : length input ≤ maxBytes) where
   by-lines : inputOf input ≡ firstLine (pieces 0x0A input)
   unfolding inputOf
-  by-lines = rw (le-ltb 65536 (length input) small)
+  by-lines = rw (le-ltb maxBytes (length input) small)
 
   pub first-open : (batch : List ℕ) (u : ℕ) → u ≡ upTo 0x0A input → u ≡ length input → Told (inputOf input) batch batch (Refused 1)
   first-open batch u e l = refused-at input batch 1 (by-lines ∙ rw (pieces-one 0x0A input (sym e ∙ l)) (unfold firstLine isNone in refl))
 
   first-line : (u : ℕ) → u ≡ upTo 0x0A input → (u ≡ length input → ⊥) → inputOf input ≡ cond (not (isCount (take u input))) (refusedAt 1) (linesFrom (valueOf 0 (take u input)) 2 (pieces 0x0A (drop (u + 1) input)))
-  first-line u e l = by-lines ∙ rw (pieces-more 0x0A input (omega (arith, e, l, upTo-le 0x0A input)), ← e) (unfold firstLine in rw (some-piece (drop (u + 1) input)))
+  first-line u e l = by-lines ∙ rw (pieces-more 0x0A input (omega (arith, e, l, upTo-le 0x0A input)), ← e) (unfold firstLine in rw (pieces-some 0x0A (drop (u + 1) input)))
 
   pub first-ill : {a : Number} (batch : List ℕ) (u : ℕ) → u ≡ upTo 0x0A input → (u ≡ length input → ⊥) → a ≡ numberOf (take u input) → a ≡ NoNumber → Told (inputOf input) batch batch (Refused 1)
   first-ill batch u e l x y = refused-at input batch 1 (first-line u e l ∙ rw (count-none (take u input) (sym x ∙ y)))
 
-  pub first-large : {a : Number} (batch : List ℕ) (u v : ℕ) → u ≡ upTo 0x0A input → (u ≡ length input → ⊥) → a ≡ numberOf (take u input) → a ≡ Value v → 512 < v → Told (inputOf input) batch batch (Refused 1)
-  first-large batch u v e l x y h = refused-at input batch 1 (first-line u e l ∙ rw (count-is (take u input) v (sym x ∙ y), lt-leb v 512 h))
+  pub first-large : {a : Number} (batch : List ℕ) (u v : ℕ) → u ≡ upTo 0x0A input → (u ≡ length input → ⊥) → a ≡ numberOf (take u input) → a ≡ Value v → maxNodes < v → Told (inputOf input) batch batch (Refused 1)
+  first-large batch u v e l x y h = refused-at input batch 1 (first-line u e l ∙ rw (count-is (take u input) v (sym x ∙ y), lt-leb v maxNodes h))
 
-  pub first-then : {a : Number} {before after : List ℕ} {r : Parsed} (u v : ℕ) → u ≡ upTo 0x0A input → (u ≡ length input → ⊥) → a ≡ numberOf (take u input) → a ≡ Value v → v ≤ 512
+  pub first-then : {a : Number} {before after : List ℕ} {r : Parsed} (u v : ℕ) → u ≡ upTo 0x0A input → (u ≡ length input → ⊥) → a ≡ numberOf (take u input) → a ≡ Value v → v ≤ maxNodes
       → Told (linesFrom v 2 (pieces 0x0A (drop (u + 1) input))) before after r → Told (inputOf input) before after r
   first-then u v e l x y h t = record {
-    input = t .input ∙ sym (first-line u e l ∙ rw (count-is (take u input) v (sym x ∙ y), le-leb v 512 h, number-value (take u input) v (sym x ∙ y) .1));
+    input = t .input ∙ sym (first-line u e l ∙ rw (count-is (take u input) v (sym x ∙ y), le-leb v maxNodes h, number-value (take u input) v (sym x ∙ y) .1));
     few = t .few;
     beyond = t .beyond;
   }

@@ -6,11 +6,11 @@ use mathlib.Core.Logic.{_⊎_, inl, inr}
 use Prim.Native.Nat.{ℕ, suc, _+_, _≤_, _<_}
 use native.Mathlib.Numerals.{add-one}
 use native.Mathlib.Omega.{arith}
-use lib.Dec.{eqb}
+use lib.Dec.{eqb, ltb}
 use lib.ListN.{length, getD, take, drop, drop-of-length-le}
 use lib.Seq.{drop-cons}
-use borrow.Author.Tests.{eq-eqb, ne-eqb}
-use Rattle.model.specs.Program.{before, pieces}
+use borrow.Author.Tests.{eq-eqb, ltb-false, ltb-true, ne-eqb}
+use Rattle.model.specs.Program.{before, isNone, pieces}
 use Rattle.model.specs.TestLaws.{decide}
 use Rattle.text.specs.Grammar.{upTo}
 
@@ -59,3 +59,18 @@ pieces-more sep (b ∷ bs) h = step (pieces-more sep bs) (decide (eqb b sep)) h
         → cond (eqb b sep) ([] ∷ pieces sep bs) (before b (pieces sep bs)) ≡ take (cond (eqb b sep) 0 (suc (upTo sep bs))) (b ∷ bs) ∷ pieces sep (drop (cond (eqb b sep) 0 (suc (upTo sep bs)) + 1) (b ∷ bs))
     step below (inl t) x = rw t
     step below (inr t) x = let z : suc (upTo sep bs) < suc (length bs) = rw t at x in rw (t, below (omega (arith, z)), add-one (suc (upTo sep bs)), add-one (upTo sep bs))
+
+-- there is always one
+pub pieces-length : (sep : ℕ) (s : List ℕ) → 1 ≤ length (pieces sep s)
+pieces-length sep s = go (decide (ltb (upTo sep s) (length s)))
+  where
+    go : (ltb (upTo sep s) (length s) ≡ true) ⊎ (ltb (upTo sep s) (length s) ≡ false) → 1 ≤ length (pieces sep s)
+    go (inl t) = rw (pieces-more sep s (ltb-true (upTo sep s) (length s) t)) (omega arith)
+    go (inr t) = rw (pieces-one sep s (omega (arith, upTo-le sep s, ltb-false (upTo sep s) (length s) t))) (omega arith)
+
+pub pieces-some : (sep : ℕ) (s : List ℕ) → isNone (pieces sep s) ≡ false
+pieces-some sep s = go (pieces sep s) (pieces-length sep s)
+  where
+    go : (ls : List (List ℕ)) → 1 ≤ length ls → isNone ls ≡ false
+    go [] h = absurd (omega arith)
+    go (l ∷ ls) h = unfold isNone in refl

@@ -1,11 +1,16 @@
 // The program's input: n on the first line, then a line for each change.
+use rows::Graph;
 ghost use mathlib.Core.Path.{_≡_};
 ghost use mathlib.Core.List.{[], _∷_};
 ghost use Prim.Native.Nat.{_+_, _*_, _≤_, _<_};
 ghost use lib.ListN.{length, drop};
+ghost use Rattle.model.specs.Graph.{maxUpdates};
 ghost use Rattle.model.specs.Program.{edgeLine, inputOf, lineOf, linesFrom, markLine, pieces};
 ghost use Rattle.layout.specs.Wrote.{Wrote};
 ghost use Rattle.text.specs.Grammar.{Told, digitOf, edgeChange, lineIn, markChange, numberOf, shape, upTo};
+
+// Longer input is refused.
+pub const INPUT_BYTES: usize = 65536;
 
 // A number of the input, or none.
 pub enum Number {
@@ -154,7 +159,7 @@ fn read_line(s: &[u8]) -> Line
 
 // A change into the batch, after `count` others.
 fn put_change(batch: &mut [u16], count: usize, kind: u16, u: u16, v: u16)
-    requires { ⌜ (count < 4096) × (12288 ≤ length (now batch)) ⌝ }
+    requires { ⌜ (count < maxUpdates) × (3 * maxUpdates ≤ length (now batch)) ⌝ }
     ensures { λ _. ⌜ Wrote (now (batch .entry)) (3 * count) (kind ∷ u ∷ v ∷ []) (now (batch .exit)) (3 * (count + 1)) ⌝ }
 {
     let at = 3 * count;
@@ -165,7 +170,7 @@ fn put_change(batch: &mut [u16], count: usize, kind: u16, u: u16, v: u16)
 
 // The lines after the first, from the place `from` on.
 fn read_lines(input: &[u8], from: usize, n: usize, batch: &mut [u16]) -> Parsed
-    requires { ⌜ (from ≤ length (now input)) × (12288 ≤ length (now batch)) ⌝ }
+    requires { ⌜ (from ≤ length (now input)) × (3 * maxUpdates ≤ length (now batch)) ⌝ }
     ensures { λ r. ⌜ Told (linesFrom n 2 (pieces 0x0A (drop from (now (input .entry))))) (now (batch .entry)) (now (batch .exit)) r ⌝ }
 {
     let mut at = from;
@@ -175,7 +180,7 @@ fn read_lines(input: &[u8], from: usize, n: usize, batch: &mut [u16]) -> Parsed
         if end == input.len() {
             return Parsed::Refused { line: count + 2 };
         }
-        if count == 4096 {
+        if count == Graph::UPDATES {
             return Parsed::Refused { line: count + 2 };
         }
         let line = read_line(&input[at..end]);
@@ -191,10 +196,10 @@ fn read_lines(input: &[u8], from: usize, n: usize, batch: &mut [u16]) -> Parsed
 
 // The program's whole input. Its changes go to the batch, three numbers for each, which has room for 4,096 of them.
 pub fn parse(input: &[u8], batch: &mut [u16]) -> Parsed
-    requires { ⌜ 12288 ≤ length (now batch) ⌝ }
+    requires { ⌜ 3 * maxUpdates ≤ length (now batch) ⌝ }
     ensures { λ r. ⌜ Told (inputOf (now (input .entry))) (now (batch .entry)) (now (batch .exit)) r ⌝ }
 {
-    if input.len() > 65536 {
+    if input.len() > INPUT_BYTES {
         return Parsed::Refused { line: 0 };
     }
     let end = find(input, b'\n');
@@ -202,11 +207,12 @@ pub fn parse(input: &[u8], batch: &mut [u16]) -> Parsed
         return Parsed::Refused { line: 1 };
     }
     let first = read_number(&input[..end]);
-    let Number::Value(n) = first else {
+    let Number::Value(value) = first else {
         return Parsed::Refused { line: 1 };
     };
-    if n > 512 {
+    let n = value as usize;
+    if n > Graph::NODES {
         return Parsed::Refused { line: 1 };
     }
-    read_lines(input, end + 1, n as usize, batch)
+    read_lines(input, end + 1, n, batch)
 }

@@ -38,8 +38,8 @@ returns-4 c = first-large (c .before .before .before .before .before .before .be
 add-read-lines : tie.Need-add-read-lines
 add-read-lines c = omega (arith, c .before .before .before .before .before .before .before .find .ensures, upTo-le 0x0A (c .before .before .before .before .before .before .before .before .before .before .before .args .input .now), c .before .before .before .before .before .before .before .before .if1 .left)
 
-cast-read-lines : tie.Need-cast-read-lines
-cast-read-lines c = search needs
+cast-n : tie.Need-cast-n
+cast-n c = search needs
 
 read-lines-requires : tie.Need-read-lines-requires
 read-lines-requires c κs = omega (arith, c .before .before .before .before .before .before .before .before .find .ensures, upTo-le 0x0A (c .before .before .before .before .before .before .before .before .before .before .before .before .args .input .now), c .before .before .before .before .before .before .before .if2 .left)
@@ -62,9 +62,9 @@ parse-spec =
     enum-known-first
     enum-told
     returns-3
+    cast-n
     returns-4
     add-read-lines
-    cast-read-lines
     read-lines-requires
     same-length
     returns-5)
