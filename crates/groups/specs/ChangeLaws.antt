@@ -13,9 +13,9 @@ use Rattle.model.specs.Lists.{nodes}
 use Rattle.model.specs.Graph.{Graph, Proper, maxNodes, nodeNumbers, rowWords}
 use Rattle.model.specs.Grouping.{similar}
 use Rattle.model.specs.Tables.{Tables, edgesOf, graphOf, keysOf, nodeNumber, nodesOf, tablesOf}
-use Rattle.model.specs.Updates.{Update, answer, onEdge, updated}
+use Rattle.model.specs.Updates.{Update, answer, onEdge, refusal, updated}
 use Rattle.model.specs.TestLaws.{decide}
-use Rattle.model.specs.TableLaws.{length-edges, length-keys, length-nodes-of}
+use Rattle.model.specs.TableLaws.{length-edges, length-keys, length-nodes-of, read-back}
 use Rattle.model.specs.UpdateLaws.{apart, proper-updated, u-inside, v-inside}
 use Rattle.rows.specs.Rows.{Changed, KeysChanged, lent}
 use Rattle.rows.specs.Search.{Ready, edgesIn}
@@ -36,6 +36,15 @@ edge-kind false u v = refl
 inserts : (insert : Bool) → eqb (cond insert 1 2) 1 ≡ insert
 inserts true = refl
 inserts false = refl
+
+-- the tables of a graph are read as it
+pub tables-read : {g : Graph} {t : Tables} → Proper g → t ≡ tablesOf g → graphOf (g .nodeCount) t ≡ g
+tables-read {g} h e = ap (graphOf (g .nodeCount)) e ∙ read-back g h
+
+pub asked : {g : Graph} {t : Tables} {u v : ℕ} {insert : Bool} → Proper g → t ≡ tablesOf g → refusal g (edgeUpdate insert u v) ≡ 0 → Asked (g .nodeCount) u v insert t
+asked {g} {t} {u} {v} {insert} h e ok =
+    let r : graphOf (g .nodeCount) t ≡ g = tables-read h e in
+    record { proper = subst Proper (sym r) h; same = e ∙ ap tablesOf (sym r); accepted = ap (λ (x : Graph). refusal x (edgeUpdate insert u v)) r ∙ ok }
 
 module _ {n u v : ℕ} {insert : Bool} {t : Tables} (a : Asked n u v insert t) where
   abbrev g : Graph
@@ -145,9 +154,9 @@ module _ {n : ℕ} {t : Tables} (a : Bare n t) where
   unfolding graphOf edgesIn
   alike-bare = refl
 
-  mark : (p : ℕ) → p < n → nodeNumber (t .nodes) p 3 ≡ cond (graphOf n t .hidden p) 1 0
+  pub bare-mark : (p : ℕ) → p < n → nodeNumber (t .nodes) p 3 ≡ cond (graphOf n t .hidden p) 1 0
   unfolding graphOf
-  mark p hp = step (lt-ltb p n hp) (decide (eqb (nodeNumber (t .nodes) p 3) 1))
+  bare-mark p hp = step (lt-ltb p n hp) (decide (eqb (nodeNumber (t .nodes) p 3) 1))
     where
       step : ltb p n ≡ true → (eqb (nodeNumber (t .nodes) p 3) 1 ≡ true) ⊎ (eqb (nodeNumber (t .nodes) p 3) 1 ≡ false) → nodeNumber (t .nodes) p 3 ≡ cond (graphOf n t .hidden p) 1 0
       step l (inl e) = rw (l, e) (eqb-true _ _ e)
@@ -169,4 +178,4 @@ module _ {n : ℕ} {t : Tables} (a : Bare n t) where
 
       pub bare-done : n ≤ m → t₂ ≡ nodesOf (graphOf n t)
       unfolding graphOf edgesIn
-      bare-done h = build-nodes (graphOf n t) (a .proper) l b h mark
+      bare-done h = build-nodes (graphOf n t) (a .proper) l b h bare-mark

@@ -16,7 +16,7 @@ use Rattle.rings.specs.UpdateLaws.{Found, at, nowhere}
 use Rattle.groups.specs.Groups.{similarIn}
 
 -- the first number that passes, or none does
-first-cases : (P : ℕ → Bool) (q k : ℕ) → ((firstFrom P q k < q + k) × (P (firstFrom P q k) ≡ true)) ⊎ ((firstFrom P q k ≡ q + k) × ((p : ℕ) → q ≤ p → p < q + k → P p ≡ false))
+pub first-cases : (P : ℕ → Bool) (q k : ℕ) → ((firstFrom P q k < q + k) × (P (firstFrom P q k) ≡ true)) ⊎ ((firstFrom P q k ≡ q + k) × ((p : ℕ) → q ≤ p → p < q + k → P p ≡ false))
 unfolding firstFrom
 first-cases P q zero = inr (omega arith, λ p h h′. absurd (omega arith))
 first-cases P q (suc k) = step (P q) refl (first-cases P (suc q) k)

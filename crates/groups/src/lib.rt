@@ -26,24 +26,21 @@ ghost use Rattle.rings.specs.Steps.{
 ghost use Rattle.groups.specs.Groups.{Asked, Bare, edgeUpdate, similarIn};
 use rows::Graph;
 
-const LEAST: usize = 0;
+// The numbers of a node.
+pub const LEAST: usize = 0;
 
-const NEXT: usize = 1;
+pub const NEXT: usize = 1;
 
-const PREVIOUS: usize = 2;
+pub const PREVIOUS: usize = 2;
 
-fn wide(x: u16) -> usize
-    ensures { λ r. ⌜ r ≡ x ⌝ }
-{
-    x as usize
-}
+pub const MARK: usize = 3;
 
 // Number k of node p.
-fn number(nodes: &[u16], p: usize, k: usize) -> usize
+pub fn number(nodes: &[u16], p: usize, k: usize) -> usize
     requires { ⌜ nodeNumbers * p + k < length (now nodes) ⌝ }
     ensures { λ r. ⌜ r ≡ nodeNumber (now (nodes .entry)) p k ⌝ }
 {
-    wide(nodes[Graph::NODE_NUMBERS * p + k])
+    rows::wide(nodes[Graph::NODE_NUMBERS * p + k])
 }
 
 fn store(nodes: &mut [u16], p: usize, k: usize, v: usize)
@@ -230,5 +227,7 @@ pub fn update_edge(
     rows::change_keys(keys, u, v, insert);
     let a_joined = put_back(edges, nodes, keys, n, n, a, b);
     let b_joined = put_back(edges, nodes, keys, n, n, b, b);
-    difference(a_left + b_left, a_joined + b_joined)
+    let left = a_left + b_left;
+    let joined = a_joined + b_joined;
+    difference(left, joined)
 }

@@ -2,11 +2,11 @@
 use mathlib.Core.Path.{_≡_, refl, sym, ap, _∙_}
 use mathlib.Core.Bool.{Bool, true, false, cond}
 use mathlib.Core.List.{List, [], _∷_, _++_, append-assoc}
-use Prim.Native.Nat.{ℕ, suc, zero, _+_, _*_, _-_, _/_, _%_, _≤_, _<_}
+use Prim.Native.Nat.{ℕ, suc, zero, _+_, _*_, _/_, _%_, _≤_, _<_}
 use native.Mathlib.Omega.{arith}
 use native.Mathlib.Numerals.{add-one}
 use lib.Dec.{ltb}
-use lib.ListN.{length, getD, set, length-append}
+use lib.ListN.{length, getD, set}
 use borrow.Author.Tests.{eq-eqb, ne-eqb, lt-ltb, le-ltb}
 use Rattle.model.specs.Lists.{concat}
 use Rattle.model.specs.Tables.{edgeBit}
@@ -15,8 +15,8 @@ use Rattle.model.specs.ReleaseLaws.{length-u16s}
 use Rattle.layout.specs.Wrote.{Left, Wrote}
 use Rattle.layout.specs.WroteLaws.{left-done, left-room, left-start, left-step, wrote-before, wrote-length, wrote-then}
 use Rattle.layout.specs.Scan.{flat, scan}
-use Rattle.layout.specs.ScanLaws.{flat-step, scan-end, scan-length, scan-no, scan-yes}
-use Rattle.layout.specs.File.{Rows, chain, firstTwo, groupBytes, groupMark, inGroup, later, leads, meets, superedgesTo, u16s}
+use Rattle.layout.specs.ScanLaws.{flat-step, scan-length, scan-yes}
+use Rattle.layout.specs.File.{chain, firstTwo, groupBytes, groupMark, inGroup, later, leads, meets, u16s}
 
 pub wrote-two : (s : List ℕ) (at a b : ℕ) → Wrote s at (a ∷ b ∷ []) (set (set s at a) (at + 1) b) (at + 2)
 wrote-two s at a b = record { bytes = rw (add-one at); place = refl }
@@ -126,14 +126,17 @@ unfolding groupBytes u16
 length-group e g = omega (arith, length-members g)
 
 -- the members first, then the mark, then the count between them
-pub wrote-group : (e : ℕ → ℕ → Bool) (g : List ℕ) {s : List ℕ} {at : ℕ} {s₁ : List ℕ} {to : ℕ} {c : Bool} {s₂ : List ℕ} {a : ℕ} {s₃ : List ℕ} {b : ℕ}
-    → Wrote s (at + 4) (u16s g) s₁ to → c ≡ firstTwo e g → Wrote s₁ at (groupMark c) s₂ a → Wrote s₂ a (u16 ((to - at - 4) / 2)) s₃ b → Wrote s at (groupBytes e g) s₃ to
+pub wrote-group : (e : ℕ → ℕ → Bool) (g : List ℕ) {s : List ℕ} {at : ℕ} {s₁ : List ℕ} {to : ℕ} {c : Bool} {s₂ : List ℕ} {a k : ℕ} {s₃ : List ℕ} {b : ℕ}
+    → Wrote s (at + 4) (u16s g) s₁ to → c ≡ firstTwo e g → Wrote s₁ at (groupMark c) s₂ a → k ≡ length g → Wrote s₂ a (u16 k) s₃ b → Wrote s at (groupBytes e g) s₃ to
 unfolding groupBytes
-wrote-group e g {s} {at} {s₁} {to} {c} {s₂} {a} {s₃} {b} m q h k =
-    let len : (to - at - 4) / 2 ≡ length g = omega (arith, m .place, length-members g) in
-    let two : Wrote s₁ at (groupMark c ++ u16 ((to - at - 4) / 2)) s₃ b = wrote-then h k in
-    let there : b ≡ at + 4 = omega (arith, k .place, h .place, length-u16 ((to - at - 4) / 2)) in
-    rw (← q, ← len) (rw (append-assoc (groupMark c) (u16 ((to - at - 4) / 2)) (u16s g)) at (wrote-before m (rw there at two)))
+wrote-group e g {s} {at} {s₁} {to} {c} {s₂} {a} {k} {s₃} {b} m q h count w =
+    let two : Wrote s₁ at (groupMark c ++ u16 k) s₃ b = wrote-then h w in
+    let there : b ≡ at + 4 = omega (arith, w .place, h .place, length-u16 k) in
+    rw (← q, ← count) (rw (append-assoc (groupMark c) (u16 k) (u16s g)) at (wrote-before m (rw there at two)))
+
+-- where the members end
+pub members-end : (g : List ℕ) (at : ℕ) {s t : List ℕ} {to : ℕ} → Wrote s (at + 4) (u16s g) t to → to ≡ at + 4 + 2 * length g
+members-end g at w = omega (arith, w .place, length-members g)
 
 -- tests of the code
 pub inGroup-yes : (least : List ℕ) (n p w : ℕ) → w ≡ getD least p 0 → w < n → inGroup least n p ≡ true
@@ -152,38 +155,13 @@ pub leads-no : (least : List ℕ) (p w : ℕ) → w ≡ getD least p 0 → (w �
 unfolding leads
 leads-no least p w e h = ne-eqb (getD least p 0) p (λ k. h (omega arith))
 
-pub meets-is : (edges ls : List ℕ) (i j p q : ℕ) {b : Bool} → p ≡ getD ls i 0 → q ≡ getD ls j 0 → b ≡ edgeBit edges p q → meets (edgeBit edges) ls i j ≡ b
-unfolding meets
-meets-is edges ls i j p q x y t = rw (← x, ← y) (sym t)
-
 -- leaders put into a list
 pub collect-yes : (least : List ℕ) (n p : ℕ) {s₀ : List ℕ} {s : List ℕ} {g : ℕ} → Left s₀ 0 (scan (leads least) n 0) s g (scan (leads least) n p) → p < n → leads least p ≡ true → Left s₀ 0 (scan (leads least) n 0) (set s g p) (g + 1) (scan (leads least) n (p + 1))
 collect-yes least n p l h t = left-step {bs = p ∷ []} l (record { bytes = refl; place = refl }) (scan-yes (leads least) n p h t)
 
--- superedgeBytes
-to-cons : (i j : ℕ) (js : List ℕ) → superedgesTo i (j ∷ js) ≡ superedgeRecord (i, j) ++ superedgesTo i js
-unfolding superedgesTo concat
-to-cons i j js = refl
-
-pub super-yes : (e : ℕ → ℕ → Bool) (ls : List ℕ) (i j : ℕ) → j < length ls → meets e ls i j ≡ true → superedgesTo i (scan (meets e ls i) (length ls) j) ≡ superedgeRecord (i, j) ++ superedgesTo i (scan (meets e ls i) (length ls) (j + 1))
-super-yes e ls i j h t = ap (superedgesTo i) (scan-yes (meets e ls i) (length ls) j h t) ∙ to-cons i j _
-
-pub super-no : (e : ℕ → ℕ → Bool) (ls : List ℕ) (i j : ℕ) → j < length ls → meets e ls i j ≡ false → superedgesTo i (scan (meets e ls i) (length ls) j) ≡ superedgesTo i (scan (meets e ls i) (length ls) (j + 1))
-super-no e ls i j h t = ap (superedgesTo i) (scan-no (meets e ls i) (length ls) j h t)
-
-pub super-end : (e : ℕ → ℕ → Bool) (ls : List ℕ) (i j : ℕ) → length ls ≤ j → superedgesTo i (scan (meets e ls i) (length ls) j) ≡ []
-unfolding superedgesTo concat
-super-end e ls i j h = ap (superedgesTo i) (scan-end (meets e ls i) (length ls) j h)
-
-pub super-room : (e : ℕ → ℕ → Bool) (ls : List ℕ) (i j : ℕ) {s₀ : List ℕ} {at₀ : ℕ} {all s : List ℕ} {at : ℕ} → Left s₀ at₀ all s at (superedgesTo i (scan (meets e ls i) (length ls) j)) → at₀ + length all ≤ length s₀ → j < length ls → meets e ls i j ≡ true → at + 6 ≤ length s
-super-room e ls i j l room h t = omega (arith, left-room l room (superedgeRecord (i, j)) _ (super-yes e ls i j h t), length-superedge i j)
-
 pub later-length : (e : ℕ → ℕ → Bool) (ls : List ℕ) (i : ℕ) → length (later e ls i) ≤ length ls
 unfolding later
 later-length e ls i = omega (arith, scan-length (meets e ls i) (length ls) (i + 1))
-
-pub later-more : (e : ℕ → ℕ → Bool) (ls : List ℕ) (i : ℕ) → i < length ls → length (flat (later e ls) (length ls) i) ≡ length (later e ls i) + length (flat (later e ls) (length ls) (i + 1))
-later-more e ls i h = ap length (flat-step (later e ls) (length ls) i h) ∙ length-append (later e ls i) _
 
 -- room for the parts of a group
 pub room-members : (e : ℕ → ℕ → Bool) (g : List ℕ) (at : ℕ) {k : ℕ} → at + length (groupBytes e g) ≤ k → at + 4 + length (u16s g) ≤ k
@@ -195,11 +173,11 @@ room-mark e g at h w = omega (arith, length-group e g, wrote-length w)
 pub room-count : (e : ℕ → ℕ → Bool) (g : List ℕ) {at : ℕ} {s : List ℕ} {x : ℕ} {bs t : List ℕ} {y : ℕ} (c : Bool) {u : List ℕ} {a : ℕ} → at + length (groupBytes e g) ≤ length s → Wrote s x bs t y → Wrote t at (groupMark c) u a → a + 2 ≤ length u
 room-count e g c h w v = omega (arith, length-group e g, wrote-length w, wrote-length v, v .place)
 
-pub count-fits : (next : List ℕ) (n l at : ℕ) {s : List ℕ} {t : List ℕ} {to : ℕ} → n ≤ 512 → Wrote s (at + 4) (u16s (chain n next n l)) t to → (to - at - 4) / 2 < 65536
-count-fits next n l at h w = omega (arith, w .place, length-members (chain n next n l), chain-length n next n l)
+pub members-few : (next : List ℕ) (n l at : ℕ) {s : List ℕ} {t : List ℕ} {to : ℕ} → n ≤ 512 → Wrote s (at + 4) (u16s (chain n next n l)) t to → to ≤ at + 1028
+members-few next n l at h w = omega (arith, members-end (chain n next n l) at w, chain-length n next n l)
 
-pub later-small : (e : ℕ → ℕ → Bool) (i : ℕ) {n : ℕ} {edges ls : List ℕ} {k : ℕ} → Rows n edges ls → k ≡ length (later e ls i) → k ≤ 512
-later-small e i {ls = ls} r q = omega (arith, later-length e ls i, r .few, r .small)
+pub later-small : (e : ℕ → ℕ → Bool) (ls : List ℕ) (i : ℕ) {k : ℕ} → length ls ≤ 512 → k ≡ length (later e ls i) → k ≤ 512
+later-small e ls i h q = omega (arith, later-length e ls i)
 
 -- a run of records, one for each number
 pub flat-room : (f : ℕ → List ℕ) (n p : ℕ) {s₀ : List ℕ} {at₀ : ℕ} {all s : List ℕ} {at : ℕ} → Left s₀ at₀ all s at (flat f n p) → at₀ + length all ≤ length s₀ → p < n → at + length (f p) ≤ length s

@@ -6,6 +6,8 @@ pub mod File
 pub mod FileLaws
 pub mod LinkLaws
 pub mod WholeLaws
+pub mod Words
+pub mod WordLaws
 pub mod Truth
 pub mod TruthLaws
 pub mod Matches

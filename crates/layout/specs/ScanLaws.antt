@@ -1,13 +1,14 @@
 -- Laws of what a loop from p to n has yet to do.
-use mathlib.Core.Path.{_≡_, refl, ap}
-use mathlib.Core.Bool.{Bool, true, false}
-use mathlib.Core.List.{List, [], _∷_, _++_}
+use mathlib.Core.Path.{_≡_, refl, sym, ap, _∙_}
+use mathlib.Core.Bool.{Bool, true, false, _&&_, cond}
+use mathlib.Core.List.{List, [], _∷_, _++_, List·Memᴰ·head, List·Memᴰ·tail}
 use mathlib.Core.Logic.{_⊎_, inl, inr}
 use Prim.Native.Nat.{ℕ, suc, zero, _+_, _-_, _≤_, _<_}
 use native.Mathlib.Omega.{arith}
 use lib.ListN.{length, getD, length-append}
-use Rattle.model.specs.Lists.{concat, filter, from}
+use Rattle.model.specs.Lists.{_∈_, concat, filter, from}
 use Rattle.model.specs.TestLaws.{decide}
+use Rattle.model.specs.ListLaws.{Ascending, filter-ascending, filter-cong, from-ascending, from-out}
 use Rattle.layout.specs.Scan.{Counting, Summing, flat, scan}
 
 from-cons : (p n : ℕ) → p < n → from p (n - p) ≡ p ∷ from (p + 1) (n - (p + 1))
@@ -80,6 +81,50 @@ scan-below P n = upward (λ p. (i : ℕ) → i < length (scan P n p) → getD (s
     step : (p : ℕ) → p < n → ((i : ℕ) → i < length (scan P n (p + 1)) → getD (scan P n (p + 1)) i 0 < n) → (P p ≡ true) ⊎ (P p ≡ false) → (i : ℕ) → i < length (scan P n p) → getD (scan P n p) i 0 < n
     step p h below (inl t) = rw (scan-yes P n p h t) (cons p (scan P n (p + 1)) h below)
     step p h below (inr t) = rw (scan-no P n p h t) below
+
+-- a scan is made of what passes, and may begin later where nothing before passes
+pub scan-cong : (P Q : ℕ → Bool) (n p : ℕ) → ((q : ℕ) → p ≤ q → q < n → P q ≡ Q q) → scan P n p ≡ scan Q n p
+unfolding scan
+scan-cong P Q n p h = filter-cong P Q (from p (n - p)) (λ q m. let o = from-out p (n - p) q m in h q (o .0) (omega (arith, o .0, o .1)))
+
+pub scan-skip : (P : ℕ → Bool) (n l : ℕ) → l ≤ n → (p : ℕ) → ((q : ℕ) → p ≤ q → q < l → P q ≡ false) → p ≤ l → scan P n p ≡ scan P n l
+scan-skip P n l hl = upward (λ p. ((q : ℕ) → p ≤ q → q < l → P q ≡ false) → p ≤ l → scan P n p ≡ scan P n l) l (λ p h f k. ap (scan P n) (omega arith)) (λ p h below f k. scan-no P n p (omega arith) (f p (omega arith) h) ∙ below (λ q a b. f q (omega arith) b) (omega arith))
+
+-- a scan may end earlier where nothing after passes
+pub scan-cut : (P : ℕ → Bool) (n m : ℕ) → n ≤ m → ((q : ℕ) → n ≤ q → q < m → P q ≡ false) → (p : ℕ) → p ≤ n → scan P m p ≡ scan P n p
+scan-cut P n m h f = upward (λ p. p ≤ n → scan P m p ≡ scan P n p) n top (λ p l below k. step p l (below (omega arith)) (decide (P p)))
+  where
+    top : (p : ℕ) → n ≤ p → p ≤ n → scan P m p ≡ scan P n p
+    top p a b = scan-skip P m m (omega arith) p (λ q c d. f q (omega arith) d) (omega arith) ∙ scan-end P m m (omega arith) ∙ sym (scan-end P n p a)
+
+    step : (p : ℕ) → p < n → scan P m (p + 1) ≡ scan P n (p + 1) → (P p ≡ true) ⊎ (P p ≡ false) → scan P m p ≡ scan P n p
+    step p l below (inl y) = scan-yes P m p (omega arith) y ∙ ap (λ (r : List ℕ). p ∷ r) below ∙ sym (scan-yes P n p l y)
+    step p l below (inr y) = scan-no P m p (omega arith) y ∙ below ∙ sym (scan-no P n p l y)
+
+pub filter-and : (f h : ℕ → Bool) (l : List ℕ) → filter f (filter h l) ≡ filter (λ x. h x && f x) l
+unfolding filter
+filter-and f h [] = refl
+filter-and f h (x ∷ xs) = step (h x) (filter-and f h xs)
+  where
+    step : (b : Bool) → filter f (filter h xs) ≡ filter (λ x. h x && f x) xs → filter f (cond b (x ∷ filter h xs) (filter h xs)) ≡ cond (b && f x) (x ∷ filter (λ x. h x && f x) xs) (filter (λ x. h x && f x) xs)
+    step true q = rw q
+    step false q = q
+
+-- members by place
+pub getD-in : (l : List ℕ) (i : ℕ) → i < length l → getD l i 0 ∈ l
+getD-in [] i h = absurd (omega arith)
+getD-in (x ∷ xs) zero h = List·Memᴰ·head refl
+getD-in (x ∷ xs) (suc i) h = List·Memᴰ·tail (getD-in xs i (omega arith))
+
+pub getD-ascending : (l : List ℕ) → Ascending l → (i j : ℕ) → i < j → j < length l → getD l i 0 < getD l j 0
+getD-ascending [] a i j h k = absurd (omega arith)
+getD-ascending (x ∷ xs) a i zero h k = absurd (omega arith)
+getD-ascending (x ∷ xs) a zero (suc j) h k = a .0 (getD xs j 0) (getD-in xs j (omega arith))
+getD-ascending (x ∷ xs) a (suc i) (suc j) h k = getD-ascending xs (a .1) i j (omega arith) (omega arith)
+
+pub scan-ascends : (P : ℕ → Bool) (n p i j : ℕ) → i < j → j < length (scan P n p) → getD (scan P n p) i 0 < getD (scan P n p) j 0
+unfolding scan
+scan-ascends P n p i j h k = getD-ascending (filter P (from p (n - p))) (filter-ascending P (from p (n - p)) (from-ascending p (n - p))) i j h k
 
 pub counting-start : (P : ℕ → Bool) (n p : ℕ) → Counting P n (length (scan P n p)) 0 p
 counting-start P n p = record { sum = omega arith }

@@ -3,7 +3,7 @@ use mathlib.Core.Path.{_≡_, refl, sym, ap, ap₂, _∙_}
 use mathlib.Core.Bool.{Bool, true, false, _&&_, cond}
 use mathlib.Core.List.{List, [], _∷_, _++_, map, append-assoc, List·Memᴰ·head, List·Memᴰ·tail}
 use mathlib.Core.Logic.{_⊎_, inl, inr}
-use Prim.Native.Nat.{ℕ, suc, zero, _+_, _-_, _≤_, _<_}
+use Prim.Native.Nat.{ℕ, suc, _+_, _-_, _<_}
 use native.Mathlib.Omega.{arith}
 use native.Mathlib.Numerals.{add-one}
 use lib.Dec.{eqb, ltb}
@@ -26,7 +26,7 @@ use Rattle.model.specs.ReleaseLaws.{length-concat-groups, length-superedge-reco
 use Rattle.model.specs.UpdateLaws.{apart}
 use Rattle.model.specs.ReadBackLaws.{visible-inside}
 use Rattle.layout.specs.Scan.{flat, scan}
-use Rattle.layout.specs.ScanLaws.{flat-end, flat-step, scan-end, scan-no, scan-yes, upward}
+use Rattle.layout.specs.ScanLaws.{filter-and, flat-end, flat-step, getD-ascending, getD-in, scan-end, scan-no, scan-skip, scan-yes, upward}
 use Rattle.layout.specs.File.{Partition, belongs, fileGroups, fileLength, fileNodes, fileOf, fileSuperedges, firstTwo, groupBytes, groupsBytes, inGroup, later, leadersOf, leads, meets, membersOf, superedgeBytes, superedgesTo, u16s, visibleOf, writtenFile}
 use Rattle.layout.specs.WholeLaws.{groups-list, length-file, length-superedges}
 use Rattle.layout.specs.Truth.{Truth}
@@ -34,19 +34,6 @@ use Rattle.layout.specs.Truth.{Truth}
 scan-nodes : (P : ℕ → Bool) (n : ℕ) → scan P n 0 ≡ filter P (nodes n)
 unfolding scan nodes
 scan-nodes P n = let z : n - 0 ≡ n = omega arith in rw z
-
-filter-and : (f h : ℕ → Bool) (l : List ℕ) → filter f (filter h l) ≡ filter (λ x. h x && f x) l
-unfolding filter
-filter-and f h [] = refl
-filter-and f h (x ∷ xs) = step (h x) (filter-and f h xs)
-  where
-    step : (b : Bool) → filter f (filter h xs) ≡ filter (λ x. h x && f x) xs → filter f (cond b (x ∷ filter h xs) (filter h xs)) ≡ cond (b && f x) (x ∷ filter (λ x. h x && f x) xs) (filter (λ x. h x && f x) xs)
-    step true q = rw q
-    step false q = q
-
--- a scan may begin later where nothing before passes
-scan-skip : (P : ℕ → Bool) (n l : ℕ) → l ≤ n → ((q : ℕ) → q < l → P q ≡ false) → (p : ℕ) → p ≤ l → scan P n p ≡ scan P n l
-scan-skip P n l hl f = upward (λ p. p ≤ l → scan P n p ≡ scan P n l) l (λ p h k. ap (scan P n) (omega arith)) (λ p h below k. scan-no P n p (omega arith) (f p h) ∙ below (omega arith))
 
 kind-byte : (k : Kind) → kindByte k ≡ cond (isClique k) 0x43 0x49
 unfolding kindByte isClique
@@ -100,17 +87,6 @@ module _ (e d : ℕ → ℕ → Bool) (G : ℕ → List ℕ) (ls : List ℕ) (la
   superedges-are : superedgeBytes d ls ≡ concat (map superedgeRecord (superedges e 0 (map G ls)))
   unfolding superedgeBytes
   superedges-are = sym (on-is 0)
-
-getD-in : (l : List ℕ) (i : ℕ) → i < length l → getD l i 0 ∈ l
-getD-in [] i h = absurd (omega arith)
-getD-in (x ∷ xs) zero h = List·Memᴰ·head refl
-getD-in (x ∷ xs) (suc i) h = List·Memᴰ·tail (getD-in xs i (omega arith))
-
-getD-ascending : (l : List ℕ) → Ascending l → (i j : ℕ) → i < j → j < length l → getD l i 0 < getD l j 0
-getD-ascending [] a i j h k = absurd (omega arith)
-getD-ascending (x ∷ xs) a i zero h k = absurd (omega arith)
-getD-ascending (x ∷ xs) a zero (suc j) h k = a .0 (getD xs j 0) (getD-in xs j (omega arith))
-getD-ascending (x ∷ xs) a (suc i) (suc j) h k = getD-ascending xs (a .1) i j (omega arith) (omega arith)
 
 module _ (g : Graph) (lst edges : List ℕ) (t : Truth g lst edges) where
   abbrev n : ℕ
@@ -181,7 +157,7 @@ module _ (g : Graph) (lst edges : List ℕ) (t : Truth g lst edges) where
     unfolding membersOf group visible belongs
     members-is =
         let hl = below-n l l-in in
-        sym (scan-skip (belongs lst l) n l (omega arith) before-l 0 (omega arith))
+        sym (scan-skip (belongs lst l) n l (omega arith) 0 (λ q a b. before-l q b) (omega arith))
         ∙ scan-nodes (belongs lst l) n
         ∙ filter-cong _ _ (nodes n) (λ p k. step p (nodes-out n p k) (decide (isVisible g p)))
         ∙ sym (filter-and (r l) (isVisible g) (nodes n))

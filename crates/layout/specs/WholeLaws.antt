@@ -114,7 +114,7 @@ pub nodes-few : (n : ℕ) (least : List ℕ) → fileNodes n least ≤ n
 unfolding fileNodes visibleOf
 nodes-few n least = omega (arith, scan-length (inGroup least n) n 0)
 
-length-head : (n m g : ℕ) → length (headRecord n m g) ≡ 8
+pub length-head : (n m g : ℕ) → length (headRecord n m g) ≡ 8
 unfolding headRecord u16
 length-head n m g = refl
 
@@ -130,31 +130,32 @@ file-parts n least edges =
 pub room-head : (n : ℕ) (least edges : List ℕ) {k : ℕ} → length (fileOf n least edges) ≤ k → 0 + 8 ≤ k
 room-head n least edges h = omega (arith, file-parts n least edges)
 
-module _ (n : ℕ) (least edges next ls : List ℕ) (g : Partition n least edges) (k : Linked n least next) (q : ls ≡ leadersOf n least) (s : List ℕ) (room : length (fileOf n least edges) ≤ length s) where
-  groups-same : groupsBytes (edgeBit edges) (chain n next n) ls ≡ groupsBytes (edgeBit edges) (membersOf n least) (leadersOf n least)
-  groups-same = ap (groupsBytes (edgeBit edges) (chain n next n)) q ∙ groups-linked (edgeBit edges) n least next (g .small) k
+pub groups-same : (n : ℕ) (least edges next ls : List ℕ) → Partition n least edges → Linked n least next → ls ≡ leadersOf n least
+    → groupsBytes (edgeBit edges) (chain n next n) ls ≡ groupsBytes (edgeBit edges) (membersOf n least) (leadersOf n least)
+groups-same n least edges next ls g k q = ap (groupsBytes (edgeBit edges) (chain n next n)) q ∙ groups-linked (edgeBit edges) n least next (g .small) k
 
+module _ (n : ℕ) (least edges next ls : List ℕ) (g : Partition n least edges) (k : Linked n least next) (q : ls ≡ leadersOf n least) (s : List ℕ) (room : length (fileOf n least edges) ≤ length s) where
   module _ (m c : ℕ) {s₁ : List ℕ} {a : ℕ} (h : Wrote s 0 (headRecord n m c) s₁ a) where
     pub room-groups : a + length (groupsBytes (edgeBit edges) (chain n next n) ls) ≤ length s₁
-    room-groups = omega (arith, file-parts n least edges, h .place, wrote-length h, length-head n m c, ap length groups-same)
+    room-groups = omega (arith, file-parts n least edges, h .place, wrote-length h, length-head n m c, ap length (groups-same n least edges next ls g k q))
 
     module _ {s₂ : List ℕ} {b : ℕ} (w : Wrote s₁ a (groupsBytes (edgeBit edges) (chain n next n) ls) s₂ b) where
       pub room-super : b + length (superedgeBytes (edgeBit edges) ls) ≤ length s₂
-      room-super = omega (arith, file-parts n least edges, h .place, wrote-length h, length-head n m c, ap length groups-same, w .place, wrote-length w, ap (λ (x : List ℕ). length (superedgeBytes (edgeBit edges) x)) q)
+      room-super = omega (arith, file-parts n least edges, h .place, wrote-length h, length-head n m c, ap length (groups-same n least edges next ls g k q), w .place, wrote-length w, ap (λ (x : List ℕ). length (superedgeBytes (edgeBit edges) x)) q)
 
       module _ {s₃ : List ℕ} {d : ℕ} (v : Wrote s₂ b (superedgeBytes (edgeBit edges) ls) s₃ d) where
         pub room-end : d + 2 ≤ length s₃
-        room-end = omega (arith, file-parts n least edges, h .place, wrote-length h, length-head n m c, ap length groups-same, w .place, wrote-length w, v .place, wrote-length v, ap (λ (x : List ℕ). length (superedgeBytes (edgeBit edges) x)) q)
+        room-end = omega (arith, file-parts n least edges, h .place, wrote-length h, length-head n m c, ap length (groups-same n least edges next ls g k q), w .place, wrote-length w, v .place, wrote-length v, ap (λ (x : List ℕ). length (superedgeBytes (edgeBit edges) x)) q)
 
         pub wrote-file : m ≡ fileNodes n least → c ≡ length ls → {s₄ : List ℕ} {f : ℕ} → Wrote s₃ d (0x45 ∷ 0x4E ∷ []) s₄ f → Wrote s 0 (fileOf n least edges) s₄ f
         unfolding fileOf fileGroups endRecord
         wrote-file em ec t =
             let e₁ : c ≡ length (leadersOf n least) = ec ∙ ap length q in
-            rw (← em, ← e₁, ← groups-same, ← q) (wrote-then h (wrote-then w (wrote-then v t)))
+            rw (← em, ← e₁, ← groups-same n least edges next ls g k q, ← q) (wrote-then h (wrote-then w (wrote-then v t)))
 
 -- all that writing gives, from the numbers that the code has counted
 module _ (n : ℕ) (least edges : List ℕ) (g m s : ℕ) (eg : g ≡ fileGroups n least) (em : m ≡ fileNodes n least) (es : s ≡ fileSuperedges n least edges) where
-  length-is : 10 + 4 * g + 2 * m + 6 * s ≡ fileLength n least edges
+  pub length-is : 10 + 4 * g + 2 * m + 6 * s ≡ fileLength n least edges
   unfolding fileLength
   length-is = omega arith
 
@@ -193,9 +194,9 @@ pub visible-fit : (n : ℕ) (least : List ℕ) {m : ℕ} → m ≡ length (scan 
 unfolding fileNodes visibleOf
 visible-fit n least e = e
 
-pub joins-counted : (n : ℕ) (least edges ls : List ℕ) {s : ℕ} → s ≡ superedgeTotal (edgeBit edges) ls → ls ≡ leadersOf n least → s ≡ fileSuperedges n least edges
+pub superedges-counted : (n : ℕ) (least edges ls : List ℕ) {s : ℕ} → s ≡ superedgeTotal (edgeBit edges) ls → ls ≡ leadersOf n least → s ≡ fileSuperedges n least edges
 unfolding fileSuperedges
-joins-counted n least edges ls e q = e ∙ ap (superedgeTotal (edgeBit edges)) q
+superedges-counted n least edges ls e q = e ∙ ap (superedgeTotal (edgeBit edges)) q
 
 pub taken-length : (n : ℕ) (least : List ℕ) {s t : List ℕ} {r : ℕ} → n ≤ length s → Wrote s 0 (scan (leads least) n 0) t r → r ≡ length (take r t)
 unfolding leadersOf

@@ -49,25 +49,25 @@ module _ (e : ℕ → ℕ → Bool) where
   unfolding groupRecord u16At u16
   count-back g r = omega arith
 
-  pub body-back : (g r : List ℕ) → drop 4 (groupRecord e g ++ r) ≡ concat (map u16 g) ++ r
+  pub body : (g r : List ℕ) → drop 4 (groupRecord e g ++ r) ≡ concat (map u16 g) ++ r
   unfolding groupRecord u16
-  body-back g r = refl
+  body g r = refl
 
   first : (g r : List ℕ) → eqb (getD (groupRecord e g ++ r) 1 0) 0x43 ≡ isClique (kindOf e g)
   unfolding groupRecord
   first g r = mark-back (kindOf e g)
 
-  pub next-back : (g r : List ℕ) → drop (2 * u16At (groupRecord e g ++ r) 2) (drop 4 (groupRecord e g ++ r)) ≡ r
-  next-back g r = rw (count-back g r, body-back g r) (u16s-rest g r)
+  pub next : (g r : List ℕ) → drop (2 * u16At (groupRecord e g ++ r) 2) (drop 4 (groupRecord e g ++ r)) ≡ r
+  next g r = rw (count-back g r, body g r) (u16s-rest g r)
 
-  groups-back : (gs : List (List ℕ)) (r : List ℕ) → groupsAt (length gs) (concat (map (groupRecord e) gs) ++ r) ≡ map marked gs
+  pub groups-back : (gs : List (List ℕ)) (r : List ℕ) → groupsAt (length gs) (concat (map (groupRecord e) gs) ++ r) ≡ map marked gs
   unfolding groupsAt concat
   groups-back [] r = refl
   groups-back (g ∷ gs) r =
       rw (append-assoc (groupRecord e g) (concat (map (groupRecord e) gs)) r)
       (ap₂ _∷_
-      (ap₂ (λ (b : Bool) (l : List ℕ). (b, l)) (first g rest) (rw (count-back g rest, body-back g rest) (u16s-back g rest)))
-      (ap (groupsAt (length gs)) (next-back g rest) ∙ groups-back gs r))
+      (ap₂ (λ (b : Bool) (l : List ℕ). (b, l)) (first g rest) (rw (count-back g rest, body g rest) (u16s-back g rest)))
+      (ap (groupsAt (length gs)) (next g rest) ∙ groups-back gs r))
     where
       rest : List ℕ
       rest = concat (map (groupRecord e) gs) ++ r
@@ -77,7 +77,7 @@ module _ (e : ℕ → ℕ → Bool) where
   groups-after [] r = refl
   groups-after (g ∷ gs) r =
       rw (append-assoc (groupRecord e g) (concat (map (groupRecord e) gs)) r)
-      (ap (afterGroups (length gs)) (next-back g (concat (map (groupRecord e) gs) ++ r)) ∙ groups-after gs r)
+      (ap (afterGroups (length gs)) (next g (concat (map (groupRecord e) gs) ++ r)) ∙ groups-after gs r)
 
 pub superedges-back : (js : List (ℕ × ℕ)) (k : ℕ) → length js ≤ k → superedgesAt k (concat (map superedgeRecord js) ++ endRecord) ≡ js
 unfolding superedgesAt concat superedgeRecord endRecord u16At u16

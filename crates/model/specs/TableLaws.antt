@@ -236,10 +236,10 @@ module _ (g : Graph) (h : Proper g) where
   abbrev eq : Equivalence vs r
   eq = equivalence vs (g .edge) (proper-simple g h) (nodes-ascending (g .nodeCount))
 
-  least-told : (p : ℕ) → p ∈ vs → nodeNumber (nodesOf g) p 0 ≡ least vs r p
+  pub least-told : (p : ℕ) → p ∈ vs → nodeNumber (nodesOf g) p 0 ≡ least vs r p
   least-told p m = least-at g p (nodes-out (g .nodeCount) p m)
 
-  group-told : (l : ℕ) → l ∈ leaders vs r → filter (λ p. eqb (nodeNumber (nodesOf g) p 0) l) vs ≡ group vs r l
+  pub group-told : (l : ℕ) → l ∈ leaders vs r → filter (λ p. eqb (nodeNumber (nodesOf g) p 0) l) vs ≡ group vs r l
   unfolding group
   group-told l m = filter-cong _ (r l) vs (λ p k. ap (λ (x : ℕ). eqb x l) (least-told p k) ∙ iff-eq (eqb (least vs r p) l) (r l p) (there p k) (back p k))
     where

@@ -9,7 +9,7 @@ use Rattle.model.specs.Graph.{Graph, emptyGraph}
 use Rattle.model.specs.Lists.{concat}
 use Rattle.model.specs.Program.{accepted, changeLines, groupLine, inputOf, openLine, printed, program, refusedAt, refusedLine, releaseLines, superedgeLine}
 use Rattle.model.specs.Reading.{u16At}
-use Rattle.model.specs.ReadingLaws.{body-back, count-back, groups-after, next-back, superedges-back, u16s-back}
+use Rattle.model.specs.ReadingLaws.{body, count-back, groups-after, next, superedges-back, u16s-back}
 use Rattle.model.specs.Release.{encode, endRecord, groupRecord, headRecord, release, superedgeRecord, superedges, u16, visible, visibleEdge, visibleGroups}
 use Rattle.model.specs.ReleaseLaws.{length-encode}
 use Rattle.model.specs.Updates.{Update, answers, batchGraph}
@@ -17,14 +17,14 @@ use Rattle.print.specs.Lines.{fileText, groupText, groupTexts, memberTex
 
 group-text : (e : ℕ → ℕ → Bool) (g r : List ℕ) → groupText (groupRecord e g ++ r) ≡ groupLine e g
 unfolding groupText memberTexts groupLine
-group-text e g r = rw (count-back e g r, body-back e g r, u16s-back g r) (unfold groupRecord in refl)
+group-text e g r = rw (count-back e g r, body e g r, u16s-back g r) (unfold groupRecord in refl)
 
 group-texts : (e : ℕ → ℕ → Bool) (gs : List (List ℕ)) (r : List ℕ) → groupTexts (length gs) (concat (map (groupRecord e) gs) ++ r) ≡ concat (map (groupLine e) gs)
 unfolding groupTexts concat
 group-texts e [] r = refl
 group-texts e (g ∷ gs) r =
     rw (append-assoc (groupRecord e g) (concat (map (groupRecord e) gs)) r)
-    (ap₂ _++_ (group-text e g rest) (ap (groupTexts (length gs)) (next-back e g rest) ∙ group-texts e gs r))
+    (ap₂ _++_ (group-text e g rest) (ap (groupTexts (length gs)) (next e g rest) ∙ group-texts e gs r))
   where
     rest : List ℕ
     rest = concat (map (groupRecord e) gs) ++ r

@@ -78,6 +78,17 @@ module _ (c : Bool) (u q : ℕ) (row other : List ℕ) where
 row-word : (edges : List ℕ) (p k : ℕ) → k < 8 → getD (rowIn edges p) k 0 ≡ getD edges (8 * p + k) 0
 row-word edges p k l = getD-take 8 (drop (8 * p) edges) k 0 l ∙ getD-drop (8 * p) edges k 0
 
+-- two rows of the table, word by word
+module _ (c : Bool) (u q : ℕ) (edges : List ℕ) where
+  pub meets-words : meets c u q (rowIn edges u) (rowIn edges q) 8 ≡ true → (k : ℕ) → k < 8 → bitXor (getD edges (8 * u + k) 0) (getD edges (8 * q + k) 0) ≡ ownBits c u q k
+  meets-words h k l = rw (row-word edges u k l, row-word edges q k l) at (meets-each c u q (rowIn edges u) (rowIn edges q) 8 h k l)
+
+  pub meets-by : ((k : ℕ) → k < 8 → bitXor (getD edges (8 * u + k) 0) (getD edges (8 * q + k) 0) ≡ ownBits c u q k) → meets c u q (rowIn edges u) (rowIn edges q) 8 ≡ true
+  meets-by h = meets-all c u q (rowIn edges u) (rowIn edges q) 8 (λ k l. rw (row-word edges u k l, row-word edges q k l) (h k l))
+
+  pub meets-differ : (i own : ℕ) → i < 8 → own ≡ ownBits c u q i → (bitXor (getD edges (8 * u + i) 0) (getD edges (8 * q + i) 0) ≡ own → ⊥) → meets c u q (rowIn edges u) (rowIn edges q) 8 ≡ false
+  meets-differ i own l e d = meets-not c u q (rowIn edges u) (rowIn edges q) 8 i l (λ h. d ((rw (row-word edges u i l, row-word edges q i l) at h) ∙ sym e))
+
 pub row-part : (edges : List ℕ) (p : ℕ) → take (8 * p + 8 - 8 * p) (drop (8 * p) edges) ≡ rowIn edges p
 row-part edges p = let e : 8 * p + 8 - 8 * p ≡ 8 = omega arith in rw e
 
@@ -89,28 +100,19 @@ module _ (n : ℕ) (edges table keys : List ℕ) (ready : Ready n edges keys) (u
   abbrev open-key : Bool
   open-key = keyAgrees keys 0 u q
 
-  abbrev Meet : Bool → Type 0
-  Meet c = (k : ℕ) → k < 8 → bitXor (getD edges (8 * u + k) 0) (getD edges (8 * q + k) 0) ≡ ownBits c u q k
-
-  words : (c : Bool) → meets c u q (rowIn edges u) (rowIn edges q) 8 ≡ true → Meet c
-  words c h k l = rw (row-word edges u k l, row-word edges q k l) at (meets-each c u q (rowIn edges u) (rowIn edges q) 8 h k l)
-
-  by-words : (c : Bool) → Meet c → meets c u q (rowIn edges u) (rowIn edges q) 8 ≡ true
-  by-words c h = meets-all c u q (rowIn edges u) (rowIn edges q) 8 (λ k l. rw (row-word edges u k l, row-word edges q k l) (h k l))
-
   similar-of : (open-key ≡ true) ⊎ (open-key ≡ false) → meets (not open-key) u q (rowIn edges u) (rowIn edges q) 8 ≡ true → similar (nodes n) e u q ≡ true
-  similar-of (inl t) h = similar-N (nodes n) e u q (meet-false n edges keys ready u q hu hq (words false (rw t at h)))
-  similar-of (inr t) h = similar-N+ (nodes n) e u q (meet-true n edges keys ready u q hu hq (words true (rw t at h)))
+  similar-of (inl t) h = similar-N (nodes n) e u q (meet-false n edges keys ready u q hu hq (meets-words false u q edges (rw t at h)))
+  similar-of (inr t) h = similar-N+ (nodes n) e u q (meet-true n edges keys ready u q hu hq (meets-words true u q edges (rw t at h)))
 
   abbrev Found : Type 0
   Found = (keysAgree keys u q ≡ true) × (meets (not open-key) u q (rowIn edges u) (rowIn edges q) 8 ≡ true)
 
   of-similar : (q ≡ u → ⊥) → (open-key ≡ true) ⊎ (open-key ≡ false) → (falseTwins (nodes n) e u q ≡ true) ⊎ (trueTwins (nodes n) e u q ≡ true) → Found
   unfolding keysAgree
-  of-similar d (inl t) (inl h) = (or-left (keyAgrees keys 1 u q) t, rw t (by-words false (false-meet n edges keys ready u q hu hq h)))
+  of-similar d (inl t) (inl h) = (or-left (keyAgrees keys 1 u q) t, rw t (meets-by false u q edges (false-meet n edges keys ready u q hu hq h)))
   of-similar d (inr t) (inl h) = differ (false-key n edges keys ready u q hu hq h) t
   of-similar d (inl t) (inr h) = absurd (d (sym (keys-apart n edges keys ready u q hu hq t (true-key n edges keys ready u q hu hq h))))
-  of-similar d (inr t) (inr h) = (or-right (keyAgrees keys 0 u q) (true-key n edges keys ready u q hu hq h), rw t (by-words true (true-meet n edges keys ready u q hu hq h)))
+  of-similar d (inr t) (inr h) = (or-right (keyAgrees keys 0 u q) (true-key n edges keys ready u q hu hq h), rw t (meets-by true u q edges (true-meet n edges keys ready u q hu hq h)))
 
   pub tried-joins : tried edges table keys u w (rowIn edges u) q ≡ joins n edges table u w q
   unfolding tried mayJoin joins

@@ -2,12 +2,13 @@
 ghost use mathlib.Core.Path.{_≡_};
 ghost use mathlib.Core.Bool.{not};
 ghost use Prim.Native.Nat.{ℕ, _+_, _*_, _/_, _%_, _^_, _≤_, _<_};
+ghost use lib.Count.{trailingZeros};
 ghost use lib.ListN.{length};
 ghost use Rattle.model.specs.Graph.{rowWords, nodeNumbers};
 ghost use Rattle.model.specs.Grouping.{cube};
 ghost use Rattle.model.specs.Tables.{edgeBit};
 ghost use Rattle.model.specs.Refusals.{lengths, wrongSize};
-ghost use Rattle.rows.specs.Search.{Ready, firstFrom, joins, keyAgrees, keysAgree, mayJoin, ownBit, ownBits, tried};
+ghost use Rattle.rows.specs.Search.{Ready, firstFrom, joins, keyAgrees, keysAgree, mayJoin, meets, ownBit, ownBits, rowIn, tried};
 ghost use Rattle.rows.specs.Rows.{Flipped, Changed, movedKey, KeysMoved, KeysChanged, lent};
 
 // A graph by value: how many nodes it has. Its tables are lent.
@@ -204,6 +205,30 @@ fn own_bits(closed: bool, u: usize, q: usize, i: usize) -> u64
         return own_bit(u, i) ^ own_bit(q, i);
     }
     0
+}
+
+// Whether the rows of u and q agree, as open or as closed ones.
+pub fn same_row(edges: &[u64], closed: bool, u: usize, q: usize) -> bool
+    requires { ⌜ (u < 512) × (q < 512) × (rowWords * u + rowWords ≤ length (now edges)) × (rowWords * q + rowWords ≤ length (now edges)) ⌝ }
+    ensures { λ r. ⌜ r ≡ meets closed u q (rowIn (now (edges .entry)) u) (rowIn (now (edges .entry)) q) rowWords ⌝ }
+{
+    let a = Graph::ROW_WORDS * u;
+    let b = Graph::ROW_WORDS * q;
+    let mut i = 0;
+    while i < 8 {
+        if edges[a + i] ^ edges[b + i] != own_bits(closed, u, q, i) {
+            return false;
+        }
+        i += 1;
+    }
+    true
+}
+
+// The place of the lowest bit of a word.
+pub fn lowest(x: u64) -> usize
+    ensures { λ r. ⌜ r ≡ trailingZeros 64 x ⌝ }
+{
+    u64::trailing_zeros(x) as usize
 }
 
 // The least q below m that may join and whose row agrees with u's, as an open or as a closed one; m if there is none.

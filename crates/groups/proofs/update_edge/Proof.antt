@@ -19,7 +19,7 @@ take-out-requires c κs =
     let g = c .before in
     let l = g .before in
     let s = l .before .before .before .before in
-    (asked₀ (s .pre) (l .lesser .ensures) (g .greater .ensures), asked-lesser (s .pre) (l .lesser .ensures))
+    (asked₀ (s .pre) (l .lesser .ensures) (g .greater .ensures), omega (arith, asked-lesser (s .pre) (l .lesser .ensures), asked-greater (s .pre) (g .greater .ensures)))
 
 take-out-requires-2 : tie.Need-take-out-requires-2
 take-out-requires-2 c κs =
@@ -27,7 +27,7 @@ take-out-requires-2 c κs =
     let g = o₁ .before .before in
     let l = g .before in
     let s = l .before .before .before .before in
-    (asked₁ (s .pre) (l .lesser .ensures) (g .greater .ensures) (o₁ .take-out .ensures .0), asked-greater (s .pre) (g .greater .ensures))
+    (asked₁ (s .pre) (l .lesser .ensures) (g .greater .ensures) (o₁ .take-out .ensures .0), omega (arith, asked-lesser (s .pre) (l .lesser .ensures), asked-greater (s .pre) (g .greater .ensures)))
 
 change-edge-requires : tie.Need-change-edge-requires
 change-edge-requires c κs =
@@ -60,8 +60,8 @@ put-back-requires c κs =
       asked₂ (s .pre) (l .lesser .ensures) (g .greater .ensures) (o₁ .take-out .ensures .0) (o₂ .take-out2 .ensures .0),
       asked-ready (s .pre) (l .lesser .ensures) (g .greater .ensures) (o₁ .take-out .ensures .0) (o₂ .take-out2 .ensures .0) (d .change-edge .ensures) (k .change-keys .ensures),
       omega arith,
-      asked-lesser (s .pre) (l .lesser .ensures),
-      asked-greater (s .pre) (g .greater .ensures),
+      omega (arith, asked-lesser (s .pre) (l .lesser .ensures), asked-greater (s .pre) (g .greater .ensures)),
+      omega (arith, asked-lesser (s .pre) (l .lesser .ensures), asked-greater (s .pre) (g .greater .ensures)),
     )
 
 put-back-requires-2 : tie.Need-put-back-requires-2
@@ -77,19 +77,19 @@ put-back-requires-2 c κs =
       asked₃ (s .pre) (l .lesser .ensures) (g .greater .ensures) (o₁ .take-out .ensures .0) (o₂ .take-out2 .ensures .0) (d .change-edge .ensures) (k .change-keys .ensures) (b₁ .put-back .ensures),
       asked-ready (s .pre) (l .lesser .ensures) (g .greater .ensures) (o₁ .take-out .ensures .0) (o₂ .take-out2 .ensures .0) (d .change-edge .ensures) (k .change-keys .ensures),
       omega arith,
-      asked-greater (s .pre) (g .greater .ensures),
-      asked-greater (s .pre) (g .greater .ensures),
+      omega (arith, asked-lesser (s .pre) (l .lesser .ensures), asked-greater (s .pre) (g .greater .ensures)),
+      omega (arith, asked-lesser (s .pre) (l .lesser .ensures), asked-greater (s .pre) (g .greater .ensures)),
     )
 
-add-difference : tie.Need-add-difference
-add-difference c =
+add-left : tie.Need-add-left
+add-left c =
     let b₁ = c .before .before .before .before .before .before .before .before in
     let o₂ = b₁ .before .before .before .before .before .before .before .before .before .before .before .before .before .before in
     let o₁ = o₂ .before .before .before .before in
     omega (arith, parted-small (o₁ .take-out .ensures .1), parted-small (o₂ .take-out2 .ensures .1))
 
-add-difference-2 : tie.Need-add-difference-2
-add-difference-2 c =
+add-joined : tie.Need-add-joined
+add-joined c =
     let b₂ = c .before .before in
     let b₁ = b₂ .before .before .before .before .before .before in
     omega (arith, back-small (b₁ .put-back .ensures), back-small (b₂ .put-back2 .ensures))
@@ -138,8 +138,8 @@ update-edge-spec =
     change-keys-requires
     put-back-requires
     put-back-requires-2
-    add-difference
-    add-difference-2
+    add-left
+    add-joined
     difference-requires
     same-length
     same-length-2

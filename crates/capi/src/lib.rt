@@ -1,0 +1,99 @@
+// The calls for C and Rust: each does what the library's call does, and equals the model's call on every input.
+ghost use mathlib.Core.Path.{_≡_};
+ghost use mathlib.Core.Bool.{cond};
+ghost use Rattle.model.specs.Calls.{applyCall, groupCall, neighboursCall, openCall, tiedCall};
+ghost use Rattle.rows.specs.Rows.{lent};
+ghost use Rattle.index.specs.Index.{applied, grouped, listed, opened};
+
+// A graph of n nodes without edges, none hidden.
+#[no_mangle]
+pub extern "C" fn tegmulos_open(
+    n: usize,
+    edges: &mut [u64],
+    nodes: &mut [u16],
+    keys: &mut [u32],
+) -> u16
+    ensures { λ r. ⌜ opened r (lent (now (edges .exit)) (now (nodes .exit)) (now (keys .exit))) ≡ openCall n (lent (now (edges .entry)) (now (nodes .entry)) (now (keys .entry))) ⌝ }
+{
+    index::open(n, edges, nodes, keys)
+}
+
+// A batch of updates, each with its answer.
+#[no_mangle]
+pub extern "C" fn tegmulos_apply(
+    n: usize,
+    edges: &mut [u64],
+    nodes: &mut [u16],
+    keys: &mut [u32],
+    batch: &[u16],
+    answers: &mut [i16],
+) -> u16
+    ensures { λ r. ⌜ applied r (lent (now (edges .exit)) (now (nodes .exit)) (now (keys .exit))) (now (answers .exit)) ≡ applyCall n (lent (now (edges .entry)) (now (nodes .entry)) (now (keys .entry))) (now (batch .entry)) (now (answers .entry)) ⌝ }
+{
+    index::apply(n, edges, nodes, keys, batch, answers)
+}
+
+// The neighbours of p, ascending, and their count.
+#[no_mangle]
+pub extern "C" fn tegmulos_neighbours(
+    n: usize,
+    edges: &[u64],
+    nodes: &[u16],
+    keys: &[u32],
+    p: u16,
+    out: &mut [u16],
+    count: &mut u16,
+) -> u16
+    ensures { λ r. ⌜ listed r (now (count .exit)) (now (out .exit)) ≡ neighboursCall n (lent (now (edges .entry)) (now (nodes .entry)) (now (keys .entry))) p (now (out .entry)) ⌝ }
+{
+    let found = index::neighbours(n, edges, nodes, keys, p, out);
+    *count = found.count;
+    found.result
+}
+
+// A yes-or-no as 1 or 0.
+fn flag(yes: bool) -> u16
+    ensures { λ r. ⌜ r ≡ cond yes 1 0 ⌝ }
+{
+    if yes { 1 } else { 0 }
+}
+
+// Whether there is an edge between p and q: 1 or 0.
+#[no_mangle]
+pub extern "C" fn tegmulos_tied(
+    n: usize,
+    edges: &[u64],
+    nodes: &[u16],
+    keys: &[u32],
+    p: u16,
+    q: u16,
+    yes: &mut u16,
+) -> u16
+    ensures number { λ r. ⌜ r ≡ tiedCall n (lent (now (edges .entry)) (now (nodes .entry)) (now (keys .entry))) p q .result ⌝ }
+    ensures said { λ _. ⌜ now (yes .exit) ≡ cond (tiedCall n (lent (now (edges .entry)) (now (nodes .entry)) (now (keys .entry))) p q .yes) 1 0 ⌝ }
+{
+    let found = index::tied(n, edges, nodes, keys, p, q);
+    *yes = flag(found.yes);
+    found.result
+}
+
+// The group of p: least member, kind (0 singleton, 1 independent, 2 clique), size.
+#[no_mangle]
+pub extern "C" fn tegmulos_group(
+    n: usize,
+    edges: &[u64],
+    nodes: &[u16],
+    keys: &[u32],
+    p: u16,
+    least: &mut u16,
+    kind: &mut u16,
+    size: &mut u16,
+) -> u16
+    ensures { λ r. ⌜ grouped r (now (least .exit)) (now (kind .exit)) (now (size .exit)) ≡ groupCall n (lent (now (edges .entry)) (now (nodes .entry)) (now (keys .entry))) p ⌝ }
+{
+    let found = index::group(n, edges, nodes, keys, p);
+    *least = found.least;
+    *kind = found.kind;
+    *size = found.size;
+    found.result
+}

@@ -1,0 +1,58 @@
+-- What the test of lent tables looks at. Together it is the model's `holds` (HoldLaws).
+use mathlib.Core.Bool.{Bool, not, _&&_, _||_}
+use mathlib.Core.List.{List}
+use Prim.Native.Nat.{ℕ, _+_, _*_, _%_, _^_}
+use lib.Dec.{eqb, leb, ltb}
+use lib.ListN.{getD}
+use Rattle.model.specs.Lists.{all, nodes}
+use Rattle.model.specs.Graph.{maxNodes, rowWords}
+use Rattle.model.specs.Grouping.{cube, openKey}
+use Rattle.model.specs.Tables.{edgeBit, nodeNumber}
+use Rattle.rows.specs.Search.{edgesIn, firstFrom, joins, meets, rowIn}
+
+-- q is another node of the graph, and p's bit stands in q's row
+unfoldable pub mirrored : ℕ → List ℕ → ℕ → ℕ → Bool
+mirrored n edges p q = ltb q n && (not (eqb q p) && edgeBit edges q p)
+
+-- node q's bit does not stand in p's row, or is mirrored
+unfoldable pub bitHolds : ℕ → List ℕ → ℕ → ℕ → Bool
+bitHolds n edges p q = not (edgeBit edges p q) || mirrored n edges p q
+
+unfoldable pub rowHolds : ℕ → List ℕ → ℕ → Bool
+rowHolds n edges p = all (nodes maxNodes) (bitHolds n edges p)
+
+-- both keys of p are those of a row whose cubes add up to sum
+unfoldable pub agrees : List ℕ → ℕ → ℕ → Bool
+agrees keys p sum = eqb (getD keys (2 * p) 0) sum && eqb (getD keys (2 * p + 1) 0) ((sum + cube p) % 2 ^ 32)
+
+-- both keys of p are those of its row
+unfoldable pub keysHold : ℕ → List ℕ → List ℕ → ℕ → Bool
+keysHold n edges keys p = agrees keys p (openKey (nodes n) (edgesIn n edges) p)
+
+unfoldable pub rowsHold : ℕ → List ℕ → List ℕ → Bool
+rowsHold n edges keys = all (nodes n) (λ p. rowHolds n edges p && keysHold n edges keys p)
+
+-- l is not above p, leads a group, and p's row is that of a twin of l: of a true twin if there is an edge between the two
+unfoldable pub twinOf : List ℕ → List ℕ → ℕ → ℕ → Bool
+twinOf edges table p l = leb l p && (eqb (nodeNumber table l 0) l && meets (edgeBit edges l p) p l (rowIn edges p) (rowIn edges l) rowWords)
+
+unfoldable pub twinsHold : ℕ → List ℕ → List ℕ → Bool
+twinsHold n edges table = all (nodes n) (λ p. twinOf edges table p (nodeNumber table p 0))
+
+-- if u leads a group, no leader below it is similar to it
+unfoldable pub alone : ℕ → List ℕ → List ℕ → ℕ → Bool
+alone n edges table u = not (eqb (nodeNumber table u 0) u) || eqb (firstFrom (joins n edges table u u) 0 u) u
+
+unfoldable pub leadersApart : ℕ → List ℕ → List ℕ → Bool
+leadersApart n edges table = all (nodes n) (alone n edges table)
+
+-- a is a member of p's group, p follows a, and a is below p unless p leads the group
+unfoldable pub follows : ℕ → List ℕ → ℕ → ℕ → Bool
+follows n table p a = ltb a n && (eqb (nodeNumber table a 0) (nodeNumber table p 0) && (eqb (nodeNumber table a 1) p && (eqb (nodeNumber table p 0) p || ltb a p)))
+
+-- the previous member and the mark of p
+unfoldable pub nodeHolds : ℕ → List ℕ → ℕ → Bool
+nodeHolds n table p = follows n table p (nodeNumber table p 2) && ltb (nodeNumber table p 3) 2
+
+unfoldable pub nodesHold : ℕ → List ℕ → Bool
+nodesHold n table = all (nodes n) (nodeHolds n table)

@@ -1,0 +1,410 @@
+-- The parts of the test together are the model's `holds`.
+use mathlib.Core.Path.{_≡_, refl, sym, ap, ap₂, _∙_, subst}
+use mathlib.Core.Bool.{Bool, true, false, not, _&&_, _||_, cond, Bool·beq}
+use mathlib.Core.List.{List}
+use mathlib.Core.Logic.{_⊎_, inl, inr, ⊎-elim}
+use Prim.Native.Nat.{ℕ, suc, zero, _+_, _*_, _/_, _%_, _^_, _≤_, _<_}
+use native.Mathlib.Omega.{arith}
+use lib.Dec.{eqb, leb, ltb}
+use lib.ListN.{length, getD}
+use lib.Seq.{ext-getD}
+use borrow.Author.Tests.{eqb-true, eqb-false, eq-eqb, ne-eqb, le-leb, leb-true, lt-ltb, ltb-true, not-true}
+use Rattle.model.specs.Lists.{all, nodes, sameList}
+use Rattle.model.specs.Graph.{Graph, Proper, maxNodes, nodeNumbers, rowWords}
+use Rattle.model.specs.Grouping.{cube, falseTwins, openKey, similar, sumCubes, trueTwins}
+use Rattle.model.specs.Tables.{Tables, edgeBit, edgesOf, graphOf, holds, keysOf, nodeNumber, nodesOf, simple, tablesOf}
+use Rattle.model.specs.TestLaws.{and-fst, and-snd, and-true, decide, differ, eq-beq, iff-eq, or-cases, or-left, or-right}
+use Rattle.model.specs.ListLaws.{all-elim, all-intro, nodes-in, nodes-out, same-refl}
+use Rattle.model.specs.TwinLaws.{Simple, falseTwins-by, falseTwins-no-edge, similar-N, similar-N+, similar-cases, trueTwins-edge}
+use Rattle.model.specs.TableLaws.{edge-bit, held-proper, held-tables, length-keys, mark-at, proper-simple, simple-edge, simple-loop, simple-proper}
+use Rattle.rows.specs.Rows.{Words, lent}
+use Rattle.rows.specs.Search.{Ready, edgesIn, firstFrom, joins, meets, rowIn}
+use Rattle.rows.specs.EdgeLaws.{edges-by-bits}
+use Rattle.rows.specs.KeyLaws.{keyOf, keys-at}
+use Rattle.rows.specs.SearchLaws.{first-none, meets-by, meets-words, ready}
+use Rattle.rows.specs.TwinRowLaws.{false-meet, meet-false, meet-true, true-meet}
+use Rattle.rings.specs.Ring.{Of, Parts, Table}
+use Rattle.rings.specs.NodesLaws.{graph-parts, is-nodes, of-nodes}
+use Rattle.groups.specs.Groups.{Bare}
+use Rattle.groups.specs.GroupLaws.{first-cases}
+use Rattle.groups.specs.ChangeLaws.{bare-mark}
+use Rattle.checks.specs.Checks.{agrees, alone, bitHolds, follows, keysHold, leadersApart, mirrored, nodeHolds, nodesHold, rowHolds, rowsHold, twinOf, twinsHold}
+use Rattle.checks.specs.CertificateLaws.{Follows, Led, certified, led, ringed}
+
+both-false : (a b : Bool) {c : Bool} → c ≡ false → (a && (b && c)) ≡ false
+both-false true true e = e
+both-false true false e = refl
+both-false false b e = refl
+
+-- rows and keys that pass are those of the graph
+module _ (n : ℕ) (t : Tables) (small : n ≤ maxNodes) (size : length (t .edges) ≡ rowWords * n) (size-k : length (t .keys) ≡ 2 * n) (words : Words (t .edges)) where
+  abbrev g : Graph
+  g = graphOf n t
+
+  module _ (h : rowsHold n (t .edges) (t .keys) ≡ true) where
+    row : (p : ℕ) → p < n → (rowHolds n (t .edges) p && keysHold n (t .edges) (t .keys) p) ≡ true
+    unfolding rowsHold
+    row p hp = all-elim (nodes n) (λ p. rowHolds n (t .edges) p && keysHold n (t .edges) (t .keys) p) h p (nodes-in n p hp)
+
+    mirror : (p q : ℕ) → p < n → q < 512 → edgeBit (t .edges) p q ≡ true → mirrored n (t .edges) p q ≡ true
+    unfolding rowHolds bitHolds
+    mirror p q hp hq e =
+        rw e at (all-elim (nodes 512) (λ q. not (edgeBit (t .edges) p q) || mirrored n (t .edges) p q) (and-fst (rowHolds n (t .edges) p) _ (row p hp)) q (nodes-in 512 q hq))
+
+    mirror-inside : (p q : ℕ) → p < n → q < 512 → edgeBit (t .edges) p q ≡ true → q < n
+    unfolding mirrored
+    mirror-inside p q hp hq e = ltb-true q n (and-fst (ltb q n) _ (mirror p q hp hq e))
+
+    mirror-back : (p q : ℕ) → p < n → q < 512 → edgeBit (t .edges) p q ≡ true → edgeBit (t .edges) q p ≡ true
+    unfolding mirrored
+    mirror-back p q hp hq e = and-snd (not (eqb q p)) _ (and-snd (ltb q n) _ (mirror p q hp hq e))
+
+    no-loop : (p : ℕ) → p < n → edgeBit (t .edges) p p ≡ false
+    unfolding mirrored
+    no-loop p hp = step (decide (edgeBit (t .edges) p p))
+      where
+        step : (edgeBit (t .edges) p p ≡ true) ⊎ (edgeBit (t .edges) p p ≡ false) → edgeBit (t .edges) p p ≡ false
+        step (inl e) = absurd (eqb-false p p (not-true (eqb p p) (and-fst (not (eqb p p)) _ (and-snd (ltb p n) _ (mirror p p hp (omega arith) e)))) refl)
+        step (inr e) = e
+
+    even : (p q : ℕ) → p < n → q < n → (ltb p n && (ltb q n && edgeBit (t .edges) p q)) ≡ (ltb q n && (ltb p n && edgeBit (t .edges) q p))
+    even p q hp hq = rw (lt-ltb p n hp, lt-ltb q n hq) (iff-eq (edgeBit (t .edges) p q) (edgeBit (t .edges) q p) (mirror-back p q hp (omega arith)) (mirror-back q p hq (omega arith)))
+
+    rows-simple : simple (graphOf n t) ≡ true
+    unfolding simple graphOf
+    rows-simple =
+        all-intro (nodes n) _
+        (λ p m. and-true (ap not (both-false (ltb p n) (ltb p n) (no-loop p (nodes-out n p m)))) (all-intro (nodes n) _ (λ q k. eq-beq _ _ (even p q (nodes-out n p m) (nodes-out n q k)))))
+
+    rows-edges : t .edges ≡ edgesOf (graphOf n t)
+    rows-edges = edges-by-bits g (t .edges) (unfold graphOf in size) words (unfold graphOf in at)
+      where
+        at : (p q : ℕ) → p < n → q < 512 → edgeBit (t .edges) p q ≡ (ltb p n && (ltb q n && edgeBit (t .edges) p q))
+        at p q hp hq = step (decide (edgeBit (t .edges) p q))
+          where
+            step : (edgeBit (t .edges) p q ≡ true) ⊎ (edgeBit (t .edges) p q ≡ false) → edgeBit (t .edges) p q ≡ (ltb p n && (ltb q n && edgeBit (t .edges) p q))
+            step (inl e) = rw (lt-ltb p n hp, lt-ltb q n (mirror-inside p q hp hq e))
+            step (inr e) = e ∙ sym (both-false (ltb p n) (ltb q n) e)
+
+    rows-keys : t .keys ≡ keysOf (graphOf n t)
+    unfolding graphOf keysHold agrees openKey edgesIn
+    rows-keys = ext-getD 0 (t .keys) (keysOf g) (size-k ∙ sym (length-keys g)) at
+      where
+        both : (p : ℕ) → p < n → agrees (t .keys) p (openKey (nodes n) (edgesIn n (t .edges)) p) ≡ true
+        both p hp = and-snd (rowHolds n (t .edges) p) _ (row p hp)
+
+        one : (p k : ℕ) → p < n → k < 2 → getD (t .keys) (2 * p + k) 0 ≡ keyOf (graphOf n t) p k
+        one p zero hp hk =
+            let e : getD (t .keys) (2 * p) 0 ≡ openKey (nodes n) (edgesIn n (t .edges)) p = eqb-true _ _ (and-fst (eqb (getD (t .keys) (2 * p) 0) (openKey (nodes n) (edgesIn n (t .edges)) p)) _ (both p hp)) in
+            let z : 2 * p + 0 ≡ 2 * p = omega arith in
+            rw z (omega arith)
+        one p (suc zero) hp hk =
+            let e : getD (t .keys) (2 * p + 1) 0 ≡ (openKey (nodes n) (edgesIn n (t .edges)) p + cube p) % 2 ^ 32 = eqb-true _ _ (and-snd (eqb (getD (t .keys) (2 * p) 0) (openKey (nodes n) (edgesIn n (t .edges)) p)) _ (both p hp)) in
+            omega arith
+        one p (suc (suc k)) hp hk = absurd (omega arith)
+
+        at : (i : ℕ) → i < length (t .keys) → getD (t .keys) i 0 ≡ getD (keysOf (graphOf n t)) i 0
+        at i l =
+            let e : i ≡ 2 * (i / 2) + i % 2 = omega arith in
+            rw e (one (i / 2) (i % 2) (omega arith) (omega arith) ∙ sym (keys-at g (i / 2) (i % 2) (omega arith) (omega arith)))
+
+    rows-proper : Proper (graphOf n t)
+    rows-proper = simple-proper g rows-simple (unfold graphOf in small) ends held
+      where
+        ends : (p q : ℕ) → graphOf n t .edge p q ≡ true → (p < graphOf n t .nodeCount) × (q < graphOf n t .nodeCount)
+        ends p q e = unfold graphOf in (ltb-true p n (and-fst (ltb p n) _ e), ltb-true q n (and-fst (ltb q n) _ (and-snd (ltb p n) _ e)))
+
+        held : (p : ℕ) → graphOf n t .hidden p ≡ true → p < graphOf n t .nodeCount
+        held p e = unfold graphOf in (ltb-true p n (and-fst (ltb p n) _ e))
+
+    pub rows-ready : Ready n (t .edges) (t .keys)
+    unfolding graphOf
+    rows-ready = rw (rows-edges, rows-keys) (ready (graphOf n t) rows-proper)
+
+  -- rows and keys of a graph pass
+  module _ (ok : simple (graphOf n t) ≡ true) (same-edges : t .edges ≡ edgesOf (graphOf n t)) (same-keys : t .keys ≡ keysOf (graphOf n t)) where
+    bit-told : (p q : ℕ) → p < n → q < 512 → edgeBit (t .edges) p q ≡ true → mirrored n (t .edges) p q ≡ true
+    unfolding graphOf mirrored
+    bit-told p q hp hq e =
+        let f : (ltb p n && (ltb q n && edgeBit (t .edges) p q)) ≡ true = sym (ap (λ (s : List ℕ). edgeBit s p q) same-edges ∙ edge-bit (graphOf n t) p q hp hq) ∙ e in
+        let hq : q < n = ltb-true q n (and-fst (ltb q n) _ (and-snd (ltb p n) _ f)) in
+        and-true (lt-ltb q n hq) (and-true (ap not (ne-eqb q p (other hq f))) (and-snd (ltb p n) _ (and-snd (ltb q n) _ (sym (simple-edge (graphOf n t) ok p q hp hq) ∙ f))))
+      where
+        other : q < n → (ltb p n && (ltb q n && edgeBit (t .edges) p q)) ≡ true → q ≡ p → ⊥
+        other l f z = differ f (ap (λ (r : ℕ). graphOf n t .edge p r) z ∙ simple-loop (graphOf n t) ok p hp)
+
+    row-told : (p : ℕ) → p < n → rowHolds n (t .edges) p ≡ true
+    unfolding rowHolds bitHolds
+    row-told p hp = all-intro (nodes 512) _ (λ q m. at q (nodes-out 512 q m) (decide (edgeBit (t .edges) p q)))
+      where
+        at : (q : ℕ) → q < 512 → (edgeBit (t .edges) p q ≡ true) ⊎ (edgeBit (t .edges) p q ≡ false) → (not (edgeBit (t .edges) p q) || mirrored n (t .edges) p q) ≡ true
+        at q hq (inl e) = rw e (bit-told p q hp hq e)
+        at q hq (inr e) = rw e
+
+    keys-told : (p : ℕ) → p < n → keysHold n (t .edges) (t .keys) p ≡ true
+    unfolding graphOf keysHold agrees openKey edgesIn
+    keys-told p hp = and-true (eq-eqb (getD (t .keys) (2 * p) 0) (openKey (nodes n) (edgesIn n (t .edges)) p) first) (eq-eqb (getD (t .keys) (2 * p + 1) 0) ((openKey (nodes n) (edgesIn n (t .edges)) p + cube p) % 2 ^ 32) (omega (arith, one 1 (omega arith))))
+      where
+        one : (k : ℕ) → k < 2 → getD (t .keys) (2 * p + k) 0 ≡ keyOf (graphOf n t) p k
+        one k hk = ap (λ (s : List ℕ). getD s (2 * p + k) 0) same-keys ∙ keys-at (graphOf n t) p k hp hk
+
+        first : getD (t .keys) (2 * p) 0 ≡ openKey (nodes n) (edgesIn n (t .edges)) p
+        first = let z : 2 * p + 0 ≡ 2 * p = omega arith in ap (λ (i : ℕ). getD (t .keys) i 0) (sym z) ∙ one 0 (omega arith) ∙ omega arith
+
+    rows-told : rowsHold n (t .edges) (t .keys) ≡ true
+    unfolding rowsHold
+    rows-told = all-intro (nodes n) _ (λ p m. and-true (row-told p (nodes-out n p m)) (keys-told p (nodes-out n p m)))
+
+-- leaders of twins, none of which are similar, lead the groups
+module _ (n : ℕ) (edges table keys : List ℕ) (r : Ready n edges keys) where
+  abbrev e : ℕ → ℕ → Bool
+  e = edgesIn n edges
+
+  abbrev R : ℕ → ℕ → Type 0
+  R = Of n (similar (nodes n) (edgesIn n edges))
+
+  abbrev least : ℕ → ℕ
+  least p = nodeNumber table p 0
+
+  abbrev Rows : Bool → ℕ → ℕ → Type 0
+  Rows c p l = meets c p l (rowIn edges p) (rowIn edges l) 8 ≡ true
+
+  rows-similar : (c : Bool) (p l : ℕ) → p < n → l < n → meets c p l (rowIn edges p) (rowIn edges l) 8 ≡ true → similar (nodes n) (edgesIn n edges) p l ≡ true
+  rows-similar true p l hp hl h = similar-N+ (nodes n) e p l (meet-true n edges keys r p l hp hl (meets-words true p l edges h))
+  rows-similar false p l hp hl h = similar-N (nodes n) e p l (meet-false n edges keys r p l hp hl (meets-words false p l edges h))
+
+  module _ (twins : twinsHold n edges table ≡ true) (apart : leadersApart n edges table ≡ true) where
+    twin : (p : ℕ) → p < n → twinOf edges table p (nodeNumber table p 0) ≡ true
+    unfolding twinsHold
+    twin p hp = all-elim (nodes n) (λ p. twinOf edges table p (least p)) twins p (nodes-in n p hp)
+
+    twin-low : (p : ℕ) → p < n → nodeNumber table p 0 ≤ p
+    unfolding twinOf
+    twin-low p hp = leb-true (least p) p (and-fst (leb (least p) p) _ (twin p hp))
+
+    twin-leads : (p : ℕ) → p < n → nodeNumber table (nodeNumber table p 0) 0 ≡ nodeNumber table p 0
+    unfolding twinOf
+    twin-leads p hp = eqb-true (least (least p)) (least p) (and-fst (eqb (least (least p)) (least p)) _ (and-snd (leb (least p) p) _ (twin p hp)))
+
+    twin-similar : (p : ℕ) → p < n → similar (nodes n) (edgesIn n edges) p (nodeNumber table p 0) ≡ true
+    unfolding twinOf
+    twin-similar p hp =
+        rows-similar (edgeBit edges (least p) p) p (least p) hp (omega (arith, twin-low p hp)) (and-snd (eqb (least (least p)) (least p)) _ (and-snd (leb (least p) p) _ (twin p hp)))
+
+    lone : (u q : ℕ) → u < n → q < u → nodeNumber table u 0 ≡ u → joins n edges table u u q ≡ false
+    unfolding leadersApart alone
+    lone u q hu l s = step (first-cases (joins n edges table u u) 0 u)
+      where
+        f : ℕ
+        f = firstFrom (joins n edges table u u) 0 u
+
+        none : f ≡ u
+        none = eqb-true f u (rw (eq-eqb (least u) u s) at (all-elim (nodes n) (λ u. not (eqb (least u) u) || eqb (firstFrom (joins n edges table u u) 0 u) u) apart u (nodes-in n u hu)))
+
+        step : ((f < 0 + u) × (joins n edges table u u f ≡ true)) ⊎ ((f ≡ 0 + u) × ((p : ℕ) → 0 ≤ p → p < 0 + u → joins n edges table u u p ≡ false)) → joins n edges table u u q ≡ false
+        step (inl x) = absurd (omega (arith, x .0, none))
+        step (inr x) = x .1 q (omega arith) (omega arith)
+
+    pub led-by-tests : Led n (Of n (similar (nodes n) (edgesIn n edges))) table
+    unfolding joins
+    led-by-tests = record {
+      low = twin-low;
+      leads = twin-leads;
+      alike = λ p hp. (hp, omega (arith, twin-low p hp), twin-similar p hp);
+      apart = λ u q l su sq x. differ (and-true (other u q l) (and-true (other u q l) (and-true (eq-eqb (least q) q sq) (x .2)))) (lone u q (x .0) l su);
+    }
+      where
+        other : (u q : ℕ) → q < u → not (eqb q u) ≡ true
+        other u q l = ap not (ne-eqb q u (omega arith))
+
+  module _ (simple-graph : Simple (nodes n) (edgesIn n edges)) (a : Led n (Of n (similar (nodes n) (edgesIn n edges))) table) where
+    bit-is : (p q : ℕ) → p < n → q < n → edgeBit edges p q ≡ edgesIn n edges p q
+    unfolding edgesIn
+    bit-is p q hp hq = rw (lt-ltb p n hp, lt-ltb q n hq)
+
+    similar-rows : (p l : ℕ) → p < n → l < n → similar (nodes n) (edgesIn n edges) p l ≡ true → meets (edgeBit edges l p) p l (rowIn edges p) (rowIn edges l) 8 ≡ true
+    similar-rows p l hp hl h = step (decide (eqb p l)) (similar-cases (nodes n) e p l h)
+      where
+        tied : edgeBit edges l p ≡ e p l
+        tied = bit-is l p hl hp ∙ simple-graph .symmetric l p (nodes-in n l hl) (nodes-in n p hp)
+
+        by-false : falseTwins (nodes n) e p l ≡ true → Rows (edgeBit edges l p) p l
+        by-false f = rw (tied ∙ falseTwins-no-edge (nodes n) e simple-graph p l (nodes-in n l hl) f) (meets-by false p l edges (false-meet n edges keys r p l hp hl f))
+
+        step : (eqb p l ≡ true) ⊎ (eqb p l ≡ false) → (falseTwins (nodes n) e p l ≡ true) ⊎ (trueTwins (nodes n) e p l ≡ true) → Rows (edgeBit edges l p) p l
+        step z (inl f) = by-false f
+        step (inl z) (inr f) = by-false (falseTwins-by (nodes n) e p l (λ x m. ap (λ (y : ℕ). e y x) (eqb-true p l z)))
+        step (inr z) (inr f) = rw (tied ∙ trueTwins-edge (nodes n) e simple-graph p l (nodes-in n l hl) (eqb-false p l z) f) (meets-by true p l edges (true-meet n edges keys r p l hp hl f))
+
+    pub twins-told : twinsHold n edges table ≡ true
+    unfolding twinsHold twinOf
+    twins-told =
+        all-intro (nodes n) _
+        (λ p m.
+        let hp : p < n = nodes-out n p m in
+        and-true (le-leb (least p) p (a .low p hp)) (and-true (eq-eqb (least (least p)) (least p) (a .leads p hp)) (similar-rows p (least p) hp (a .alike p hp .1) (a .alike p hp .2))))
+
+    no-join : (u q : ℕ) → u < n → q < u → nodeNumber table u 0 ≡ u → joins n edges table u u q ≡ false
+    unfolding joins
+    no-join u q hu l s = step (decide (joins n edges table u u q))
+      where
+        step : (joins n edges table u u q ≡ true) ⊎ (joins n edges table u u q ≡ false) → joins n edges table u u q ≡ false
+        step (inl h) =
+            let b = and-snd (not (eqb q u)) _ (and-snd (not (eqb q u)) _ h) in
+            absurd (a .apart u q l s (eqb-true (least q) q (and-fst (eqb (least q) q) _ b)) (hu, omega arith, and-snd (eqb (least q) q) _ b))
+        step (inr h) = h
+
+    pub apart-told : leadersApart n edges table ≡ true
+    unfolding leadersApart alone
+    apart-told = all-intro (nodes n) _ (λ u m. at u (nodes-out n u m) (decide (eqb (least u) u)))
+      where
+        at : (u : ℕ) → u < n → (eqb (least u) u ≡ true) ⊎ (eqb (least u) u ≡ false) → (not (eqb (least u) u) || eqb (firstFrom (joins n edges table u u) 0 u) u) ≡ true
+        at u hu (inl z) = rw z (eq-eqb (firstFrom (joins n edges table u u) 0 u) u (sym (first-none (joins n edges table u u) u (λ q l. no-join u q hu l (eqb-true (least u) u z)))))
+        at u hu (inr z) = rw z
+
+-- rings and marks
+module _ (n : ℕ) (table : List ℕ) where
+  module _ (h : nodesHold n table ≡ true) where
+    node : (p : ℕ) → p < n → nodeHolds n table p ≡ true
+    unfolding nodesHold
+    node p hp = all-elim (nodes n) (nodeHolds n table) h p (nodes-in n p hp)
+
+    pub rings-by-tests : (p : ℕ) → p < n → Follows n table p
+    unfolding nodeHolds follows
+    rings-by-tests p hp =
+        let a = nodeNumber table p 2 in
+        let h₀ = and-fst (follows n table p (nodeNumber table p 2)) _ (node p hp) in
+        let h₁ = and-snd (ltb (nodeNumber table p 2) n) _ h₀ in
+        let h₂ = and-snd (eqb (nodeNumber table (nodeNumber table p 2) 0) (nodeNumber table p 0)) _ h₁ in
+        let h₃ = and-snd (eqb (nodeNumber table (nodeNumber table p 2) 1) p) _ h₂ in
+        record {
+          below = ltb-true _ n (and-fst (ltb (nodeNumber table p 2) n) _ h₀);
+          fellow = eqb-true _ _ (and-fst (eqb (nodeNumber table (nodeNumber table p 2) 0) (nodeNumber table p 0)) _ h₁);
+          next = eqb-true _ p (and-fst (eqb (nodeNumber table (nodeNumber table p 2) 1) p) _ h₂);
+          order = ⊎-elim (λ z. inl (eqb-true _ p z)) (λ z. inr (ltb-true _ p z)) (or-cases (eqb (nodeNumber table p 0) p) (ltb (nodeNumber table p 2) p) h₃);
+        }
+
+    pub marks-by-tests : (p : ℕ) → p < n → nodeNumber table p 3 < 2
+    unfolding nodeHolds
+    marks-by-tests p hp = ltb-true (nodeNumber table p 3) 2 (and-snd (follows n table p (nodeNumber table p 2)) _ (node p hp))
+
+  pub nodes-told : ((p : ℕ) → p < n → Follows n table p) → ((p : ℕ) → p < n → nodeNumber table p 3 < 2) → nodesHold n table ≡ true
+  unfolding nodesHold nodeHolds follows
+  nodes-told f m =
+      all-intro (nodes n) _
+      (λ p k.
+      let hp : p < n = nodes-out n p k in
+      let a = f p hp in
+      and-true
+      (and-true (lt-ltb (nodeNumber table p 2) n (a .below)) (and-true (eq-eqb (nodeNumber table (nodeNumber table p 2) 0) (nodeNumber table p 0) (a .fellow)) (and-true (eq-eqb (nodeNumber table (nodeNumber table p 2) 1) p (a .next)) (placed p (a .order)))))
+      (lt-ltb (nodeNumber table p 3) 2 (m p hp)))
+    where
+      placed : (p : ℕ) → (nodeNumber table p 0 ≡ p) ⊎ (nodeNumber table p 2 < p) → (eqb (nodeNumber table p 0) p || ltb (nodeNumber table p 2) p) ≡ true
+      placed p (inl z) = or-left (ltb (nodeNumber table p 2) p) (eq-eqb (nodeNumber table p 0) p z)
+      placed p (inr z) = or-right (eqb (nodeNumber table p 0) p) (lt-ltb (nodeNumber table p 2) p z)
+
+same-of : {a b : List ℕ} → a ≡ b → sameList a b ≡ true
+same-of {a} {b} e = subst (λ x. sameList a x ≡ true) e (same-refl a)
+
+-- the whole
+module _ (n : ℕ) (t : Tables) (small : n ≤ maxNodes) (size : length (t .edges) ≡ rowWords * n) (size-n : length (t .nodes) ≡ nodeNumbers * n) (size-k : length (t .keys) ≡ 2 * n) (words : Words (t .edges)) where
+  abbrev graph : Graph
+  graph = graphOf n t
+
+  passes : nodesHold n (t .nodes) ≡ true → twinsHold n (t .edges) (t .nodes) ≡ true → rowsHold n (t .edges) (t .keys) ≡ true → leadersApart n (t .edges) (t .nodes) ≡ true → holds n t ≡ true
+  unfolding holds tablesOf graphOf
+  passes hn ht hr hl =
+      and-true (rows-simple n t small size size-k words hr) (and-true (same-of same-edges) (and-true (same-of same-nodes) (same-of same-keys)))
+    where
+      proper : Proper graph
+      proper = rows-proper n t small size size-k words hr
+
+      same-edges : t .edges ≡ edgesOf graph
+      same-edges = rows-edges n t small size size-k words hr
+
+      same-keys : t .keys ≡ keysOf graph
+      same-keys = rows-keys n t small size size-k words hr
+
+      bare : Bare n t
+      bare = record { proper = proper; edges = same-edges; keys = same-keys; size = size-n; marks = marks-by-tests n (t .nodes) hn }
+
+      parts : Parts n (Of n (similar (nodes n) (edgesIn n (t .edges))))
+      parts = unfold edgesIn in graph-parts graph proper
+
+      table : Table n (Of n (similar (nodes n) (edgesIn n (t .edges)))) (t .nodes)
+      table = certified parts (t .nodes) (led-by-tests n (t .edges) (t .nodes) (t .keys) (rows-ready n t small size size-k words hr) ht hl) (rings-by-tests n (t .nodes) hn)
+
+      same-nodes : t .nodes ≡ nodesOf graph
+      same-nodes = is-nodes graph proper (unfold edgesIn in table) size-n (bare-mark bare)
+
+  -- every part passes where tables hold a graph
+  module _ (h : holds n t ≡ true) where
+    held : Proper (graphOf n t)
+    held = held-proper n t h small
+
+    simple-test : simple (graphOf n t) ≡ true
+    unfolding holds
+    simple-test = and-fst (simple graph) _ h
+
+    held-edges : t .edges ≡ edgesOf (graphOf n t)
+    unfolding tablesOf
+    held-edges = ap (λ (s : Tables). s .edges) (held-tables n t h)
+
+    held-nodes : t .nodes ≡ nodesOf (graphOf n t)
+    unfolding tablesOf
+    held-nodes = ap (λ (s : Tables). s .nodes) (held-tables n t h)
+
+    held-keys : t .keys ≡ keysOf (graphOf n t)
+    unfolding tablesOf
+    held-keys = ap (λ (s : Tables). s .keys) (held-tables n t h)
+
+    held-rows : rowsHold n (t .edges) (t .keys) ≡ true
+    held-rows = rows-told n t small size size-k words simple-test held-edges held-keys
+
+    held-parts : Parts n (Of n (similar (nodes n) (edgesIn n (t .edges))))
+    unfolding graphOf edgesIn
+    held-parts = graph-parts graph held
+
+    held-table : Table n (Of n (similar (nodes n) (edgesIn n (t .edges)))) (t .nodes)
+    unfolding graphOf edgesIn
+    held-table = subst (λ s. Table n (Of n (similar (nodes n) (graphOf n t .edge))) s) (sym held-nodes) (of-nodes graph held)
+
+    held-simple : Simple (nodes n) (edgesIn n (t .edges))
+    unfolding graphOf edgesIn
+    held-simple = proper-simple graph held
+
+    held-marks : (p : ℕ) → p < n → nodeNumber (t .nodes) p 3 < 2
+    unfolding graphOf
+    held-marks p hp = small-mark (graphOf n t .hidden p) (ap (λ (s : List ℕ). nodeNumber s p 3) held-nodes ∙ mark-at (graphOf n t) p hp)
+      where
+        small-mark : (b : Bool) {m : ℕ} → m ≡ cond b 1 0 → m < 2
+        small-mark true e = omega arith
+        small-mark false e = omega arith
+
+    held-rings : nodesHold n (t .nodes) ≡ true
+    held-rings = nodes-told n (t .nodes) (ringed held-parts (t .nodes) held-table) held-marks
+
+    held-twins : twinsHold n (t .edges) (t .nodes) ≡ true
+    held-twins = twins-told n (t .edges) (t .nodes) (t .keys) (rows-ready n t small size size-k words held-rows) held-simple (led held-parts (t .nodes) held-table)
+
+    held-apart : leadersApart n (t .edges) (t .nodes) ≡ true
+    held-apart = apart-told n (t .edges) (t .nodes) (t .keys) (rows-ready n t small size size-k words held-rows) held-simple (led held-parts (t .nodes) held-table)
+
+  refused : {part : Bool} → (holds n t ≡ true → part ≡ true) → part ≡ false → false ≡ holds n t
+  refused {part} f e = step (decide (holds n t))
+    where
+      step : (holds n t ≡ true) ⊎ (holds n t ≡ false) → false ≡ holds n t
+      step (inl h) = differ (f h) e
+      step (inr h) = sym h
+
+  pub hold-nodes : nodesHold n (t .nodes) ≡ false → false ≡ holds n t
+  hold-nodes e = refused held-rings e
+
+  pub hold-twins : twinsHold n (t .edges) (t .nodes) ≡ false → false ≡ holds n t
+  hold-twins e = refused held-twins e
+
+  pub hold-rows : rowsHold n (t .edges) (t .keys) ≡ false → false ≡ holds n t
+  hold-rows e = refused held-rows e
+
+  pub hold-leaders : (b : Bool) → nodesHold n (t .nodes) ≡ true → twinsHold n (t .edges) (t .nodes) ≡ true → rowsHold n (t .edges) (t .keys) ≡ true → b ≡ leadersApart n (t .edges) (t .nodes) → b ≡ holds n t
+  hold-leaders b hn ht hr e = e ∙ iff-eq (leadersApart n (t .edges) (t .nodes)) (holds n t) (passes hn ht hr) held-apart

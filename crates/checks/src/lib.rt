@@ -1,0 +1,245 @@
+// The test that lent tables hold a graph: the numbers of the node table are taken as a certificate, nothing is built anew.
+ghost use mathlib.Core.Path.{_≡_};
+ghost use mathlib.Core.Bool.{_&&_};
+ghost use Prim.Native.Nat.{_+_, _*_, _≤_, _<_};
+ghost use lib.ListN.{length};
+ghost use Rattle.model.specs.Graph.{maxNodes, rowWords, nodeNumbers};
+ghost use Rattle.model.specs.Tables.{holds};
+ghost use Rattle.rows.specs.Rows.{lent};
+ghost use Rattle.rows.specs.Search.{Ready};
+ghost use Rattle.checks.specs.SlotLaws.{Marked, Seen, slotOf};
+ghost use Rattle.checks.specs.Checks.{
+  agrees,
+  alone,
+  follows,
+  keysHold,
+  leadersApart,
+  mirrored,
+  nodeHolds,
+  nodesHold,
+  rowHolds,
+  rowsHold,
+  twinOf,
+  twinsHold,
+};
+use groups::{number, LEAST, MARK, NEXT, PREVIOUS};
+use rows::Graph;
+
+// Whether q is another node, with p's bit in its row.
+fn is_mirrored(edges: &[u64], n: usize, p: usize, q: usize) -> bool
+    requires { ⌜ (n ≤ maxNodes) × (length (now edges) ≡ rowWords * n) × (p < n) ⌝ }
+    ensures { λ r. ⌜ r ≡ mirrored n (now (edges .entry)) p q ⌝ }
+{
+    if q >= n {
+        return false;
+    }
+    if q == p {
+        return false;
+    }
+    rows::edge(edges, q, p)
+}
+
+// Whether the keys of p are those of a row whose cubes add up to sum.
+fn keys_agree(keys: &[u32], p: usize, sum: u32) -> bool
+    requires { ⌜ (p < maxNodes) × (2 * p + 2 ≤ length (now keys)) ⌝ }
+    ensures { λ r. ⌜ r ≡ agrees (now (keys .entry)) p sum ⌝ }
+{
+    if keys[2 * p] != sum {
+        return false;
+    }
+    keys[2 * p + 1] == std::num::wrapping_add_u32(sum, rows::cube_of(p))
+}
+
+// Whether the bits of p's row are mirrored and its keys are right: one walk over the bits.
+fn row_holds(edges: &[u64], keys: &[u32], n: usize, p: usize) -> bool
+    requires { ⌜ (n ≤ maxNodes) × (length (now edges) ≡ rowWords * n) × (length (now keys) ≡ 2 * n) × (p < n) ⌝ }
+    ensures { λ r. ⌜ r ≡ (rowHolds n (now (edges .entry)) p && keysHold n (now (edges .entry)) (now (keys .entry)) p) ⌝ }
+{
+    let a = Graph::ROW_WORDS * p;
+    let mut sum = 0u32;
+    let mut w = 0;
+    while w < 8 {
+        let mut x = edges[a + w];
+        while x != 0 {
+            let q = 64 * w + rows::lowest(x);
+            if !is_mirrored(edges, n, p, q) {
+                return false;
+            }
+            sum = std::num::wrapping_add_u32(sum, rows::cube_of(q));
+            x = x & (x - 1);
+        }
+        w += 1;
+    }
+    keys_agree(keys, p, sum)
+}
+
+// Whether edges and keys are those of a graph.
+fn rows_hold(edges: &[u64], keys: &[u32], n: usize) -> bool
+    requires { ⌜ (n ≤ maxNodes) × (length (now edges) ≡ rowWords * n) × (length (now keys) ≡ 2 * n) ⌝ }
+    ensures { λ r. ⌜ r ≡ rowsHold n (now (edges .entry)) (now (keys .entry)) ⌝ }
+{
+    for p in 0..n {
+        if !row_holds(edges, keys, n, p) {
+            return false;
+        }
+    }
+    true
+}
+
+// Whether l leads the group of p and p's row is that of a twin of l.
+fn is_twin(edges: &[u64], nodes: &[u16], n: usize, p: usize, l: usize) -> bool
+    requires { ⌜ (n ≤ maxNodes) × (length (now edges) ≡ rowWords * n) × (length (now nodes) ≡ nodeNumbers * n) × (p < n) ⌝ }
+    ensures { λ r. ⌜ r ≡ twinOf (now (edges .entry)) (now (nodes .entry)) p l ⌝ }
+{
+    if l > p {
+        return false;
+    }
+    if number(nodes, l, LEAST) != l {
+        return false;
+    }
+    if l == p {
+        return true;
+    }
+    rows::same_row(edges, rows::edge(edges, l, p), p, l)
+}
+
+// Whether every node is a twin of its leader.
+fn twins_hold(edges: &[u64], nodes: &[u16], n: usize) -> bool
+    requires { ⌜ (n ≤ maxNodes) × (length (now edges) ≡ rowWords * n) × (length (now nodes) ≡ nodeNumbers * n) ⌝ }
+    ensures { λ r. ⌜ r ≡ twinsHold n (now (edges .entry)) (now (nodes .entry)) ⌝ }
+{
+    for p in 0..n {
+        let l = number(nodes, p, LEAST);
+        if !is_twin(edges, nodes, n, p, l) {
+            return false;
+        }
+    }
+    true
+}
+
+fn wide_byte(x: u8) -> usize
+    ensures { λ r. ⌜ r ≡ x ⌝ }
+{
+    x as usize
+}
+
+// The slot of a key among the keys seen.
+fn slot(key: u32) -> usize
+    ensures { λ r. ⌜ r ≡ slotOf key ⌝ }
+{
+    (key % 8191) as usize
+}
+
+// Whether the slots of both keys of u were free; now they are taken.
+fn are_new(keys: &[u32], u: usize, opens: &mut [u8], closeds: &mut [u8]) -> bool
+    requires { ⌜ (u < maxNodes) × (2 * u + 2 ≤ length (now keys)) × (length (now opens) ≡ 8192) × (length (now closeds) ≡ 8192) ⌝ }
+    ensures { λ r. ⌜ Marked (now (keys .entry)) u (now (opens .entry)) (now (closeds .entry)) (now (opens .exit)) (now (closeds .exit)) r ⌝ }
+{
+    let a = slot(keys[2 * u]);
+    let b = slot(keys[2 * u + 1]);
+    let taken = wide_byte(opens[a]) + wide_byte(closeds[b]);
+    opens[a] = 1;
+    closeds[b] = 1;
+    taken == 0
+}
+
+// Whether u leads no group, or no leader below it is similar to it: none can be where none has an equal key.
+fn is_alone(
+    edges: &[u64],
+    nodes: &[u16],
+    keys: &[u32],
+    n: usize,
+    u: usize,
+    opens: &mut [u8],
+    closeds: &mut [u8],
+) -> bool
+    requires { ⌜ Ready n (now edges) (now keys) ⌝ }
+    requires { ⌜ (length (now nodes) ≡ nodeNumbers * n) × (u < n) × Seen (now nodes) (now keys) u (now opens) (now closeds) ⌝ }
+    ensures { λ r. ⌜ (r ≡ alone n (now (edges .entry)) (now (nodes .entry)) u) × Seen (now (nodes .entry)) (now (keys .entry)) (u + 1) (now (opens .exit)) (now (closeds .exit)) ⌝ }
+{
+    if number(nodes, u, LEAST) != u {
+        return true;
+    }
+    if are_new(keys, u, opens, closeds) {
+        return true;
+    }
+    rows::find_group(edges, nodes, keys, n, u, u, u) == u
+}
+
+// Whether no two leaders are similar.
+fn leaders_apart(edges: &[u64], nodes: &[u16], keys: &[u32], n: usize) -> bool
+    requires { ⌜ Ready n (now edges) (now keys) ⌝ }
+    requires { ⌜ length (now nodes) ≡ nodeNumbers * n ⌝ }
+    ensures { λ r. ⌜ r ≡ leadersApart n (now (edges .entry)) (now (nodes .entry)) ⌝ }
+{
+    let mut opens = [0u8; 8192];
+    let mut closeds = [0u8; 8192];
+    for u in 0..n {
+        if !is_alone(edges, nodes, keys, n, u, &mut opens, &mut closeds) {
+            return false;
+        }
+    }
+    true
+}
+
+// Whether p follows a in its group.
+fn is_followed(nodes: &[u16], n: usize, p: usize, a: usize) -> bool
+    requires { ⌜ (n ≤ maxNodes) × (length (now nodes) ≡ nodeNumbers * n) × (p < n) ⌝ }
+    ensures { λ r. ⌜ r ≡ follows n (now (nodes .entry)) p a ⌝ }
+{
+    if a >= n {
+        return false;
+    }
+    let l = number(nodes, p, LEAST);
+    if number(nodes, a, LEAST) != l {
+        return false;
+    }
+    if number(nodes, a, NEXT) != p {
+        return false;
+    }
+    if l == p {
+        return true;
+    }
+    a < p
+}
+
+// Whether p follows the previous member, and its mark is 0 or 1.
+fn node_holds(nodes: &[u16], n: usize, p: usize) -> bool
+    requires { ⌜ (n ≤ maxNodes) × (length (now nodes) ≡ nodeNumbers * n) × (p < n) ⌝ }
+    ensures { λ r. ⌜ r ≡ nodeHolds n (now (nodes .entry)) p ⌝ }
+{
+    if !is_followed(nodes, n, p, number(nodes, p, PREVIOUS)) {
+        return false;
+    }
+    number(nodes, p, MARK) < 2
+}
+
+// Whether the groups are rings, and marks are 0 or 1.
+fn nodes_hold(nodes: &[u16], n: usize) -> bool
+    requires { ⌜ (n ≤ maxNodes) × (length (now nodes) ≡ nodeNumbers * n) ⌝ }
+    ensures { λ r. ⌜ r ≡ nodesHold n (now (nodes .entry)) ⌝ }
+{
+    for p in 0..n {
+        if !node_holds(nodes, n, p) {
+            return false;
+        }
+    }
+    true
+}
+
+// Whether the tables hold a graph of n nodes.
+pub fn hold(edges: &[u64], nodes: &[u16], keys: &[u32], n: usize) -> bool
+    requires { ⌜ (n ≤ maxNodes) × (length (now edges) ≡ rowWords * n) × (length (now nodes) ≡ nodeNumbers * n) × (length (now keys) ≡ 2 * n) ⌝ }
+    ensures { λ r. ⌜ r ≡ holds n (lent (now (edges .entry)) (now (nodes .entry)) (now (keys .entry))) ⌝ }
+{
+    if !nodes_hold(nodes, n) {
+        return false;
+    }
+    if !twins_hold(edges, nodes, n) {
+        return false;
+    }
+    if !rows_hold(edges, keys, n) {
+        return false;
+    }
+    leaders_apart(edges, nodes, keys, n)
+}

@@ -1,0 +1,56 @@
+use mathlib.Core.Logic.{⊎-elim}
+use mathlib.Core.Path.{sym, _∙_}
+use Prim.Native.Nat.{_-_, _≤_}
+use native.Mathlib.Omega.{arith}
+use lib.ListN.{length}
+use Rattle.layout.specs.Scan.{scan, Counting}
+use Rattle.layout.specs.ScanLaws.{counting-start, counting-yes, counting-no, counting-done}
+use Rattle.model.specs.Tables.{edgeBit}
+use Rattle.index.proofs.queries.count_neighbours.Statement.{statement}
+use Rattle.index.proofs.queries.count_neighbours.Tie as tie
+use Rattle.index.proofs.queries.count_neighbours.Reads as reads
+use Rattle.index.proofs.queries.count_neighbours.Lts as lts
+use Rattle.rows.proofs.edge.Reads as edge-reads
+
+abbrev Inv-loop : tie.InvT-loop
+Inv-loop edges n p count₀ q₀ count q = (count ≤ q) × Counting (edgeBit edges p) n (length (scan (edgeBit edges p) n 0)) count q
+
+abbrev μ-loop : tie.MeasureT-loop
+μ-loop edges n p count₀ q₀ count q = n - q
+
+loop-holds : tie.Need-loop-holds Inv-loop μ-loop
+loop-holds c = (omega arith, counting-start _ _ _)
+
+edge-requires : tie.Need-edge-requires Inv-loop μ-loop
+edge-requires c κs = omega arith
+
+add-count : tie.Need-add-count Inv-loop μ-loop
+add-count c = omega arith
+
+add-q : tie.Need-add-q Inv-loop μ-loop
+add-q c = omega arith
+
+loop-less : tie.Need-loop-less Inv-loop μ-loop
+loop-less c = omega arith
+
+loop-again : tie.Need-loop-again Inv-loop μ-loop
+loop-again c =
+    let l = c .before .before .before in
+    ⊎-elim (λ w. (omega arith, rw (w .1) (counting-yes (l .loop .inv .1) (c .before .before .loop-test .taken) (sym (c .before .edge .ensures) ∙ w .0 .taken)))) (λ w. (omega arith, rw (w .1) (counting-no (l .loop .inv .1) (c .before .before .loop-test .taken) (sym (c .before .edge .ensures) ∙ w .0 .left)))) (c .if1 .came)
+
+returns : tie.Need-returns Inv-loop μ-loop
+returns c = counting-done (c .before .loop .inv .1) (c .loop-test .left)
+
+pub count-neighbours-spec : {M : Type 1} → statement M
+count-neighbours-spec =
+    tie.close
+    (tie.spec
+    Inv-loop
+    μ-loop
+    loop-holds
+    edge-requires
+    add-count
+    add-q
+    loop-less
+    loop-again
+    returns)

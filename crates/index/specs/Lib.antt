@@ -1,0 +1,10 @@
+pub mod Index
+pub mod Open
+pub mod OpenLaws
+pub mod Update
+pub mod UpdateLaws
+pub mod Batch
+pub mod BatchLaws
+pub mod Query
+pub mod QueryLaws
+pub mod IndexLaws

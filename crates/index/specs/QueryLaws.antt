@@ -1,0 +1,207 @@
+-- What queries read off the tables is what the model says of the graph.
+use mathlib.Core.Path.{_≡_, refl, sym, ap, ap₂, subst, _∙_}
+use mathlib.Core.Bool.{Bool, true, false, _&&_, cond}
+use mathlib.Core.List.{List, [], _∷_, List·Memᴰ, List·Memᴰ·head, List·Memᴰ·tail, List·Memᴰ·not-nil, List·Memᴰ·eq-of-singleton}
+use mathlib.Core.Logic.{_≢_, _⊎_, inl, inr}
+use Prim.Native.Nat.{ℕ, suc, _+_, _-_, _≤_, _<_}
+use native.Mathlib.Omega.{arith}
+use lib.Dec.{eqb, ltb, leb}
+use lib.ListN.{length, set}
+use borrow.Author.Tests.{eqb-true, eqb-false, eq-eqb, ne-eqb, lt-ltb, le-leb, lt-leb}
+use Rattle.model.specs.Lists.{_∈_, filter, from, nodes, headOr}
+use Rattle.model.specs.Graph.{Graph}
+use Rattle.model.specs.Grouping.{similar, group, least, leaders, adjacent, kindOf, isClique, Kind, clique, independent}
+use Rattle.model.specs.Tables.{Tables, edgeBit, nodeNumber, graphOf, groupIn, nodesOf, tablesOf}
+use Rattle.model.specs.Queries.{neighbours, kindNumber}
+use Rattle.model.specs.TestLaws.{decide}
+use Rattle.model.specs.ListLaws.{Ascending, filter-ascending, filter-cong, nodes-in, nodes-out, nodes-ascending}
+use Rattle.model.specs.TwinLaws.{Simple}
+use Rattle.model.specs.ClassLaws.{Equivalence, group-in, group-out, least-in, least-rel, least-leads, same-group}
+use Rattle.model.specs.SummaryLaws.{equivalence, clique-law}
+use Rattle.model.specs.TableLaws.{proper-simple, least-at, group-told}
+use Rattle.rings.specs.Ring.{up, Best, Table, Of}
+use Rattle.rings.specs.RingLaws.{up-circle}
+use Rattle.rings.specs.NodesLaws.{of-nodes}
+use Rattle.layout.specs.Scan.{scan}
+use Rattle.layout.specs.ScanLaws.{scan-length, scan-yes}
+use Rattle.layout.specs.Wrote.{Left}
+use Rattle.layout.specs.WroteLaws.{left-step}
+use Rattle.index.specs.Update.{Held}
+use Rattle.index.specs.Query.{ledBy, kindBy}
+
+-- a number that passes is put into the list
+pub collected : (P : ℕ → Bool) (n p : ℕ) {s₀ s : List ℕ} {k : ℕ} → Left s₀ 0 (scan P n 0) s k (scan P n p) → p < n → P p ≡ true → Left s₀ 0 (scan P n 0) (set s k p) (k + 1) (scan P n (p + 1))
+collected P n p l h t = left-step {bs = p ∷ []} l (record { bytes = refl; place = refl }) (scan-yes P n p h t)
+
+-- the tests of the loops
+pub led-yes : (t : List ℕ) (l q x : ℕ) → x ≡ nodeNumber t q 0 → x ≡ l → ledBy t l q ≡ true
+unfolding ledBy
+led-yes t l q x e d = eq-eqb (nodeNumber t q 0) l (sym e ∙ d)
+
+pub led-no : (t : List ℕ) (l q x : ℕ) → x ≡ nodeNumber t q 0 → x ≢ l → ledBy t l q ≡ false
+unfolding ledBy
+led-no t l q x e d = ne-eqb (nodeNumber t q 0) l (λ z. d (e ∙ z))
+
+-- the branches of the kind
+module _ (es ns : List ℕ) (l x : ℕ) (e : x ≡ nodeNumber ns l 1) where
+  pub kind-single : x ≡ l → 0 ≡ kindBy es ns l
+  unfolding kindBy
+  kind-single d = rw (eq-eqb (nodeNumber ns l 1) l (sym e ∙ d))
+
+  pub kind-clique : x ≢ l → edgeBit es l x ≡ true → 2 ≡ kindBy es ns l
+  unfolding kindBy
+  kind-clique d f = rw (ne-eqb (nodeNumber ns l 1) l (λ z. d (e ∙ z)), ← e, f)
+
+  pub kind-independent : x ≢ l → edgeBit es l x ≡ false → 1 ≡ kindBy es ns l
+  unfolding kindBy
+  kind-independent d f = rw (ne-eqb (nodeNumber ns l 1) l (λ z. d (e ∙ z)), ← e, f)
+
+-- and there is room for it
+pub collect-room : (P : ℕ → Bool) (n p : ℕ) {s₀ s : List ℕ} {k m : ℕ} → Left s₀ 0 (scan P n 0) s k (scan P n p) → length (scan P n 0) ≤ m → p < n → P p ≡ true → k < m
+collect-room P n p {s₀} {s} {k} l room h t =
+    let e : length (scan P n p) ≡ suc (length (scan P n (p + 1))) = ap length (scan-yes P n p h t) in
+    omega (arith, l .ends)
+
+-- a scan from the start is a choice among the nodes
+scan-nodes : (P : ℕ → Bool) (n : ℕ) → scan P n 0 ≡ filter P (nodes n)
+unfolding scan nodes
+scan-nodes P n = let e : n - 0 ≡ n = omega arith in ap (λ (k : ℕ). filter P (from 0 k)) e
+
+-- the neighbours that a row tells
+pub row-neighbours : (n p : ℕ) (t : Tables) → p < n → scan (edgeBit (t .edges) p) n 0 ≡ neighbours (graphOf n t) p
+unfolding neighbours graphOf
+row-neighbours n p t h = scan-nodes (edgeBit (t .edges) p) n ∙ filter-cong (edgeBit (t .edges) p) (λ q. ltb p n && (ltb q n && edgeBit (t .edges) p q)) (nodes n) (λ q m. sym (rw (lt-ltb p n h, lt-ltb q n (nodes-out n q m))))
+
+-- an ascending list with one member, or with two different ones
+one-member : (l : ℕ) (s : List ℕ) → Ascending s → ((q : ℕ) → q ∈ s → q ≡ l) → length s ≤ 1
+one-member l [] a same = omega arith
+one-member l (x ∷ []) a same = omega arith
+one-member l (x ∷ (y ∷ s)) a same = absurd (omega (arith, a .0 y (List·Memᴰ·head refl), same x (List·Memᴰ·head refl), same y (List·Memᴰ·tail (List·Memᴰ·head refl))))
+
+two-members : (l q : ℕ) (s : List ℕ) → l ∈ s → q ∈ s → q ≢ l → 1 < length s
+two-members l q [] a b d = absurd (List·Memᴰ·not-nil a)
+two-members l q (x ∷ []) a b d = absurd (d (List·Memᴰ·eq-of-singleton b ∙ sym (List·Memᴰ·eq-of-singleton a)))
+two-members l q (x ∷ (y ∷ s)) a b d = omega arith
+
+-- the number of a kind, by the size and whether it is a clique
+kind-small : (e : ℕ → ℕ → Bool) (s : List ℕ) → length s ≤ 1 → kindNumber (kindOf e s) ≡ 0
+unfolding kindNumber kindOf
+kind-small e s h = rw (le-leb (length s) 1 h)
+
+kind-large : (e : ℕ → ℕ → Bool) (s : List ℕ) → 1 < length s → kindNumber (kindOf e s) ≡ cond (isClique (kindOf e s)) 2 1
+unfolding kindNumber kindOf isClique
+kind-large e s h = rw (lt-leb (length s) 1 h) (step (adjacent e s s))
+  where
+    step : (b : Bool) → kindNumber (cond b clique independent) ≡ cond (isClique (cond b clique independent)) 2 1
+    step true = refl
+    step false = refl
+
+-- the group of p, by the table of a graph
+module _ (n : ℕ) (t : Tables) (h : Held n t) (p : ℕ) (hp : p < n) where
+  abbrev g : Graph
+  g = graphOf n t
+
+  abbrev vs : List ℕ
+  vs = nodes n
+
+  abbrev r : ℕ → ℕ → Bool
+  r = similar (nodes n) (graphOf n t .edge)
+
+  simple : Simple (nodes n) (graphOf n t .edge)
+  unfolding graphOf
+  simple = proper-simple (graphOf n t) (h .proper)
+
+  asc : Ascending (nodes n)
+  asc = nodes-ascending n
+
+  eq : Equivalence (nodes n) (similar (nodes n) (graphOf n t .edge))
+  eq = equivalence (nodes n) (graphOf n t .edge) simple asc
+
+  same-nodes : t .nodes ≡ nodesOf (graphOf n t)
+  unfolding tablesOf
+  same-nodes = ap (λ (x : Tables). x .nodes) (h .same)
+
+  abbrev l : ℕ
+  l = least (nodes n) (similar (nodes n) (graphOf n t .edge)) p
+
+  p-in : p ∈ nodes n
+  p-in = nodes-in n p hp
+
+  l-in : l ∈ nodes n
+  l-in = least-in vs r eq asc p p-in
+
+  pub l-below : l < n
+  l-below = nodes-out n l l-in
+
+  pub leader-told : nodeNumber (t .nodes) p 0 ≡ headOr p (groupIn (graphOf n t) p)
+  unfolding graphOf groupIn
+  leader-told = ap (λ (x : List ℕ). nodeNumber x p 0) same-nodes ∙ least-at g p hp ∙ unfold least in refl
+
+  pub least-is : nodeNumber (t .nodes) p 0 ≡ l
+  unfolding graphOf
+  least-is = ap (λ (x : List ℕ). nodeNumber x p 0) same-nodes ∙ least-at g p hp
+
+  group-l : group vs r l ≡ groupIn g p
+  unfolding groupIn graphOf
+  group-l = sym (same-group vs r eq asc p l p-in l-in (least-rel vs r eq asc p p-in))
+
+  pub led-group : scan (ledBy (t .nodes) (nodeNumber (t .nodes) p 0)) n 0 ≡ groupIn (graphOf n t) p
+  unfolding ledBy graphOf
+  led-group =
+      scan-nodes (ledBy (t .nodes) (nodeNumber (t .nodes) p 0)) n
+      ∙ ap₂ (λ (x : List ℕ) (m : ℕ). filter (λ q. eqb (nodeNumber x q 0) m) vs) same-nodes least-is
+      ∙ group-told g (h .proper) l (least-leads vs r eq asc p p-in)
+      ∙ group-l
+
+  -- the member that follows the least one
+  abbrev m : ℕ
+  m = nodeNumber (t .nodes) l 1
+
+  table : Table n (Of n (similar (nodes n) (graphOf n t .edge))) (nodesOf (graphOf n t))
+  unfolding graphOf
+  table = of-nodes g (h .proper)
+
+  follows : Best (Of n (similar (nodes n) (graphOf n t .edge)) l) (λ q. up n l q) m
+  follows = subst (λ (x : List ℕ). Best (Of n (similar (nodes n) (graphOf n t .edge)) l) (λ q. up n l q) (nodeNumber x l 1)) (sym same-nodes) (table .next l l-below)
+
+  pub m-below : m < n
+  m-below = follows .mem .1
+
+  m-in : m ∈ groupIn g p
+  m-in = rw (← group-l) (group-in vs r l m (nodes-in n m m-below) (follows .mem .2))
+
+  l-own : l ∈ groupIn g p
+  l-own = rw (← group-l) (group-in vs r l l l-in (eq .reflexive l))
+
+  alone : m ≡ l → (q : ℕ) → q ∈ groupIn g p → q ≡ l
+  alone e q k =
+      let x = group-out vs r l q (rw (← group-l) at k) in
+      let hq = nodes-out n q (x .0) in
+      let near = follows .near q (l-below, hq, x .1) in
+      sym (up-circle n .full l-below hq (omega (arith, near, up-circle n .self l-below, up-circle n .cap l-below hq, ap (λ (y : ℕ). up n l y) e)))
+
+  pub kind-told : kindBy (t .edges) (t .nodes) (nodeNumber (t .nodes) p 0) ≡ kindNumber (kindOf (graphOf n t .edge) (groupIn (graphOf n t) p))
+  kind-told = ap (kindBy (t .edges) (t .nodes)) least-is ∙ step (decide (eqb m l))
+    where
+      ordered : Ascending (groupIn g p)
+      ordered = unfold groupIn group graphOf in filter-ascending _ vs asc
+
+      bit : graphOf n t .edge l m ≡ edgeBit (t .edges) l m
+      bit = unfold graphOf in rw (lt-ltb l n l-below, lt-ltb m n m-below)
+
+      small : eqb m l ≡ true → kindBy (t .edges) (t .nodes) l ≡ 0
+      small x = unfold kindBy in rw x
+
+      large : eqb m l ≡ false → kindBy (t .edges) (t .nodes) l ≡ cond (edgeBit (t .edges) l m) 2 1
+      large x = unfold kindBy in rw x
+
+      step : (eqb m l ≡ true) ⊎ (eqb m l ≡ false) → kindBy (t .edges) (t .nodes) l ≡ kindNumber (kindOf (graphOf n t .edge) (groupIn g p))
+      step (inl x) = small x ∙ sym (kind-small (graphOf n t .edge) (groupIn g p) (one-member l (groupIn g p) ordered (alone (eqb-true m l x))))
+      step (inr x) =
+          let d = eqb-false m l x in
+          let q : isClique (kindOf (graphOf n t .edge) (groupIn g p)) ≡ edgeBit (t .edges) l m = ap (λ (s : List ℕ). isClique (kindOf (graphOf n t .edge) s)) (sym group-l) ∙ clique-law vs (graphOf n t .edge) simple asc l m l-in (nodes-in n m m-below) (λ z. d (sym z)) (follows .mem .2) ∙ bit in
+          large x ∙ sym (kind-large (graphOf n t .edge) (groupIn g p) (two-members l m (groupIn g p) l-own m-in d) ∙ ap (λ (b : Bool). cond b 2 1) q)
+
+-- counts of nodes are small
+pub scan-small : (P : ℕ → Bool) (n k : ℕ) → k ≡ length (scan P n 0) → k ≤ n
+scan-small P n k e = omega (arith, scan-length P n 0)

@@ -1,0 +1,51 @@
+// A batch on tables that hold a graph.
+ghost use mathlib.Core.Path.{_≡_};
+ghost use mathlib.Core.Bool.{not};
+ghost use Prim.Native.Nat.{_%_, _≤_};
+ghost use lib.ListN.{length};
+ghost use Rattle.model.specs.Tables.{graphOf, tablesOf};
+ghost use Rattle.model.specs.Updates.{answers, batchGraph, inThrees, updateCount, wrongBatch};
+ghost use Rattle.model.specs.Calls.{onto};
+ghost use Rattle.rows.specs.Rows.{lent};
+ghost use Rattle.index.specs.Update.{Held};
+ghost use Rattle.index.specs.Batch.{Applied};
+use crate::updating::update;
+use rows::Graph;
+
+// How many updates a batch has.
+pub fn count(batch: &[u16]) -> usize
+    ensures { λ r. ⌜ r ≡ updateCount (now (batch .entry)) ⌝ }
+{
+    batch.len() / 3
+}
+
+// Whether a batch is in threes and not too long (else 11).
+pub fn is_whole(batch: &[u16]) -> bool
+    ensures { λ r. ⌜ r ≡ not (wrongBatch (now (batch .entry))) ⌝ }
+{
+    if batch.len() % 3 != 0 {
+        return false;
+    }
+    count(batch) <= Graph::UPDATES
+}
+
+// The updates in order, each with its answer.
+pub fn run(
+    n: usize,
+    edges: &mut [u64],
+    nodes: &mut [u16],
+    keys: &mut [u32],
+    batch: &[u16],
+    answers: &mut [i16],
+)
+    requires { ⌜ Held n (lent (now edges) (now nodes) (now keys)) ⌝ }
+    requires { ⌜ (length (now batch) % 3 ≡ 0) × (updateCount (now batch) ≤ length (now answers)) ⌝ }
+    ensures { λ _. ⌜ Applied n (now (batch .entry)) (lent (now (edges .entry)) (now (nodes .entry)) (now (keys .entry))) (now (answers .entry)) (lent (now (edges .exit)) (now (nodes .exit)) (now (keys .exit))) (now (answers .exit)) ⌝ }
+{
+    for i in 0..count(batch) {
+        let a = 3 * i;
+        let u = rows::wide(batch[a + 1]);
+        let v = rows::wide(batch[a + 2]);
+        answers[i] = update(n, edges, nodes, keys, batch[a], u, v);
+    }
+}

@@ -1,0 +1,215 @@
+// What a caller uses on lent tables: open, apply, neighbours, tied, group. Each is the model's call (Calls) on every input.
+ghost use mathlib.Core.Path.{_≡_};
+ghost use mathlib.Core.Bool.{not};
+ghost use mathlib.Core.List.{[]};
+ghost use Rattle.model.specs.Refusals.{firstOf, lengths, wrongSize};
+ghost use Rattle.model.specs.Calls.{applyCall, applyReasons, groupCall, neighboursCall, openCall, tiedCall};
+ghost use Rattle.rows.specs.Rows.{lent};
+ghost use Rattle.index.specs.Index.{applied, grouped, listed, opened, tableReasons, tiedSay};
+use rows::Graph;
+
+mod batch;
+mod opening;
+mod queries;
+mod updating;
+
+// Whether n and the lengths of the tables are right (else 11).
+fn right_size(n: usize, edges: &[u64], nodes: &[u16], keys: &[u32]) -> bool
+    ensures { λ r. ⌜ r ≡ not (wrongSize n (lengths (lent (now (edges .entry)) (now (nodes .entry)) (now (keys .entry))))) ⌝ }
+{
+    Graph::empty(n).fits(edges, nodes, keys)
+}
+
+// 11, or 12 where the tables hold no graph, or 0.
+pub fn table_refusal(n: usize, edges: &[u64], nodes: &[u16], keys: &[u32]) -> u16
+    ensures { λ r. ⌜ r ≡ firstOf (tableReasons n (lent (now (edges .entry)) (now (nodes .entry)) (now (keys .entry))) []) ⌝ }
+{
+    if !right_size(n, edges, nodes, keys) {
+        return 11;
+    }
+    if !checks::hold(edges, nodes, keys, n) {
+        return 12;
+    }
+    0
+}
+
+// A graph of n nodes without edges, none hidden. 0, or 11.
+pub fn open(n: usize, edges: &mut [u64], nodes: &mut [u16], keys: &mut [u32]) -> u16
+    ensures { λ r. ⌜ opened r (lent (now (edges .exit)) (now (nodes .exit)) (now (keys .exit))) ≡ openCall n (lent (now (edges .entry)) (now (nodes .entry)) (now (keys .entry))) ⌝ }
+{
+    if !right_size(n, edges, nodes, keys) {
+        return 11;
+    }
+    opening::fill(n, edges, nodes, keys);
+    0
+}
+
+// Why a batch as a whole is refused (11, 12, 18), or 0.
+fn batch_refusal(
+    n: usize,
+    edges: &[u64],
+    nodes: &[u16],
+    keys: &[u32],
+    batch: &[u16],
+    answers: &[i16],
+) -> u16
+    ensures { λ r. ⌜ r ≡ firstOf (applyReasons n (lent (now (edges .entry)) (now (nodes .entry)) (now (keys .entry))) (now (batch .entry)) (now (answers .entry))) ⌝ }
+{
+    if !batch::is_whole(batch) {
+        return 11;
+    }
+    let number = table_refusal(n, edges, nodes, keys);
+    if number != 0 {
+        return number;
+    }
+    if answers.len() < batch::count(batch) {
+        return 18;
+    }
+    0
+}
+
+// The updates of a batch, three numbers each, in order; each writes its answer. 0, or 11, 12, 18.
+pub fn apply(
+    n: usize,
+    edges: &mut [u64],
+    nodes: &mut [u16],
+    keys: &mut [u32],
+    batch: &[u16],
+    answers: &mut [i16],
+) -> u16
+    ensures { λ r. ⌜ applied r (lent (now (edges .exit)) (now (nodes .exit)) (now (keys .exit))) (now (answers .exit)) ≡ applyCall n (lent (now (edges .entry)) (now (nodes .entry)) (now (keys .entry))) (now (batch .entry)) (now (answers .entry)) ⌝ }
+{
+    let number = batch_refusal(n, edges, nodes, keys, batch, answers);
+    if number != 0 {
+        return number;
+    }
+    batch::run(n, edges, nodes, keys, batch, answers);
+    0
+}
+
+// A query's number and what it answers; 0 and no where it is refused.
+pub struct Listed {
+    pub result: u16,
+    pub count: u16,
+}
+
+pub struct Edge {
+    pub result: u16,
+    pub yes: bool,
+}
+
+pub struct Member {
+    pub result: u16,
+    pub least: u16,
+    pub kind: u16,
+    pub size: u16,
+}
+
+// The neighbours of p, ascending, and their count. 0, or 11, 12, 14, 18.
+pub fn neighbours(
+    n: usize,
+    edges: &[u64],
+    nodes: &[u16],
+    keys: &[u32],
+    p: u16,
+    out: &mut [u16],
+) -> Listed
+    ensures { λ r. ⌜ listed (r .result) (r .count) (now (out .exit)) ≡ neighboursCall n (lent (now (edges .entry)) (now (nodes .entry)) (now (keys .entry))) p (now (out .entry)) ⌝ }
+{
+    let number = table_refusal(n, edges, nodes, keys);
+    if number != 0 {
+        return Listed {
+            result: number,
+            count: 0,
+        };
+    }
+    let node = p as usize;
+    if node >= n {
+        return Listed {
+            result: 14,
+            count: 0,
+        };
+    }
+    let count = queries::count_neighbours(edges, n, node);
+    if out.len() < count {
+        return Listed {
+            result: 18,
+            count: 0,
+        };
+    }
+    queries::write_neighbours(edges, n, node, out);
+    Listed {
+        result: 0,
+        count: count as u16,
+    }
+}
+
+// Whether there is an edge between p and q. 0, or 11, 12, 14, 15.
+pub fn tied(n: usize, edges: &[u64], nodes: &[u16], keys: &[u32], p: u16, q: u16) -> Edge
+    ensures { λ r. ⌜ tiedSay (r .result) (r .yes) ≡ tiedCall n (lent (now (edges .entry)) (now (nodes .entry)) (now (keys .entry))) p q ⌝ }
+{
+    let number = table_refusal(n, edges, nodes, keys);
+    if number != 0 {
+        return Edge {
+            result: number,
+            yes: false,
+        };
+    }
+    let u = p as usize;
+    if u >= n {
+        return Edge {
+            result: 14,
+            yes: false,
+        };
+    }
+    let v = q as usize;
+    if v >= n {
+        return Edge {
+            result: 14,
+            yes: false,
+        };
+    }
+    if u == v {
+        return Edge {
+            result: 15,
+            yes: false,
+        };
+    }
+    Edge {
+        result: 0,
+        yes: rows::edge(edges, u, v),
+    }
+}
+
+// The group of p: least member, kind (0 singleton, 1 independent, 2 clique), size. 0, or 11, 12, 14.
+pub fn group(n: usize, edges: &[u64], nodes: &[u16], keys: &[u32], p: u16) -> Member
+    ensures { λ r. ⌜ grouped (r .result) (r .least) (r .kind) (r .size) ≡ groupCall n (lent (now (edges .entry)) (now (nodes .entry)) (now (keys .entry))) p ⌝ }
+{
+    let number = table_refusal(n, edges, nodes, keys);
+    if number != 0 {
+        return Member {
+            result: number,
+            least: 0,
+            kind: 0,
+            size: 0,
+        };
+    }
+    let node = p as usize;
+    if node >= n {
+        return Member {
+            result: 14,
+            least: 0,
+            kind: 0,
+            size: 0,
+        };
+    }
+    let least = groups::number(nodes, node, groups::LEAST);
+    let kind = queries::kind_of(edges, nodes, n, least);
+    let size = queries::group_size(nodes, n, least);
+    Member {
+        result: 0,
+        least: least as u16,
+        kind,
+        size: size as u16,
+    }
+}

@@ -1,0 +1,384 @@
+// The release file, written from the least members of the groups and the edges into a lent buffer.
+ghost use mathlib.Core.Path.{_≡_};
+ghost use mathlib.Core.List.{List, [], _∷_, _++_};
+ghost use Prim.Native.Nat.{ℕ, _+_, _*_, _-_, _≤_, _<_};
+ghost use lib.ListN.{length, getD};
+ghost use Rattle.model.specs.Tables.{edgeBit};
+ghost use Rattle.model.specs.Release.{u16, headRecord, superedgeRecord};
+ghost use Rattle.layout.specs.Wrote.{Wrote};
+ghost use Rattle.layout.specs.Scan.{scan};
+ghost use Rattle.layout.specs.File.{Ahead, Linked, Partition, Rows, chain, fileNodes, fileOf, firstTwo, groupBytes, groupMark, groupsBytes, inGroup, later, leadersOf, leads, superedgeBytes, superedgeTotal, superedgesTo, u16s, writtenFile};
+ghost use Rattle.layout.specs.Words.{Leading, Marked, Placed, Rowed, laterWord, positionsOf};
+ghost use Rattle.writer.specs.Written.{answer};
+
+// Stands for no node: after the last member of a group, and at hidden nodes.
+pub const NONE: u16 = 65535;
+
+pub fn wide(x: u16) -> usize
+    ensures { λ r. ⌜ r ≡ x ⌝ }
+{
+    x as usize
+}
+
+// The two bytes of a mark; the place after them.
+pub fn put_mark(out: &mut [u8], at: usize, mark: &[u8; 2]) -> usize
+    requires { ⌜ at + 2 ≤ length (now out) ⌝ }
+    ensures { λ r. ⌜ Wrote (now (out .entry)) at (getD (now (mark .entry)) 0 0 ∷ getD (now (mark .entry)) 1 0 ∷ []) (now (out .exit)) r ⌝ }
+{
+    out[at] = mark[0];
+    out[at + 1] = mark[1];
+    at + 2
+}
+
+// A number of 16 bits, low byte first; the place after it.
+fn put_u16(out: &mut [u8], at: usize, v: usize) -> usize
+    requires { ⌜ (v < 65536) × (at + 2 ≤ length (now out)) ⌝ }
+    ensures { λ r. ⌜ Wrote (now (out .entry)) at (u16 v) (now (out .exit)) r ⌝ }
+{
+    out[at] = (v % 256) as u8;
+    out[at + 1] = (v / 256) as u8;
+    at + 2
+}
+
+// The head: nodes n, visible nodes m, groups g.
+pub fn write_head(out: &mut [u8], at: usize, n: usize, m: usize, g: usize) -> usize
+    requires { ⌜ (n < 65536) × (m < 65536) × (g < 65536) × (at + 8 ≤ length (now out)) ⌝ }
+    ensures { λ r. ⌜ Wrote (now (out .entry)) at (headRecord n m g) (now (out .exit)) r ⌝ }
+{
+    let a = put_mark(out, at, b"HD");
+    let b = put_u16(out, a, n);
+    let c = put_u16(out, b, m);
+    put_u16(out, c, g)
+}
+
+fn put_group_mark(out: &mut [u8], at: usize, clique: bool) -> usize
+    requires { ⌜ at + 2 ≤ length (now out) ⌝ }
+    ensures { λ r. ⌜ Wrote (now (out .entry)) at (groupMark clique) (now (out .exit)) r ⌝ }
+{
+    if clique {
+        return put_mark(out, at, b"GC");
+    }
+    put_mark(out, at, b"GI")
+}
+
+fn put_superedge(out: &mut [u8], at: usize, i: usize, j: usize) -> usize
+    requires { ⌜ (i < 65536) × (j < 65536) × (at + 6 ≤ length (now out)) ⌝ }
+    ensures { λ r. ⌜ Wrote (now (out .entry)) at (superedgeRecord (i, j)) (now (out .exit)) r ⌝ }
+{
+    let a = put_mark(out, at, b"SE");
+    let b = put_u16(out, a, i);
+    put_u16(out, b, j)
+}
+
+// The members of a group from `first` on, by the table of next members.
+fn write_members(out: &mut [u8], at: usize, next: &[u16], n: usize, first: usize) -> usize
+    requires { ⌜ Ahead n (now next) ⌝ }
+    requires { ⌜ at + length (u16s (chain n (now next) n first)) ≤ length (now out) ⌝ }
+    ensures { λ r. ⌜ Wrote (now (out .entry)) at (u16s (chain n (now (next .entry)) n first)) (now (out .exit)) r ⌝ }
+{
+    let mut to = at;
+    let mut q = first;
+    while q < n {
+        to = put_u16(out, to, q);
+        q = wide(next[q]);
+    }
+    to
+}
+
+// The first two members of a group tell whether it is a clique.
+fn is_clique(next: &[u16], n: usize, edges: &[u64], l: usize) -> bool
+    requires { ⌜ Ahead n (now next) ⌝ }
+    requires { ⌜ (l < n) × (8 * n ≤ length (now edges)) ⌝ }
+    ensures { λ r. ⌜ r ≡ firstTwo (edgeBit (now (edges .entry))) (chain n (now (next .entry)) n l) ⌝ }
+{
+    let second = wide(next[l]);
+    if second < n {
+        return rows::edge(edges, l, second);
+    }
+    false
+}
+
+// The group whose least member is l. Its count is known once the members stand.
+pub fn write_group(
+    out: &mut [u8],
+    at: usize,
+    next: &[u16],
+    n: usize,
+    edges: &[u64],
+    l: usize,
+) -> usize
+    requires { ⌜ Ahead n (now next) ⌝ }
+    requires { ⌜ (l < n) × (8 * n ≤ length (now edges)) ⌝ }
+    requires { ⌜ at + length (groupBytes (edgeBit (now edges)) (chain n (now next) n l)) ≤ length (now out) ⌝ }
+    ensures { λ r. ⌜ Wrote (now (out .entry)) at (groupBytes (edgeBit (now (edges .entry))) (chain n (now (next .entry)) n l)) (now (out .exit)) r ⌝ }
+{
+    let to = write_members(out, at + 4, next, n, l);
+    let clique = is_clique(next, n, edges, l);
+    let a = put_group_mark(out, at, clique);
+    put_u16(out, a, (to - at - 4) / 2);
+    to
+}
+
+// The groups, by least member.
+fn write_groups(
+    out: &mut [u8],
+    at: usize,
+    next: &[u16],
+    n: usize,
+    edges: &[u64],
+    leaders: &[u16],
+) -> usize
+    requires { ⌜ Ahead n (now next) ⌝ }
+    requires { ⌜ Rows n (now edges) (now leaders) ⌝ }
+    requires { ⌜ at + length (groupsBytes (edgeBit (now edges)) (chain n (now next) n) (now leaders)) ≤ length (now out) ⌝ }
+    ensures { λ r. ⌜ Wrote (now (out .entry)) at (groupsBytes (edgeBit (now (edges .entry))) (chain n (now (next .entry)) n) (now (leaders .entry))) (now (out .exit)) r ⌝ }
+{
+    let mut to = at;
+    for i in 0..leaders.len() {
+        to = write_group(out, to, next, n, edges, wide(leaders[i]));
+    }
+    to
+}
+
+// Of the word that holds node q's bit, the nodes from q on that are in the set and have an edge to p.
+fn later_word(edges: &[u64], set: &[u64; 8], p: usize, q: usize) -> u64
+    requires { ⌜ (p < 512) × (q < 512) × (8 * p + 8 ≤ length (now edges)) ⌝ }
+    ensures { λ r. ⌜ r ≡ laterWord (now (edges .entry)) (now (set .entry)) p q ⌝ }
+{
+    let t = rows::bit_of(q);
+    ((set[rows::word_of(q)] & edges[rows::place(p, q)]) >> t) << t
+}
+
+// The superedges of the i-th group to the groups of the nodes b + k, for the bits k of a word, lowest first.
+fn write_word(out: &mut [u8], at: usize, position: &[u16], i: usize, b: usize, x: u64) -> usize
+    requires { ⌜ (i < 65536) × (b + 64 ≤ length (now position)) ⌝ }
+    requires { ⌜ at + length (superedgesTo i (positionsOf (now position) b x)) ≤ length (now out) ⌝ }
+    ensures { λ r. ⌜ Wrote (now (out .entry)) at (superedgesTo i (positionsOf (now (position .entry)) b x)) (now (out .exit)) r ⌝ }
+{
+    let mut to = at;
+    let mut rest = x;
+    while rest != 0 {
+        let z = u64::trailing_zeros(rest) as usize;
+        to = put_superedge(out, to, i, wide(position[b + z]));
+        rest = rest & (rest - 1);
+    }
+    to
+}
+
+// The superedges of the i-th group to later groups, word by word of its leader's row.
+pub fn write_superedges_of(
+    out: &mut [u8],
+    at: usize,
+    edges: &[u64],
+    leaders: &[u16],
+    set: &[u64; 8],
+    position: &[u16],
+    i: usize,
+) -> usize
+    requires { ⌜ Rowed (now edges) (now leaders) ⌝ }
+    requires { ⌜ Marked (now leaders) (now set) × Placed (now leaders) (now position) ⌝ }
+    requires { ⌜ i < length (now leaders) ⌝ }
+    requires { ⌜ at + length (superedgesTo i (later (edgeBit (now edges)) (now leaders) i)) ≤ length (now out) ⌝ }
+    ensures { λ r. ⌜ Wrote (now (out .entry)) at (superedgesTo i (later (edgeBit (now (edges .entry))) (now (leaders .entry)) i)) (now (out .exit)) r ⌝ }
+{
+    let p = wide(leaders[i]);
+    let mut to = at;
+    let mut q = p + 1;
+    while q < 512 {
+        let w = rows::word_of(q);
+        let x = later_word(edges, set, p, q);
+        to = write_word(out, to, position, i, 64 * w, x);
+        q = 64 * w + 64;
+    }
+    to
+}
+
+fn write_superedges(
+    out: &mut [u8],
+    at: usize,
+    edges: &[u64],
+    leaders: &[u16],
+    set: &[u64; 8],
+    position: &[u16],
+) -> usize
+    requires { ⌜ Rowed (now edges) (now leaders) ⌝ }
+    requires { ⌜ Marked (now leaders) (now set) × Placed (now leaders) (now position) ⌝ }
+    requires { ⌜ at + length (superedgeBytes (edgeBit (now edges)) (now leaders)) ≤ length (now out) ⌝ }
+    ensures { λ r. ⌜ Wrote (now (out .entry)) at (superedgeBytes (edgeBit (now (edges .entry))) (now (leaders .entry))) (now (out .exit)) r ⌝ }
+{
+    let mut to = at;
+    for i in 0..leaders.len() {
+        to = write_superedges_of(out, to, edges, leaders, set, position, i);
+    }
+    to
+}
+
+fn count_superedges_of(edges: &[u64], leaders: &[u16], set: &[u64; 8], i: usize) -> usize
+    requires { ⌜ Rowed (now edges) (now leaders) ⌝ }
+    requires { ⌜ Marked (now leaders) (now set) ⌝ }
+    requires { ⌜ i < length (now leaders) ⌝ }
+    ensures { λ r. ⌜ r ≡ length (later (edgeBit (now (edges .entry))) (now (leaders .entry)) i) ⌝ }
+{
+    let p = wide(leaders[i]);
+    let mut count: usize = 0;
+    let mut q: usize = p + 1;
+    while q < 512 {
+        let w = rows::word_of(q);
+        let x = later_word(edges, set, p, q);
+        count += u64::count_ones(x) as usize;
+        q = 64 * w + 64;
+    }
+    count
+}
+
+// All superedges.
+pub fn count_superedges(edges: &[u64], leaders: &[u16], set: &[u64; 8]) -> usize
+    requires { ⌜ Rowed (now edges) (now leaders) ⌝ }
+    requires { ⌜ Marked (now leaders) (now set) ⌝ }
+    ensures { λ r. ⌜ (r ≡ superedgeTotal (edgeBit (now (edges .entry))) (now (leaders .entry))) × (r ≤ 262144) ⌝ }
+{
+    let mut count: usize = 0;
+    for i in 0..leaders.len() {
+        count += count_superedges_of(edges, leaders, set, i);
+    }
+    count
+}
+
+// The visible nodes.
+pub fn count_visible(least: &[u16], n: usize) -> usize
+    requires { ⌜ (n ≤ 512) × (n ≤ length (now least)) ⌝ }
+    ensures { λ r. ⌜ r ≡ length (scan (inGroup (now (least .entry)) n) n 0) ⌝ }
+{
+    let mut m: usize = 0;
+    for p in 0..n {
+        if wide(least[p]) < n {
+            m += 1;
+        }
+    }
+    m
+}
+
+// The least members of the groups, ascending; how many.
+pub fn collect_leaders(least: &[u16], n: usize, leaders: &mut [u16]) -> usize
+    requires { ⌜ (n ≤ 512) × (n ≤ length (now least)) × (n ≤ length (now leaders)) ⌝ }
+    ensures { λ r. ⌜ Wrote (now (leaders .entry)) 0 (scan (leads (now (least .entry))) n 0) (now (leaders .exit)) r ⌝ }
+{
+    let mut g: usize = 0;
+    for p in 0..n {
+        if wide(least[p]) == p {
+            leaders[g] = p as u16;
+            g += 1;
+        }
+    }
+    g
+}
+
+// The least members as a set of bits.
+pub fn leader_set(least: &[u16], n: usize) -> [u64; 8]
+    requires { ⌜ (n ≤ 512) × (n ≤ length (now least)) ⌝ }
+    ensures { λ r. ⌜ Marked (leadersOf n (now (least .entry))) r ⌝ }
+{
+    let mut set = [0u64; 8];
+    for p in 0..n {
+        if wide(least[p]) == p {
+            let w = rows::word_of(p);
+            set[w] = set[w] ^ rows::mask(p);
+        }
+    }
+    set
+}
+
+// The position of each leader.
+pub fn positions_of(leaders: &[u16]) -> [u16; 512]
+    requires { ⌜ Leading (now leaders) ⌝ }
+    ensures { λ r. ⌜ Placed (now (leaders .entry)) r ⌝ }
+{
+    let mut position = [0u16; 512];
+    for i in 0..leaders.len() {
+        position[wide(leaders[i])] = i as u16;
+    }
+    position
+}
+
+// The next greater member of each node's group, NONE after the last and at nodes of no group.
+pub fn link(least: &[u16], n: usize, next: &mut [u16])
+    requires { ⌜ (n ≤ 512) × (n ≤ length (now least)) × (n ≤ length (now next)) ⌝ }
+    ensures { λ _. ⌜ Linked n (now (least .entry)) (now (next .exit)) ⌝ }
+{
+    let mut head = [NONE; 512];
+    let mut p = n;
+    while 0 < p {
+        p -= 1;
+        let l = wide(least[p]);
+        if l < n {
+            next[p] = head[l];
+            head[l] = p as u16;
+        } else {
+            next[p] = NONE;
+        }
+    }
+}
+
+// The whole file into a buffer that is long enough; the place after it.
+fn write_file(
+    n: usize,
+    m: usize,
+    least: &[u16],
+    edges: &[u64],
+    leaders: &[u16],
+    set: &[u64; 8],
+    out: &mut [u8],
+) -> usize
+    requires { ⌜ Partition n (now least) (now edges) ⌝ }
+    requires { ⌜ (now leaders ≡ leadersOf n (now least)) × Marked (now leaders) (now set) ⌝ }
+    requires { ⌜ m ≡ fileNodes n (now least) ⌝ }
+    requires { ⌜ length (fileOf n (now least) (now edges)) ≤ length (now out) ⌝ }
+    ensures { λ r. ⌜ Wrote (now (out .entry)) 0 (fileOf n (now (least .entry)) (now (edges .entry))) (now (out .exit)) r ⌝ }
+{
+    let mut next = [NONE; 512];
+    link(least, n, &mut next);
+    let position = positions_of(leaders);
+    let a = write_head(out, 0, n, m, leaders.len());
+    let b = write_groups(out, a, &next, n, edges, leaders);
+    let c = write_superedges(out, b, edges, leaders, set, &position);
+    put_mark(out, c, b"EN")
+}
+
+// What a release returns: the result, then document 01's m, g and s, and the length.
+pub struct Written {
+    pub result: u16,
+    pub nodes: u16,
+    pub groups: u16,
+    pub superedges: u32,
+    pub bytes: u32,
+}
+
+// The release file into a lent buffer; 18, and nothing written, if the buffer is too short.
+pub fn write(n: usize, least: &[u16], edges: &[u64], out: &mut [u8]) -> Written
+    requires { ⌜ Partition n (now least) (now edges) ⌝ }
+    ensures { λ r. ⌜ answer r (now (out .exit)) ≡ writtenFile n (now (least .entry)) (now (edges .entry)) (now (out .entry)) ⌝ }
+{
+    let mut leaders = [0u16; 512];
+    let g = collect_leaders(least, n, &mut leaders);
+    let set = leader_set(least, n);
+    let m = count_visible(least, n);
+    let s = count_superedges(edges, &leaders[..g], &set);
+    let length = 10 + 4 * g + 2 * m + 6 * s;
+    if out.len() < length {
+        return Written {
+            result: 18,
+            nodes: 0,
+            groups: 0,
+            superedges: 0,
+            bytes: 0,
+        };
+    }
+    write_file(n, m, least, edges, &leaders[..g], &set, out);
+    Written {
+        result: 0,
+        nodes: m as u16,
+        groups: g as u16,
+        superedges: s as u32,
+        bytes: length as u32,
+    }
+}
