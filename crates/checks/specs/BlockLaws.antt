@@ -1,6 +1,6 @@
 -- Laws of blocks of 64 rows and 64 columns: exchanged digit by digit, and compared across the diagonal.
 use mathlib.Core.Path.{_≡_, refl, sym, ap, ap₂, _∙_, subst}
-use mathlib.Core.Bool.{Bool, true, false, not, cond, xor, _&&_, _||_, Bool·beq}
+use mathlib.Core.Bool.{Bool, true, false, cond, xor, _&&_, _||_, Bool·beq}
 use mathlib.Core.List.{List}
 use mathlib.Core.Logic.{_⊎_, inl, inr}
 use Prim.Native.Nat.{ℕ, zero, suc, _+_, _*_, _-_, _/_, _%_, _^_, _≤_, _<_, min}
@@ -12,10 +12,10 @@ use lib.Dec.{eqb, ltb}
 use lib.ListN.{length, getD, set, length-set, List·getD-eq-default}
 use lib.Pow.{mod-pow-add, pow-pos, shl-shr, shr-shr}
 use lib.Seq.{getD-set-same, getD-set-other}
-use borrow.Author.Tests.{eqb-true, eqb-false, eq-eqb, ne-eqb, ltb-true, ltb-false, lt-ltb, le-ltb}
+use borrow.Author.Tests.{ltb-true, ltb-false, lt-ltb, le-ltb}
 use Rattle.model.specs.Lists.{all, from, nodes}
 use Rattle.model.specs.Tables.{bitAt, edgeBit}
-use Rattle.model.specs.TestLaws.{and-fst, and-snd, beq-eq, decide, differ, eq-beq}
+use Rattle.model.specs.TestLaws.{and-fst, and-snd, beq-eq, decide, eq-beq, or-right}
 use Rattle.model.specs.TableLaws.{bitAt-word}
 use Rattle.model.specs.ListLaws.{all-elim, all-intro, nodes-in, nodes-out}
 use Rattle.rows.specs.BitLaws.{bit-xor, word-bits}
@@ -91,6 +91,9 @@ room-below k r e = step (decide (ltb r (2 ^ k)))
     step (inl t) = absurd (let z : r / 2 ^ k ≡ 0 = div-eq-of-lt (ltb-true r (2 ^ k) t) in omega arith)
     step (inr t) = ltb-false r (2 ^ k) t
 
+pub room-below-not : (k r : ℕ) → (r / 2 ^ k % 2 ≡ 0 → ⊥) → 2 ^ k ≤ r
+room-below-not k r d = room-below k r (omega arith)
+
 -- a digit replaced
 module _ (k : ℕ) where
   swap-same : (x y d : ℕ) → x / 2 ^ k % 2 ≡ d → y / 2 ^ k % 2 ≡ d → d ≤ 1 → swapped k x y ≡ x
@@ -108,9 +111,6 @@ module _ (k : ℕ) where
 module _ (a : List ℕ) (k r : ℕ) (hk : k < 6) (hr : r < 64) {high low : ℕ} (m : Masks k high low) where
   abbrev Bit : ℕ → ℕ → Bool
   Bit i c = bitAt (getD a i 0) c
-
-  abbrev Goal : ℕ → ℕ → Type 0
-  Goal x c = bitAt x c ≡ bitAt (getD a (swapped k r c) 0) (swapped k c r)
 
   pub low-row : (x : ℕ) {j : ℕ} → r / 2 ^ k % 2 ≡ 0 → j ≡ 2 ^ k
       → ((c : ℕ) → bitAt x c ≡ cond (bitAt high c) (bitAt (getD a (r + j) 0 * 2 ^ j % 2 ^ 64) c) (bitAt (getD a r 0) c)) → RowSwapped k a r x
@@ -144,7 +144,7 @@ module _ (s : List ℕ) (m x : ℕ) (fits : m < length s) where
   pub stored-size : {l : ℕ} → length s ≡ l → length (set s m x) ≡ l
   stored-size e = length-set s m x ∙ e
 
-  stored : (P : ℕ → ℕ → Type 0) → ((r : ℕ) → r < m → P r (getD s r 0)) → P m x → (r : ℕ) → r < m + 1 → P r (getD (set s m x) r 0)
+  pub stored : (P : ℕ → ℕ → Type 0) → ((r : ℕ) → r < m → P r (getD s r 0)) → P m x → (r : ℕ) → r < m + 1 → P r (getD (set s m x) r 0)
   stored P h here r l = step (ℕ-discrete r m)
     where
       step : Dec (r ≡ m) → P r (getD (set s m x) r 0)
@@ -159,6 +159,9 @@ staging-more {k} {a} {m} {b} {x} s l h = record {
   size = length-set b m x ∙ s .size;
   rows = stored b m x (omega (arith, s .size)) (RowSwapped k a) (s .rows) h;
 }
+
+pub staging-done : {k : ℕ} {a : List ℕ} {m : ℕ} {b : List ℕ} → Staging k a m b → m ≡ 64 → Staging k a 64 b
+staging-done {k} {a} {m} {b} s e = subst (λ i. Staging k a i b) e s
 
 -- the digits from k on, and those below, with digit k apart
 module _ (k : ℕ) where
@@ -297,3 +300,92 @@ masks₄ = masks-by 4 0xFFFF0000FFFF0000 0x0000FFFF0000FFFF refl
 pub masks₅ : Masks 5 0xFFFFFFFF00000000 0x00000000FFFFFFFF
 unfolding all nodes from bitAt
 masks₅ = masks-by 5 0xFFFFFFFF00000000 0x00000000FFFFFFFF refl
+
+-- a block of the table
+pub loaded-none : (edges : List ℕ) (i j : ℕ) (a : List ℕ) → length a ≡ 64 → Loaded edges i j 0 a
+loaded-none edges i j a e = record { size = e; words = λ k l. absurd (omega arith) }
+
+pub loaded-more : {edges : List ℕ} {i j m : ℕ} {a : List ℕ} (x : ℕ) → Loaded edges i j m a → m < 64 → x ≡ getD edges (8 * (64 * i + m) + j) 0 → Loaded edges i j (m + 1) (set a m x)
+loaded-more {edges} {i} {j} {m} {a} x s l h = record {
+  size = length-set a m x ∙ s .size;
+  words = stored a m x (omega (arith, s .size)) (λ k y. y ≡ getD edges (8 * (64 * i + k) + j) 0) (s .words) h;
+}
+
+pub loaded-done : {edges : List ℕ} {i j m : ℕ} {a : List ℕ} → Loaded edges i j m a → m ≡ 64 → Loaded edges i j 64 a
+loaded-done {edges} {i} {j} {m} {a} s e = subst (λ k. Loaded edges i j k a) e s
+
+pub no-row : (edges : List ℕ) (n p w : ℕ) → length edges ≡ 8 * n → n ≤ p → 0 ≡ getD edges (8 * p + w) 0
+no-row edges n p w e l = sym (List·getD-eq-default edges 0 {n = 8 * p + w} (omega arith))
+
+pub word-bit : (edges : List ℕ) (p j c : ℕ) → c < 64 → edgeBit edges p (64 * j + c) ≡ bitAt (getD edges (8 * p + j) 0) c
+unfolding edgeBit
+word-bit edges p j c h =
+    let x : (64 * j + c) / 64 ≡ j = omega arith in
+    let y : (64 * j + c) % 64 ≡ c = omega arith in
+    rw (x, y)
+
+pub across : {edges : List ℕ} {i j : ℕ} {a b : List ℕ} → Loaded edges i j 64 a → Transposed a b → Across edges i j b
+across {edges} {i} {j} l t = record {
+  size = t .size;
+  bits = λ c k hc hk. t .bits c k hc hk ∙ ap (λ (y : ℕ). bitAt y c) (l .words k hk) ∙ sym (word-bit edges (64 * i + k) j c hc);
+}
+
+module _ {edges : List ℕ} {i j : ℕ} {a : List ℕ} (h : Across edges i j a) {c x : ℕ} (hc : c < 64) (word : x ≡ getD edges (8 * (64 * j + c) + i) 0) where
+  pair : (k : ℕ) → k < 64 → bitAt x k ≡ edgeBit edges (64 * j + c) (64 * i + k)
+  pair k hk = ap (λ (y : ℕ). bitAt y k) word ∙ sym (word-bit edges (64 * j + c) i k hk)
+
+  pub column-agrees : getD a c 0 ≡ x → columnEven edges i j c ≡ true
+  unfolding columnEven
+  column-agrees e = all-intro (nodes 64) _ (λ k m. eq-beq (edgeBit edges (64 * i + k) (64 * j + c)) (edgeBit edges (64 * j + c) (64 * i + k)) (sym (h .bits c k hc (nodes-out 64 k m)) ∙ ap (λ (y : ℕ). bitAt y k) e ∙ pair k (nodes-out 64 k m)))
+
+  pub column-differs : getD a c 0 < 2 ^ 64 → x < 2 ^ 64 → (getD a c 0 ≡ x → ⊥) → columnEven edges i j c ≡ false
+  unfolding columnEven
+  column-differs small-a small d = step (decide (columnEven edges i j c))
+    where
+      step : (columnEven edges i j c ≡ true) ⊎ (columnEven edges i j c ≡ false) → columnEven edges i j c ≡ false
+      step (inl t) =
+          absurd
+          (d (words-eq (getD a c 0) x small-a small
+          (λ k hk. h .bits c k hc hk ∙ beq-eq (edgeBit edges (64 * i + k) (64 * j + c)) (edgeBit edges (64 * j + c) (64 * i + k)) (all-elim (nodes 64) (λ k. Bool·beq (edgeBit edges (64 * i + k) (64 * j + c)) (edgeBit edges (64 * j + c) (64 * i + k))) t k (nodes-in 64 k hk)) ∙ sym (pair k hk))))
+      step (inr t) = t
+
+-- a block below the diagonal is passed over
+module _ (edges : List ℕ) (b : ℕ) where
+  pub block-passed : b % 8 < b / 8 → true ≡ (ltb (b % 8) (b / 8) || blockEven edges (b / 8) (b % 8))
+  block-passed h = rw (lt-ltb (b % 8) (b / 8) h)
+
+  pub block-tested : (r : Bool) → b / 8 ≤ b % 8 → r ≡ blockEven edges (b / 8) (b % 8) → r ≡ (ltb (b % 8) (b / 8) || blockEven edges (b / 8) (b % 8))
+  block-tested r h e = rw (le-ltb (b % 8) (b / 8) h) e
+
+-- all blocks together
+module _ (edges : List ℕ) where
+  module _ (h : even edges ≡ true) where
+    half-even : (p q : ℕ) → p < 512 → q < 512 → p / 64 ≤ q / 64 → edgeBit edges p q ≡ edgeBit edges q p
+    unfolding even blockEven columnEven
+    half-even p q hp hq l =
+        let i : (8 * (p / 64) + q / 64) / 8 ≡ p / 64 = omega arith in
+        let j : (8 * (p / 64) + q / 64) % 8 ≡ q / 64 = omega arith in
+        let whole = all-elim (nodes 64) (λ b. ltb (b % 8) (b / 8) || blockEven edges (b / 8) (b % 8)) h (8 * (p / 64) + q / 64) (nodes-in 64 (8 * (p / 64) + q / 64) (omega arith)) in
+        let block : blockEven edges (p / 64) (q / 64) ≡ true = rw (i, j, le-ltb (q / 64) (p / 64) l) at whole in
+        let column = all-elim (nodes 64) (columnEven edges (p / 64) (q / 64)) block (q % 64) (nodes-in 64 (q % 64) (omega arith)) in
+        let x : 64 * (p / 64) + p % 64 ≡ p = omega arith in
+        let y : 64 * (q / 64) + q % 64 ≡ q = omega arith in
+        rw (x, y) at (beq-eq (edgeBit edges (64 * (p / 64) + p % 64) (64 * (q / 64) + q % 64)) (edgeBit edges (64 * (q / 64) + q % 64) (64 * (p / 64) + p % 64)) (all-elim (nodes 64) (λ k. Bool·beq (edgeBit edges (64 * (p / 64) + k) (64 * (q / 64) + q % 64)) (edgeBit edges (64 * (q / 64) + q % 64) (64 * (p / 64) + k))) column (p % 64) (nodes-in 64 (p % 64) (omega arith))))
+
+    pub even-all : (p q : ℕ) → p < 512 → q < 512 → edgeBit edges p q ≡ edgeBit edges q p
+    even-all p q hp hq = step (decide (ltb (q / 64) (p / 64)))
+      where
+        step : (ltb (q / 64) (p / 64) ≡ true) ⊎ (ltb (q / 64) (p / 64) ≡ false) → edgeBit edges p q ≡ edgeBit edges q p
+        step (inl t) = sym (half-even q p hq hp (omega (arith, ltb-true (q / 64) (p / 64) t)))
+        step (inr t) = half-even p q hp hq (ltb-false (q / 64) (p / 64) t)
+
+  pub all-even : ((p q : ℕ) → p < 512 → q < 512 → edgeBit edges p q ≡ edgeBit edges q p) → even edges ≡ true
+  unfolding even blockEven columnEven
+  all-even h =
+      all-intro (nodes 64) _
+      (λ b m.
+      or-right (ltb (b % 8) (b / 8))
+      (all-intro (nodes 64) _
+      (λ c mc.
+      all-intro (nodes 64) _
+      (λ k mk. eq-beq (edgeBit edges (64 * (b / 8) + k) (64 * (b % 8) + c)) (edgeBit edges (64 * (b % 8) + c) (64 * (b / 8) + k)) (h (64 * (b / 8) + k) (64 * (b % 8) + c) (omega (arith, nodes-out 64 b m, nodes-out 64 k mk)) (omega (arith, nodes-out 64 c mc)))))))

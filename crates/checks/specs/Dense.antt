@@ -41,7 +41,6 @@ pub record Loaded (edges : List ℕ) (i j m : ℕ) (a : List ℕ) : Type 0 where
 -- the columns of block j in the rows of block i
 pub record Across (edges : List ℕ) (i j : ℕ) (a : List ℕ) : Type 0 where
   pub size : length a ≡ 64
-  pub small : (c : ℕ) → getD a c 0 < 2 ^ 64
   pub bits : (c k : ℕ) → c < 64 → k < 64 → bitAt (getD a c 0) k ≡ edgeBit edges (64 * i + k) (64 * j + c)
 
 -- column c of block j in the rows of block i, against row c of block j

@@ -8,3 +8,5 @@ pub mod CertificateLaws
 pub mod HoldLaws
 pub mod Dense
 pub mod BlockLaws
+pub mod FourLaws
+pub mod DenseLaws

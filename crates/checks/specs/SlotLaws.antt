@@ -1,17 +1,17 @@
 -- Keys of leaders, by slots: where a slot is free, no leader so far has the key.
-use mathlib.Core.Path.{_≡_, refl, sym, ap, _∙_, subst}
-use mathlib.Core.Bool.{Bool, true, false, not, _||_}
+use mathlib.Core.Path.{_≡_, refl, sym, ap, _∙_}
+use mathlib.Core.Bool.{Bool, true, false, not}
 use mathlib.Core.List.{List}
 use mathlib.Core.Logic.{_⊎_, inl, inr}
-use Prim.Native.Nat.{ℕ, _+_, _*_, _%_, _≤_, _<_}
+use Prim.Native.Nat.{ℕ, _+_, _*_, _%_, _<_}
 use native.Mathlib.Omega.{arith}
 use native.Mathlib.Decide.{ℕ-discrete}
 use lib.Dec.{eqb}
-use lib.ListN.{length, getD, set, length-set, replicate}
+use lib.ListN.{length, getD, set, length-set}
 use lib.Seq.{getD-set-same, getD-set-other}
 use borrow.Author.Tests.{eqb-true, eq-eqb}
 use Rattle.model.specs.Lists.{nodes}
-use Rattle.model.specs.Grouping.{falseTwins, similar, trueTwins}
+use Rattle.model.specs.Grouping.{falseTwins, trueTwins}
 use Rattle.model.specs.Tables.{nodeNumber}
 use Rattle.model.specs.TestLaws.{and-fst, and-snd, decide}
 use Rattle.model.specs.TwinLaws.{similar-cases}

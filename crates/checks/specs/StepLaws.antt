@@ -40,10 +40,6 @@ all-fail f n p l h = step (decide (all (nodes n) f))
     step (inl t) = differ (all-elim (nodes n) f t p (nodes-in n p l)) h
     step (inr t) = sym t
 
-and-false : (a : Bool) {b : Bool} → b ≡ false → (a && b) ≡ false
-and-false true e = e
-and-false false e = refl
-
 -- a bit and its mirror
 module _ (n : ℕ) (edges : List ℕ) (p q : ℕ) where
   pub mirror-outside : n ≤ q → false ≡ mirrored n edges p q

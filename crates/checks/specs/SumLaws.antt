@@ -20,7 +20,7 @@ use Rattle.rows.specs.KeyLaws.{cubes-cong, cubes-set}
 use Rattle.checks.specs.Walk.{ahead}
 use Rattle.checks.specs.WalkLaws.{ahead-end, ahead-gone, ahead-here, ahead-next, ahead-off, ahead-start, cleared-less, lowest-small}
 
-no-cubes : (l : List ℕ) → sumCubes (filter (λ q. false) l) ≡ 0
+pub no-cubes : (l : List ℕ) → sumCubes (filter (λ q. false) l) ≡ 0
 unfolding filter sumCubes
 no-cubes [] = refl
 no-cubes (x ∷ xs) = no-cubes xs

@@ -3,7 +3,7 @@ use mathlib.Core.Path.{_≡_, refl, sym, ap, ap₂, _∙_}
 use mathlib.Core.Bool.{Bool, true, false, not, cond, xor, _&&_}
 use mathlib.Core.List.{List}
 use mathlib.Core.Logic.{_⊎_, inl, inr}
-use Prim.Native.Nat.{ℕ, zero, suc, _+_, _*_, _-_, _/_, _%_, _^_, _≤_, _<_}
+use Prim.Native.Nat.{ℕ, zero, suc, _+_, _*_, _-_, _/_, _%_, _^_, _<_}
 use native.Mathlib.Nat.{add-mul, mul-assoc, mul-comm, one-mul, mod-self, pow-suc, zero-div}
 use native.Mathlib.Omega.{arith}
 use lib.Bits.{and-block, and-le-r, and-mask, and-self, bitAnd, bitXor, xor-shifted}
@@ -142,9 +142,6 @@ module _ (edges : List ℕ) (p : ℕ) where
 
   -- the lowest bit of what is left is ahead, then no longer; the others stay as they are
   module _ (w x : ℕ) (small : x < 2 ^ 64) (some : x ≡ 0 → ⊥) where
-    abbrev at : ℕ
-    at = 64 * w + trailingZeros 64 x
-
     word-of : (64 * w + trailingZeros 64 x) / 64 ≡ w
     word-of = omega (arith, lowest-small x small some)
 

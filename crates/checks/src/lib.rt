@@ -22,6 +22,9 @@ ghost use Rattle.checks.specs.Checks.{
   twinOf,
   twinsHold,
 };
+
+mod dense;
+
 use groups::LEAST;
 use groups::MARK;
 use groups::NEXT;
@@ -77,8 +80,8 @@ fn row_holds(edges: &[u64], keys: &[u32], n: usize, p: usize) -> bool
     keys_agree(keys, p, sum)
 }
 
-// Whether edges and keys are those of a graph.
-fn rows_hold(edges: &[u64], keys: &[u32], n: usize) -> bool
+// Whether edges and keys are those of a graph, bit by bit.
+fn sparse_rows_hold(edges: &[u64], keys: &[u32], n: usize) -> bool
     requires { ⌜ (n ≤ maxNodes) × (length (now edges) ≡ rowWords * n) × (length (now keys) ≡ 2 * n) ⌝ }
     ensures { λ r. ⌜ r ≡ rowsHold n (now (edges .entry)) (now (keys .entry)) ⌝ }
 {
@@ -88,6 +91,37 @@ fn rows_hold(edges: &[u64], keys: &[u32], n: usize) -> bool
         }
     }
     true
+}
+
+// How many bits of a word are set.
+fn ones_of(x: u64) -> usize
+    ensures { λ r. ⌜ r ≤ 64 ⌝ }
+{
+    u64::count_ones(x) as usize
+}
+
+// Whether a sample of the edges has so many bits that a walk over all of them would take long. Either answer is right.
+fn has_many_bits(edges: &[u64]) -> bool
+    requires { ⌜ length (now edges) ≤ rowWords * maxNodes ⌝ }
+{
+    let mut bits = 0;
+    let mut i = 0;
+    while i < edges.len() {
+        bits += ones_of(edges[i]);
+        i += 37;
+    }
+    bits > 1000
+}
+
+// Whether edges and keys are those of a graph.
+fn rows_hold(edges: &[u64], keys: &[u32], n: usize) -> bool
+    requires { ⌜ (n ≤ maxNodes) × (length (now edges) ≡ rowWords * n) × (length (now keys) ≡ 2 * n) ⌝ }
+    ensures { λ r. ⌜ r ≡ rowsHold n (now (edges .entry)) (now (keys .entry)) ⌝ }
+{
+    if has_many_bits(edges) {
+        return dense::rows_hold(edges, keys, n);
+    }
+    sparse_rows_hold(edges, keys, n)
 }
 
 // Whether l leads the group of p and p's row is that of a twin of l.

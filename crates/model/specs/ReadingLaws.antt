@@ -45,7 +45,7 @@ module _ (e : ℕ → ℕ → Bool) where
   mark-back clique = refl
 
   -- one group record, before whatever follows
-  count-back : (g r : List ℕ) → u16At (groupRecord e g ++ r) 2 ≡ length g
+  pub count-back : (g r : List ℕ) → u16At (groupRecord e g ++ r) 2 ≡ length g
   unfolding groupRecord u16At u16
   count-back g r = omega arith
 
@@ -57,7 +57,7 @@ module _ (e : ℕ → ℕ → Bool) where
   unfolding groupRecord
   first g r = mark-back (kindOf e g)
 
-  next : (g r : List ℕ) → drop (2 * u16At (groupRecord e g ++ r) 2) (drop 4 (groupRecord e g ++ r)) ≡ r
+  pub next : (g r : List ℕ) → drop (2 * u16At (groupRecord e g ++ r) 2) (drop 4 (groupRecord e g ++ r)) ≡ r
   next g r = rw (count-back g r, body g r) (u16s-rest g r)
 
   pub groups-back : (gs : List (List ℕ)) (r : List ℕ) → groupsAt (length gs) (concat (map (groupRecord e) gs) ++ r) ≡ map marked gs

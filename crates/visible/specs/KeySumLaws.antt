@@ -8,8 +8,8 @@ use native.Mathlib.Omega.{arith}
 use lib.Bits.{bitAnd}
 use lib.Count.{trailingZeros}
 use lib.Dec.{eqb, ltb}
-use lib.ListN.{getD, length, length-set, set}
-use lib.Seq.{ext-getD, getD-set-other, getD-set-same}
+use lib.ListN.{getD, length, length-set, set, take}
+use lib.Seq.{ext-getD, length-take-le, getD-set-other, getD-set-same}
 use borrow.Author.Tests.{eqb-false, eqb-true, ltb-true}
 use Rattle.model.specs.Lists.{nodes}
 use Rattle.model.specs.Grouping.{cube, openKey}
@@ -74,3 +74,7 @@ summed-all {n} {i} {edges} {t} {t₁} a l h = ext-getD 0 t₁ (keysOf (graphIn n
         let e : j ≡ 2 * (j / 2) + j % 2 = omega arith in
         let b : j / 2 < n = omega (arith, a .size) in
         rw e (a .keys (j / 2) (j % 2) (omega arith) (omega arith) ∙ sym (keys-at (graphIn n edges) (j / 2) (j % 2) b (omega arith)))
+
+-- a prefix that is lent has its length
+pub prefix-length : (k : ℕ) (s : List ℕ) → k ≤ length s → k ≡ length (take k s)
+prefix-length k s h = sym (length-take-le k s h)

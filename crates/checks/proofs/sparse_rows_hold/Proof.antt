@@ -6,8 +6,8 @@ use native.Mathlib.Omega.{arith}
 use borrow.Author.Count.{below-more, below-none}
 use Rattle.checks.specs.Checks.{keysHold, rowHolds, rowsHold}
 use Rattle.checks.specs.StepLaws.{all-fail, all-pass, failed, passed}
-use Rattle.checks.proofs.rows_hold.Statement.{statement}
-use Rattle.checks.proofs.rows_hold.Tie as tie
+use Rattle.checks.proofs.sparse_rows_hold.Statement.{statement}
+use Rattle.checks.proofs.sparse_rows_hold.Tie as tie
 
 abbrev Inv-loop : tie.InvT-loop
 Inv-loop edges keys n p₀ p = (p ≤ n) × ((k : ℕ) → k < p → (rowHolds n edges k && keysHold n edges keys k) ≡ true)
@@ -38,8 +38,8 @@ returns-2 : tie.Need-returns-2 Inv-loop μ-loop
 unfolding rowsHold
 returns-2 c = all-pass _ _ _ (omega arith) (c .before .loop .inv .1)
 
-pub rows-hold-spec : {M : Type 1} → statement M
-rows-hold-spec =
+pub sparse-rows-hold-spec : {M : Type 1} → statement M
+sparse-rows-hold-spec =
     tie.close
     (tie.spec
     Inv-loop

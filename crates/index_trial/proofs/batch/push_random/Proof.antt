@@ -1,0 +1,88 @@
+use mathlib.Core.Path.{_≡_}
+use Prim.Native.Nat.{_-_}
+use native.Mathlib.Omega.{arith}
+use lib.ListN.{length}
+use borrow.Author.Needs.{needs}
+use Rattle.index_trial.proofs.batch.push_random.Statement.{statement}
+use Rattle.index_trial.proofs.batch.push_random.Tie as tie
+
+abbrev Inv-loop : tie.InvT-loop
+Inv-loop batch₀ count seed times span c₀ x₀ i₀ batch c x i = length batch ≡ length batch₀
+
+abbrev μ-loop : tie.MeasureT-loop
+μ-loop batch₀ count seed times span c₀ x₀ i₀ batch c x i = times - i
+
+loop-holds : tie.Need-loop-holds Inv-loop μ-loop
+loop-holds c = search needs
+
+step-requires : tie.Need-step-requires Inv-loop μ-loop
+step-requires c κs = search needs
+
+draw-requires : tie.Need-draw-requires Inv-loop μ-loop
+draw-requires c κs = search needs
+
+step-requires-2 : tie.Need-step-requires-2 Inv-loop μ-loop
+step-requires-2 c κs = search needs
+
+draw-requires-2 : tie.Need-draw-requires-2 Inv-loop μ-loop
+draw-requires-2 c κs = search needs
+
+step-requires-3 : tie.Need-step-requires-3 Inv-loop μ-loop
+step-requires-3 c κs = search needs
+
+draw-requires-3 : tie.Need-draw-requires-3 Inv-loop μ-loop
+draw-requires-3 c κs = search needs
+
+step-requires-4 : tie.Need-step-requires-4 Inv-loop μ-loop
+step-requires-4 c κs = search needs
+
+draw-requires-4 : tie.Need-draw-requires-4 Inv-loop μ-loop
+draw-requires-4 c κs = search needs
+
+kind-of-requires : tie.Need-kind-of-requires Inv-loop μ-loop
+kind-of-requires c κs = search needs
+
+second-of-requires : tie.Need-second-of-requires Inv-loop μ-loop
+second-of-requires c κs = search needs
+
+push-update-requires : tie.Need-push-update-requires Inv-loop μ-loop
+push-update-requires c κs = search needs
+
+add-i : tie.Need-add-i Inv-loop μ-loop
+add-i c = omega arith
+
+loop-less : tie.Need-loop-less Inv-loop μ-loop
+loop-less c = omega arith
+
+loop-again : tie.Need-loop-again Inv-loop μ-loop
+loop-again c = search needs
+
+same-length : tie.Need-same-length Inv-loop μ-loop
+same-length c = search needs
+
+returns : tie.Need-returns Inv-loop μ-loop
+returns c = search needs
+
+pub push-random-spec : {M : Type 1} → statement M
+push-random-spec =
+    tie.close
+    (tie.spec
+    Inv-loop
+    μ-loop
+    loop-holds
+    step-requires
+    draw-requires
+    step-requires-2
+    draw-requires-2
+    step-requires-3
+    draw-requires-3
+    step-requires-4
+    draw-requires-4
+    kind-of-requires
+    second-of-requires
+    push-update-requires
+    add-i
+    loop-less
+    loop-again
+    same-length
+    returns)

@@ -1,0 +1,70 @@
+// The tables read and changed behind the index's back.
+use crate::digest::wide;
+use crate::digest::wide_key;
+use crate::script::small;
+use crate::script::within;
+
+// Node q's bit in node p's row, the other way.
+pub fn flip(edges: &mut [u64], p: u64, q: u64) {
+    let i = 8 * within(p, 600) + rows::word_of(within(q, 511));
+    if i < edges.len() {
+        edges[i] = edges[i] ^ rows::mask(within(q, 511));
+    }
+}
+
+// One number of the node table.
+pub fn put(nodes: &mut [u16], i: u64, x: u64) {
+    let at = within(i, 3000);
+    if at < nodes.len() {
+        nodes[at] = small(x);
+    }
+}
+
+// One key.
+pub fn put_key(keys: &mut [u32], i: u64, x: u64) {
+    let at = within(i, 3000);
+    if at < keys.len() {
+        keys[at] = small_key(x);
+    }
+}
+
+fn small_key(x: u64) -> u32 {
+    if x < 4294967296 { x as u32 } else { 4294967295 }
+}
+
+fn number_at(nodes: &[u16], i: usize) -> u64 {
+    if i < nodes.len() {
+        return wide(nodes[i]);
+    }
+    0
+}
+
+fn key_at(keys: &[u32], i: usize) -> u64 {
+    if i < keys.len() {
+        return wide_key(keys[i]);
+    }
+    0
+}
+
+// The four numbers and the two keys of a node.
+fn show_node(nodes: &[u16], keys: &[u32], p: u64) {
+    let at = within(p, 600);
+    io::write_all(1, b"node");
+    crate::say::number(p);
+    io::write_all(1, b" holds");
+    crate::say::number(number_at(nodes, 4 * at));
+    crate::say::number(number_at(nodes, 4 * at + 1));
+    crate::say::number(number_at(nodes, 4 * at + 2));
+    crate::say::number(number_at(nodes, 4 * at + 3));
+    io::write_all(1, b" keys");
+    crate::say::number(key_at(keys, 2 * at));
+    crate::say::number(key_at(keys, 2 * at + 1));
+    crate::say::feed();
+}
+
+// The nodes from a up to b.
+pub fn show(nodes: &[u16], keys: &[u32], a: u64, b: u64) {
+    for p in a..b {
+        show_node(nodes, keys, p);
+    }
+}

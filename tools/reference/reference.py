@@ -1,0 +1,352 @@
+#!/usr/bin/env python3
+"""reference.py < SCRIPT: what document 01 wants of the calls of a script, worked out from sets.
+
+An implementation apart from the library: a graph is a set of pairs and a set of hidden nodes, and after each update the groups are
+found anew by Algorithm 1. README.md has the script's language."""
+import sys
+
+MOST_NODES, MOST_UPDATES, ROW_WORDS, NODE_NUMBERS = 512, 4096, 8, 4
+
+
+class Graph:
+    """n nodes, edges as pairs (lesser, greater), hidden nodes."""
+
+    def __init__(self, n):
+        self.n = n
+        self.edges = set()
+        self.hidden = set()
+
+    def tied(self, p, q):
+        return (min(p, q), max(p, q)) in self.edges
+
+    def neighbourhoods(self):
+        found = [set() for _ in range(self.n)]
+        for p, q in self.edges:
+            found[p].add(q)
+            found[q].add(p)
+        return [frozenset(s) for s in found]
+
+
+def algorithm1(nodes, neighbourhood):
+    """Algorithm 1 of source document 002, lines 2 to 8: the groups, by least member, members ascending."""
+    closed = {u: neighbourhood[u] | {u} for u in nodes}
+    done, groups = set(), []
+    for u in nodes:
+        if u in done:
+            continue
+        group = [u]
+        done.add(u)
+        for v in nodes:
+            if v not in done and (neighbourhood[u] == neighbourhood[v] or closed[u] == closed[v]):
+                group.append(v)
+                done.add(v)
+        groups.append(group)
+    return groups
+
+
+def groups_of(graph):
+    return algorithm1(range(graph.n), graph.neighbourhoods())
+
+
+def tables_of(graph):
+    """The three tables of a graph: edges, nodes, keys."""
+    n, neighbourhood = graph.n, graph.neighbourhoods()
+    edges, nodes, keys = [], [0] * (NODE_NUMBERS * n), []
+    for p in range(n):
+        row = sum(1 << q for q in neighbourhood[p])
+        edges += [row >> 64 * w & 2 ** 64 - 1 for w in range(ROW_WORDS)]
+        cubes = sum((q + 1) ** 3 for q in neighbourhood[p])
+        keys += [cubes % 2 ** 32, (cubes + (p + 1) ** 3) % 2 ** 32]
+    for group in groups_of(graph):
+        for i, p in enumerate(group):
+            following, previous = group[(i + 1) % len(group)], group[i - 1]
+            nodes[4 * p:4 * p + 4] = [group[0], following, previous, int(p in graph.hidden)]
+    return [edges, nodes, keys]
+
+
+def graph_of(n, tables):
+    """The graph that tables of the right lengths hold, or None."""
+    edges, nodes, keys = tables
+    rows = [sum(edges[8 * p + w] << 64 * w for w in range(ROW_WORDS)) for p in range(n)]
+    graph = Graph(n)
+    for p in range(n):
+        if rows[p] >> n or rows[p] >> p & 1:
+            return None
+        for q in range(n):
+            if rows[p] >> q & 1:
+                if not rows[q] >> p & 1:
+                    return None
+                graph.edges.add((min(p, q), max(p, q)))
+        if nodes[4 * p + 3] == 1:
+            graph.hidden.add(p)
+    return graph if tables_of(graph) == tables else None
+
+
+def update_refusal(graph, kind, u, v):
+    if kind not in (1, 2, 3, 4):
+        return 13
+    if kind in (1, 2):
+        if u >= graph.n or v >= graph.n:
+            return 14
+        if u == v:
+            return 15
+        there = graph.tied(u, v)
+    else:
+        if u >= graph.n:
+            return 14
+        if v != 0:
+            return 15
+        there = u in graph.hidden
+    if kind in (1, 3):
+        return 16 if there else 0
+    return 0 if there else 17
+
+
+def update(graph, kind, u, v):
+    """One update: its answer."""
+    refused = update_refusal(graph, kind, u, v)
+    if refused:
+        return refused
+    before = len(groups_of(graph))
+    if kind == 1:
+        graph.edges.add((min(u, v), max(u, v)))
+    elif kind == 2:
+        graph.edges.remove((min(u, v), max(u, v)))
+    elif kind == 3:
+        graph.hidden.add(u)
+    else:
+        graph.hidden.remove(u)
+    return len(groups_of(graph)) - before
+
+
+class Index:
+    """The calls on lent tables, each a list that is changed in place. Numbers of a refused call are 0."""
+
+    def wrong_size(self, n, tables):
+        lengths = [len(t) for t in tables]
+        return n > MOST_NODES or lengths != [ROW_WORDS * n, NODE_NUMBERS * n, 2 * n]
+
+    def fill(self, tables, graph):
+        for table, wanted in zip(tables, tables_of(graph)):
+            table[:] = wanted
+
+    def open(self, n, tables):
+        if self.wrong_size(n, tables):
+            return 11
+        self.fill(tables, Graph(n))
+        return 0
+
+    def apply(self, n, tables, batch, answers):
+        if self.wrong_size(n, tables) or len(batch) % 3 or len(batch) // 3 > MOST_UPDATES:
+            return 11
+        graph = graph_of(n, tables)
+        if graph is None:
+            return 12
+        if len(answers) < len(batch) // 3:
+            return 18
+        for i in range(len(batch) // 3):
+            answers[i] = update(graph, *batch[3 * i:3 * i + 3])
+        self.fill(tables, graph)
+        return 0
+
+    def asked(self, n, tables):
+        """The number that refuses a query for its tables, or 0, and the graph."""
+        if self.wrong_size(n, tables):
+            return 11, None
+        graph = graph_of(n, tables)
+        return (12, None) if graph is None else (0, graph)
+
+    def neighbours(self, n, tables, p, out):
+        refused, graph = self.asked(n, tables)
+        if refused:
+            return refused, 0
+        if p >= n:
+            return 14, 0
+        found = sorted(graph.neighbourhoods()[p])
+        if len(out) < len(found):
+            return 18, 0
+        out[:len(found)] = found
+        return 0, len(found)
+
+    def tied(self, n, tables, p, q):
+        refused, graph = self.asked(n, tables)
+        if refused:
+            return refused, False
+        if p >= n or q >= n:
+            return 14, False
+        if p == q:
+            return 15, False
+        return 0, graph.tied(p, q)
+
+    def group(self, n, tables, p):
+        refused, graph = self.asked(n, tables)
+        if refused:
+            return refused, 0, 0, 0
+        if p >= n:
+            return 14, 0, 0, 0
+        group = next(g for g in groups_of(graph) if p in g)
+        kind = 0 if len(group) == 1 else 2 if graph.tied(group[0], group[1]) else 1
+        return 0, group[0], kind, len(group)
+
+
+# From here on: the script.
+
+def fold(h, x):
+    return (h % 4294967291 * 65599 + x % 2 ** 32) % 4294967291
+
+
+def fold_all(h, numbers):
+    for x in numbers:
+        h = fold(h, x)
+    return h
+
+
+def fold_tables(h, tables):
+    edges, nodes, keys = tables
+    halves = [x for w in edges for x in (w % 2 ** 32, w >> 32)]
+    return fold_all(h, halves + nodes + keys)
+
+
+def codes(answers):
+    return [x % 65536 for x in answers]
+
+
+def drawn(seed, times, span):
+    """The updates of `random`."""
+    x, found = seed, []
+
+    def draw(below):
+        nonlocal x
+        x = (x % 2 ** 31 * 1103515245 + 12345) % 2 ** 31
+        return x // 65536 % below if below else 0
+
+    for _ in range(times):
+        k, u, v, some = draw(8), draw(span), draw(span), draw(16)
+        kind = (1, 1, 1, 2, 2, 3, 4, some)[k]
+        found += [kind, u, v if k < 5 or some == 0 else 0]
+    return found
+
+
+def pair_at(t):
+    """The pair at place t of 0 1, 0 2, 1 2, 0 3, ..."""
+    high = 1
+    while t >= high:
+        t -= high
+        high += 1
+    return t, high
+
+
+class Script:
+    def __init__(self, out):
+        self.out = out
+        self.index = Index()
+        self.whole = [[7] * 4104, [7] * 2052, [7] * 1026]
+        self.n = 0
+        self.lent = [0, 0, 0]
+        self.batch = []
+
+    def say(self, *words):
+        self.out.write(' '.join(str(w) for w in words) + '\n')
+
+    def on_tables(self, call, *args):
+        """A call on the lent parts of the tables: what it returned, and the parts as it left them."""
+        parts = [whole[:k] for whole, k in zip(self.whole, self.lent)]
+        result = call(self.n, parts, *args)
+        for whole, part in zip(self.whole, parts):
+            whole[:len(part)] = part
+        return result, parts
+
+    def size(self, n):
+        self.n, self.lent = n, [8 * n, 4 * n, 2 * n]
+
+    def lend(self, edges, nodes, keys):
+        self.lent = [edges, nodes, keys]
+
+    def open(self):
+        result, parts = self.on_tables(self.index.open)
+        self.say('open', result, 'tables', fold_tables(0, parts))
+
+    def update(self, kind, u, v):
+        self.batch += [kind, u, v]
+
+    def extra(self, x):
+        self.batch += [x]
+
+    def many(self, times, kind, u, v):
+        self.batch += [kind, u, v] * times
+
+    def block(self, kind, a, b, c, d):
+        for u in range(a, b):
+            for v in range(c, d):
+                if u < v:
+                    self.batch += [kind, u, v]
+
+    def random(self, seed, times, span):
+        self.batch += drawn(seed, times, span)
+
+    def apply(self, room, shown):
+        answers = [4660] * room
+        result, parts = self.on_tables(self.index.apply, self.batch, answers)
+        self.batch = []
+        digest = fold_all(0, codes(answers))
+        self.say('apply', result, 'answers', *answers[:shown], 'digest', digest, 'tables', fold_tables(0, parts))
+
+    def neighbours(self, p, room, shown):
+        out = [4660] * room
+        (result, count), _ = self.on_tables(self.index.neighbours, p, out)
+        self.say('neighbours', result, 'count', count, 'buffer', *out[:shown], 'digest', fold_all(0, out))
+
+    def tied(self, p, q):
+        (result, yes), _ = self.on_tables(self.index.tied, p, q)
+        self.say('tied', result, 'yes' if yes else 'no')
+
+    def group(self, p):
+        (result, least, kind, size), _ = self.on_tables(self.index.group, p)
+        self.say('group', result, 'least', least, 'kind', kind, 'size', size)
+
+    def dump(self, a, b):
+        for p in range(a, b):
+            self.say('node', p, 'holds', *self.whole[1][4 * p:4 * p + 4], 'keys', *self.whole[2][2 * p:2 * p + 2])
+
+    def flip(self, p, q):
+        self.whole[0][8 * p + q // 64] ^= 1 << q % 64
+
+    def put(self, i, x):
+        self.whole[1][i] = x
+
+    def key(self, i, x):
+        self.whole[2][i] = x
+
+    def walk(self, a, b):
+        h = 0
+        for i in range(a, b):
+            u, v = pair_at((i & -i).bit_length() - 1)
+            (_, yes), _ = self.on_tables(self.index.tied, u, v)
+            answers = [4660]
+            result, parts = self.on_tables(self.index.apply, [2 if yes else 1, u, v], answers)
+            h = fold_tables(fold_all(h, [result] + codes(answers)), parts)
+        self.say('walk digest', h)
+
+    def queries(self, limit):
+        h = 0
+        for p in range(limit):
+            h = fold_all(h, self.on_tables(self.index.group, p)[0])
+            out = [4660] * 512
+            h = fold_all(h, list(self.on_tables(self.index.neighbours, p, out)[0]) + out)
+            for q in range(limit):
+                h = fold_all(h, [int(x) for x in self.on_tables(self.index.tied, p, q)[0]])
+        self.say('queries digest', h)
+
+    def line(self, text):
+        if text.startswith('#'):
+            self.out.write(text)
+            return
+        words = text.split()
+        if words:
+            getattr(self, words[0])(*[int(w) for w in words[1:]])
+
+
+if __name__ == '__main__':
+    script = Script(sys.stdout)
+    for text in sys.stdin:
+        script.line(text)
