@@ -164,7 +164,8 @@ fn fill_four(sums: &mut [u32], b: usize)
     }
 }
 
-fn fill(sums: &mut [u32])
+// The sums of the cubes of any of four nodes, for all nodes.
+pub fn fill(sums: &mut [u32])
     requires { ⌜ length (now sums) ≡ 2048 ⌝ }
     ensures { λ _. ⌜ Filled 2048 (now (sums .exit)) ⌝ }
 {
@@ -201,7 +202,7 @@ fn word_sum(sums: &[u32], w: usize, x: u64) -> u64
 }
 
 // The cubes of the nodes whose bits stand in p's row.
-fn row_sum(edges: &[u64], sums: &[u32], p: usize) -> u64
+pub fn row_sum(edges: &[u64], sums: &[u32], p: usize) -> u64
     requires { ⌜ (p < maxNodes) × (rowWords * p + rowWords ≤ length (now edges)) × Filled 2048 (now sums) ⌝ }
     ensures { λ r. ⌜ r ≡ rowCubes (now (edges .entry)) p 8 ⌝ }
 {
@@ -213,7 +214,8 @@ fn row_sum(edges: &[u64], sums: &[u32], p: usize) -> u64
     total
 }
 
-fn low_half(x: u64) -> u32
+// The low 32 bits.
+pub fn low_half(x: u64) -> u32
     ensures { λ r. ⌜ r ≡ x % 2 ^ 32 ⌝ }
 {
     (x % 4294967296) as u32

@@ -23,7 +23,7 @@ ghost use Rattle.checks.specs.Checks.{
   twinsHold,
 };
 
-mod dense;
+pub mod dense;
 
 use groups::LEAST;
 use groups::MARK;
@@ -101,7 +101,7 @@ fn ones_of(x: u64) -> usize
 }
 
 // Whether a sample of the edges has so many bits that a walk over all of them would take long. Either answer is right.
-fn has_many_bits(edges: &[u64]) -> bool
+pub fn has_many_bits(edges: &[u64]) -> bool
     requires { ⌜ length (now edges) ≤ rowWords * maxNodes ⌝ }
 {
     let mut bits = 0;

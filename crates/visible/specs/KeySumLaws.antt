@@ -19,7 +19,9 @@ use Rattle.model.specs.TableLaws.{edge-bit, length-edges, length-keys}
 use Rattle.rows.specs.Search.{edgesIn, graphIn}
 use Rattle.rows.specs.KeyLaws.{keyOf, keys-at}
 use Rattle.checks.specs.SumLaws.{Adding, adding-on, adding-place, adding-set}
-use Rattle.visible.specs.Visible.{Within}
+use Rattle.checks.specs.Dense.{rowCubes}
+use Rattle.checks.specs.FourLaws.{dense-key}
+use Rattle.visible.specs.Visible.{KeysPut, Within}
 
 module _ {n : ℕ} {edges : List ℕ} (h : Within n edges) where
   pub within-length : length edges ≡ 8 * n
@@ -45,14 +47,22 @@ pub record Summed (n : ℕ) (edges : List ℕ) (i : ℕ) (t after : List ℕ) : 
 pub summed-none : (n : ℕ) (edges t : List ℕ) → Summed n edges 0 t t
 summed-none n edges t = record { size = refl; keys = λ p k h l. absurd (omega arith) }
 
-pub summed-more : {n : ℕ} {edges : List ℕ} {i x y r : ℕ} {t t₁ : List ℕ} → Summed n edges i t t₁ → 2 * i + 2 ≤ length t
-    → x ≡ openKey (nodes n) (edgesIn n edges) i → y ≡ cube i → r ≡ (x + y) % 2 ^ 32 → Summed n edges (i + 1) t (set (set t₁ (2 * i) x) (2 * i + 1) r)
+pub keys-put : (p sum : ℕ) (t : List ℕ) {y r : ℕ} → y ≡ cube p → r ≡ (sum + y) % 2 ^ 32 → KeysPut p sum t (set (set t (2 * p) sum) (2 * p + 1) r)
+keys-put p sum t e f = record { put = ap (set (set t (2 * p) sum) (2 * p + 1)) (f ∙ ap (λ (z : ℕ). (sum + z) % 2 ^ 32) e) }
+
+pub put-length : {p sum : ℕ} {t after : List ℕ} → KeysPut p sum t after → length after ≡ length t
+put-length {p} {sum} {t} h = ap length (h .put) ∙ length-set (set t (2 * p) sum) (2 * p + 1) ((sum + cube p) % 2 ^ 32) ∙ length-set t (2 * p) sum
+
+pub summed-more : {n : ℕ} {edges : List ℕ} {i x : ℕ} {t t₁ t₂ : List ℕ} → Summed n edges i t t₁ → 2 * i + 2 ≤ length t → x ≡ openKey (nodes n) (edgesIn n edges) i → KeysPut i x t₁ t₂ → Summed n edges (i + 1) t t₂
 unfolding openKey
-summed-more {n} {edges} {i} {x} {y} {r} {t} {t₁} a l ex ey er = record {
-  size = length-set (set t₁ (2 * i) x) (2 * i + 1) r ∙ length-set t₁ (2 * i) x ∙ a .size;
-  keys = λ p k h m. step p k h m (decide (eqb p i));
+summed-more {n} {edges} {i} {x} {t} {t₁} {t₂} a l ex h = record {
+  size = put-length h ∙ a .size;
+  keys = λ p k b m. ap (λ (s : List ℕ). getD s (2 * p + k) 0) (h .put) ∙ step p k b m (decide (eqb p i));
 }
   where
+    r : ℕ
+    r = (x + cube i) % 2 ^ 32
+
     own : (k : ℕ) → k < 2 → getD (set (set t₁ (2 * i) x) (2 * i + 1) r) (2 * i + k) 0 ≡ keyOf (graphIn n edges) i k
     own zero m =
         let z : 2 * i + 0 ≡ 2 * i = omega arith in
@@ -61,10 +71,14 @@ summed-more {n} {edges} {i} {x} {y} {r} {t} {t₁} a l ex ey er = record {
     own (suc (suc k)) m = absurd (omega arith)
 
     step : (p k : ℕ) → p < i + 1 → k < 2 → (eqb p i ≡ true) ⊎ (eqb p i ≡ false) → getD (set (set t₁ (2 * i) x) (2 * i + 1) r) (2 * p + k) 0 ≡ keyOf (graphIn n edges) p k
-    step p k h m (inl s) = rw (eqb-true p i s) (own k m)
-    step p k h m (inr s) =
+    step p k b m (inl s) = rw (eqb-true p i s) (own k m)
+    step p k b m (inr s) =
         let d : p ≡ i → ⊥ = eqb-false p i s in
         getD-set-other (set t₁ (2 * i) x) (2 * i + 1) (2 * p + k) r 0 (omega arith) ∙ getD-set-other t₁ (2 * i) (2 * p + k) x 0 (omega arith) ∙ a .keys p k (omega arith) m
+
+-- a row summed by a table
+pub row-key : {n : ℕ} {edges : List ℕ} {p s x : ℕ} → Within n edges → p < n → s ≡ rowCubes edges p 8 → x ≡ s % 2 ^ 32 → x ≡ openKey (nodes n) (edgesIn n edges) p
+row-key {n} {edges} {p} h hp e f = f ∙ ap (λ (y : ℕ). y % 2 ^ 32) e ∙ dense-key edges p n (h .small) hp (λ q l t. within-inside h p q hp l t)
 
 pub summed-all : {n i : ℕ} {edges t t₁ : List ℕ} → Summed n edges i t t₁ → length t ≡ 2 * n → n ≤ i → t₁ ≡ keysOf (graphIn n edges)
 summed-all {n} {i} {edges} {t} {t₁} a l h = ext-getD 0 t₁ (keysOf (graphIn n edges)) (a .size ∙ l ∙ sym (length-keys (graphIn n edges))) at

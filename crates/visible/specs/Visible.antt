@@ -2,12 +2,12 @@
 use mathlib.Core.Path.{_≡_}
 use mathlib.Core.Bool.{Bool, false, not, cond, _&&_}
 use mathlib.Core.List.{List}
-use Prim.Native.Nat.{ℕ, _*_, _/_, _%_, _≤_}
+use Prim.Native.Nat.{ℕ, _+_, _*_, _/_, _%_, _^_, _≤_}
 use lib.Bits.{bitAnd}
 use lib.Dec.{eqb, ltb}
-use lib.ListN.{length, getD}
+use lib.ListN.{length, getD, set}
 use Rattle.model.specs.Graph.{Graph, Proper, maxNodes, rowWords}
-use Rattle.model.specs.Grouping.{least, similar}
+use Rattle.model.specs.Grouping.{cube, least, similar}
 use Rattle.model.specs.Tables.{edgesOf}
 use Rattle.model.specs.Release.{isVisible, visible, visibleEdge}
 use Rattle.rows.specs.Search.{edgesIn, graphIn}
@@ -39,6 +39,10 @@ maskedWord edges set marks i = bitAnd (getD edges i 0) (keptWord set marks (i / 
 pub record Within (n : ℕ) (edges : List ℕ) : Type 0 where
   pub small : n ≤ maxNodes
   pub edges-of : edges ≡ edgesOf (graphIn n edges)
+
+-- the keys of p are those of a row whose cubes add up to sum
+pub record KeysPut (p sum : ℕ) (t after : List ℕ) : Type 0 where
+  pub put : after ≡ set (set t (2 * p) sum) (2 * p + 1) ((sum + cube p) % 2 ^ 32)
 
 -- hidden nodes have no edges
 pub record Apart (n : ℕ) (edges marks : List ℕ) : Type 0 where

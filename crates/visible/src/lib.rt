@@ -11,7 +11,7 @@ ghost use Rattle.model.specs.Release.{visiblePart};
 ghost use Rattle.layout.specs.Truth.{Truth};
 ghost use Rattle.layout.specs.WordLaws.{Marking};
 ghost use Rattle.rows.specs.Search.{edgesIn, graphIn, ownBit};
-ghost use Rattle.visible.specs.Visible.{Apart, Drawn, Within, keptWord, leastVisible, markedGraph, shown};
+ghost use Rattle.visible.specs.Visible.{Apart, Drawn, KeysPut, Within, keptWord, leastVisible, markedGraph, shown};
 ghost use Rattle.visible.specs.Chains.{Chains, Entered, Links, Met, Sought, alike, mix, slotOf, slots};
 use rows::Graph;
 
@@ -86,17 +86,51 @@ fn sum_row(edges: &[u64], n: usize, p: usize) -> u32
     sum
 }
 
+// The open key of p, and with p's own cube the closed one.
+fn put_keys(keys: &mut [u32], p: usize, sum: u32)
+    requires { ⌜ (p < maxNodes) × (2 * p + 2 ≤ length (now keys)) ⌝ }
+    ensures { λ _. ⌜ KeysPut p sum (now (keys .entry)) (now (keys .exit)) ⌝ }
+{
+    let a = 2 * p;
+    keys[a] = sum;
+    keys[a + 1] = std::num::wrapping_add_u32(sum, rows::cube_of(p));
+}
+
+fn sum_sparse(edges: &[u64], keys: &mut [u32], n: usize)
+    requires { ⌜ Within n (now edges) × (length (now keys) ≡ 2 * n) ⌝ }
+    ensures { λ _. ⌜ now (keys .exit) ≡ keysOf (graphIn n (now (edges .entry))) ⌝ }
+{
+    for p in 0..n {
+        put_keys(keys, p, sum_row(edges, n, p));
+    }
+}
+
+// The same four bits at a time, by a table.
+fn sum_dense(edges: &[u64], keys: &mut [u32], n: usize)
+    requires { ⌜ Within n (now edges) × (length (now keys) ≡ 2 * n) ⌝ }
+    ensures { λ _. ⌜ now (keys .exit) ≡ keysOf (graphIn n (now (edges .entry))) ⌝ }
+{
+    let mut sums = [0u32; 2048];
+    checks::dense::fill(&mut sums);
+    for p in 0..n {
+        put_keys(
+            keys,
+            p,
+            checks::dense::low_half(checks::dense::row_sum(edges, &sums, p)),
+        );
+    }
+}
+
 // The keys that an edge table demands.
 pub fn sum_keys(edges: &[u64], keys: &mut [u32], n: usize)
     requires { ⌜ Within n (now edges) × (length (now keys) ≡ 2 * n) ⌝ }
     ensures { λ _. ⌜ now (keys .exit) ≡ keysOf (graphIn n (now (edges .entry))) ⌝ }
 {
-    for p in 0..n {
-        let sum = sum_row(edges, n, p);
-        let a = 2 * p;
-        keys[a] = sum;
-        keys[a + 1] = std::num::wrapping_add_u32(sum, rows::cube_of(p));
+    if checks::has_many_bits(edges) {
+        sum_dense(edges, keys, n);
+        return;
     }
+    sum_sparse(edges, keys, n);
 }
 
 // A word mixed into a hash.

@@ -1,84 +1,39 @@
--- The invariant: the keys of the nodes below p are summed.
-use Prim.Native.Nat.{_-_, _≤_}
+-- Either way of summing gives the keys.
 use native.Mathlib.Omega.{arith}
-use lib.ListN.{length-set}
-use Rattle.visible.specs.KeySumLaws.{Summed, summed-all, summed-more, summed-none}
+use borrow.Author.Needs.{needs}
+use Rattle.visible.specs.KeySumLaws.{within-length}
 use Rattle.visible.proofs.sum_keys.Statement.{statement}
 use Rattle.visible.proofs.sum_keys.Tie as tie
 
-abbrev Inv-loop : tie.InvT-loop
-Inv-loop edges keys₀ n p₀ keys p = (p ≤ n) × Summed n edges p keys₀ keys
+has-many-bits-requires : tie.Need-has-many-bits-requires
+has-many-bits-requires c κs = let w = c .before .before .pre .0 in omega (arith, w .small, within-length w)
 
-abbrev μ-loop : tie.MeasureT-loop
-μ-loop edges keys₀ n p₀ keys p = n - p
+sum-dense-requires : tie.Need-sum-dense-requires
+sum-dense-requires c κs = search needs
 
-loop-holds : tie.Need-loop-holds Inv-loop μ-loop
-loop-holds c = (omega arith, summed-none _ _ _)
+same-length : tie.Need-same-length
+same-length c = search needs
 
-sum-row-requires : tie.Need-sum-row-requires Inv-loop μ-loop
-sum-row-requires c κs = (c .before .before .before .before .pre .0, c .loop-test .taken)
+returns : tie.Need-returns
+returns c = search needs
 
-mul-a : tie.Need-mul-a Inv-loop μ-loop
-mul-a c = omega (arith, c .before .before .before .before .before .pre .0 .small)
+sum-sparse-requires : tie.Need-sum-sparse-requires
+sum-sparse-requires c κs = search needs
 
-mul-keys : tie.Need-mul-keys Inv-loop μ-loop
-mul-keys c = omega arith
+same-length-2 : tie.Need-same-length-2
+same-length-2 c = search needs
 
-slice-write-keys : tie.Need-slice-write-keys Inv-loop μ-loop
-slice-write-keys c = omega (arith, c .before .before .loop .inv .1 .size, c .before .before .before .before .before .pre .1)
-
-cube-of-requires : tie.Need-cube-of-requires Inv-loop μ-loop
-cube-of-requires c κs = omega (arith, c .before .before .before .before .before .pre .0 .small)
-
-wrapping-add-u32-requires : tie.Need-wrapping-add-u32-requires Inv-loop μ-loop
-wrapping-add-u32-requires c κs = omega arith
-
-add-keys : tie.Need-add-keys Inv-loop μ-loop
-add-keys c = omega arith
-
-mul-keys-2 : tie.Need-mul-keys-2 Inv-loop μ-loop
-mul-keys-2 c = omega arith
-
-slice-write-keys-2 : tie.Need-slice-write-keys-2 Inv-loop μ-loop
-slice-write-keys-2 c = simp length-set (omega (arith, c .before .before .before .before .loop .inv .1 .size, c .before .before .before .before .before .before .before .pre .1))
-
-add-p : tie.Need-add-p Inv-loop μ-loop
-add-p c = omega arith
-
-loop-less : tie.Need-loop-less Inv-loop μ-loop
-loop-less c = omega arith
-
-loop-again : tie.Need-loop-again Inv-loop μ-loop
-loop-again c =
-    let row = c .before .before in
-    let head = row .before .before in
-    let pre = head .before .before .before .pre in
-    (omega arith, summed-more (head .loop .inv .1) (omega (arith, pre .1, row .before .loop-test .taken)) (row .sum-row .ensures) (c .before .cube-of .ensures) (c .wrapping-add-u32 .ensures))
-
-same-length : tie.Need-same-length Inv-loop μ-loop
-same-length c = c .before .loop .inv .1 .size
-
-returns : tie.Need-returns Inv-loop μ-loop
-returns c = summed-all (c .before .loop .inv .1) (c .before .before .before .before .pre .1) (c .loop-test .left)
+returns-2 : tie.Need-returns-2
+returns-2 c = search needs
 
 pub sum-keys-spec : {M : Type 1} → statement M
 sum-keys-spec =
     tie.close
     (tie.spec
-    Inv-loop
-    μ-loop
-    loop-holds
-    sum-row-requires
-    mul-a
-    mul-keys
-    slice-write-keys
-    cube-of-requires
-    wrapping-add-u32-requires
-    add-keys
-    mul-keys-2
-    slice-write-keys-2
-    add-p
-    loop-less
-    loop-again
+    has-many-bits-requires
+    sum-dense-requires
     same-length
-    returns)
+    returns
+    sum-sparse-requires
+    same-length-2
+    returns-2)
