@@ -51,7 +51,7 @@ add-q c =
 cube-of-requires : tie.Need-cube-of-requires Inv-loop2 μ-loop2 Inv-loop μ-loop
 cube-of-requires c κs =
     let turn = c .before in
-    adding-place (turn .before .loop2 .inv) (turn .loop2-test .taken) (c .lowest .ensures) (omega arith)
+    omega (arith, adding-place (turn .before .loop2 .inv) (turn .loop2-test .taken) (c .lowest .ensures) (omega arith))
 
 wrapping-add-u32-requires : tie.Need-wrapping-add-u32-requires Inv-loop2 μ-loop2 Inv-loop μ-loop
 wrapping-add-u32-requires c κs = omega arith
