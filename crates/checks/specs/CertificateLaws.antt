@@ -3,7 +3,7 @@ use mathlib.Core.Path.{_≡_, sym, subst, _∙_, ap}
 use mathlib.Core.Bool.{true, false}
 use mathlib.Core.Logic.{_⊎_, inl, inr, ⊎-elim}
 use mathlib.Core.List.{List}
-use Prim.Native.Nat.{ℕ, suc, zero, _+_, _-_, _≤_, _<_}
+use Prim.Native.Nat.{ℕ, suc, zero, _≤_, _<_}
 use native.Mathlib.Omega.{arith}
 use native.Mathlib.Nat.{le-antisymm}
 use native.Mathlib.Decide.{ℕ-discrete}
@@ -11,7 +11,7 @@ use lib.Dec.{ltb}
 use borrow.Author.Tests.{ltb-true, ltb-false}
 use Rattle.model.specs.Tables.{nodeNumber}
 use Rattle.model.specs.TestLaws.{decide}
-use Rattle.rings.specs.Ring.{up, Parts, Best, Table}
+use Rattle.rings.specs.Ring.{up, Parts, Table}
 use Rattle.rings.specs.RingLaws.{Way, inverse, over, round, up-circle, way}
 
 -- every node's least member is a fellow that leads itself, and no two leaders are fellows

@@ -1,6 +1,6 @@
 -- The parts of the test together are the model's `holds`.
-use mathlib.Core.Path.{_≡_, refl, sym, ap, ap₂, _∙_, subst}
-use mathlib.Core.Bool.{Bool, true, false, not, _&&_, _||_, cond, Bool·beq}
+use mathlib.Core.Path.{_≡_, refl, sym, ap, _∙_, subst}
+use mathlib.Core.Bool.{Bool, true, false, not, _&&_, _||_, cond}
 use mathlib.Core.List.{List}
 use mathlib.Core.Logic.{_⊎_, inl, inr, ⊎-elim}
 use Prim.Native.Nat.{ℕ, suc, zero, _+_, _*_, _/_, _%_, _^_, _≤_, _<_}
@@ -9,15 +9,15 @@ use lib.Dec.{eqb, leb, ltb}
 use lib.ListN.{length, getD}
 use lib.Seq.{ext-getD}
 use borrow.Author.Tests.{eqb-true, eqb-false, eq-eqb, ne-eqb, le-leb, leb-true, lt-ltb, ltb-true, not-true}
-use Rattle.model.specs.Lists.{all, nodes, sameList}
+use Rattle.model.specs.Lists.{nodes, sameList}
 use Rattle.model.specs.Graph.{Graph, Proper, maxNodes, nodeNumbers, rowWords}
-use Rattle.model.specs.Grouping.{cube, falseTwins, openKey, similar, sumCubes, trueTwins}
+use Rattle.model.specs.Grouping.{cube, falseTwins, openKey, similar, trueTwins}
 use Rattle.model.specs.Tables.{Tables, edgeBit, edgesOf, graphOf, holds, keysOf, nodeNumber, nodesOf, simple, tablesOf}
 use Rattle.model.specs.TestLaws.{and-fst, and-snd, and-true, decide, differ, eq-beq, iff-eq, or-cases, or-left, or-right}
 use Rattle.model.specs.ListLaws.{all-elim, all-intro, nodes-in, nodes-out, same-refl}
 use Rattle.model.specs.TwinLaws.{Simple, falseTwins-by, falseTwins-no-edge, similar-N, similar-N+, similar-cases, trueTwins-edge}
 use Rattle.model.specs.TableLaws.{edge-bit, held-proper, held-tables, length-keys, mark-at, proper-simple, simple-edge, simple-loop, simple-proper}
-use Rattle.rows.specs.Rows.{Words, lent}
+use Rattle.rows.specs.Rows.{Words}
 use Rattle.rows.specs.Search.{Ready, edgesIn, firstFrom, joins, meets, rowIn}
 use Rattle.rows.specs.EdgeLaws.{edges-by-bits}
 use Rattle.rows.specs.KeyLaws.{keyOf, keys-at}
@@ -55,7 +55,7 @@ module _ (n : ℕ) (t : Tables) (small : n ≤ maxNodes) (size : length (t .edge
     unfolding mirrored
     mirror-inside p q hp hq e = ltb-true q n (and-fst (ltb q n) _ (mirror p q hp hq e))
 
-    mirror-back : (p q : ℕ) → p < n → q < 512 → edgeBit (t .edges) p q ≡ true → edgeBit (t .edges) q p ≡ true
+    pub mirror-back : (p q : ℕ) → p < n → q < 512 → edgeBit (t .edges) p q ≡ true → edgeBit (t .edges) q p ≡ true
     unfolding mirrored
     mirror-back p q hp hq e = and-snd (not (eqb q p)) _ (and-snd (ltb q n) _ (mirror p q hp hq e))
 
@@ -272,7 +272,6 @@ module _ (n : ℕ) (table : List ℕ) where
     pub rings-by-tests : (p : ℕ) → p < n → Follows n table p
     unfolding nodeHolds follows
     rings-by-tests p hp =
-        let a = nodeNumber table p 2 in
         let h₀ = and-fst (follows n table p (nodeNumber table p 2)) _ (node p hp) in
         let h₁ = and-snd (ltb (nodeNumber table p 2) n) _ h₀ in
         let h₂ = and-snd (eqb (nodeNumber table (nodeNumber table p 2) 0) (nodeNumber table p 0)) _ h₁ in

@@ -1,6 +1,12 @@
 pub mod Checks
 pub mod Walk
 pub mod WalkLaws
+pub mod SlotLaws
+pub mod SumLaws
 pub mod StepLaws
 pub mod CertificateLaws
 pub mod HoldLaws
+pub mod Dense
+pub mod BlockLaws
+pub mod FourLaws
+pub mod DenseLaws

@@ -1,26 +1,26 @@
 -- What each step of the test tells.
 use mathlib.Core.Path.{_≡_, refl, sym, ap, _∙_}
 use mathlib.Core.Bool.{Bool, true, false, not, _&&_, _||_}
-use mathlib.Core.List.{List, [], _∷_}
+use mathlib.Core.List.{List}
 use mathlib.Core.Logic.{_⊎_, inl, inr}
-use Prim.Native.Nat.{ℕ, _+_, _*_, _-_, _/_, _%_, _^_, _≤_, _<_}
+use Prim.Native.Nat.{ℕ, _+_, _*_, _-_, _%_, _^_, _≤_, _<_}
 use native.Mathlib.Omega.{arith}
 use lib.Bits.{bitAnd, xor-self}
 use lib.Count.{trailingZeros}
-use lib.Dec.{eqb, leb, ltb}
+use lib.Dec.{eqb, ltb}
 use lib.ListN.{getD}
 use borrow.Author.Tests.{eqb-true, eqb-false, eq-eqb, ne-eqb, le-leb, lt-leb, le-ltb, lt-ltb, ltb-true, not-false, not-true}
-use Rattle.model.specs.Lists.{all, filter, nodes}
-use Rattle.model.specs.Grouping.{cube, openKey, sumCubes}
+use Rattle.model.specs.Lists.{all, nodes}
+use Rattle.model.specs.Grouping.{cube, openKey}
 use Rattle.model.specs.Tables.{edgeBit, nodeNumber}
 use Rattle.model.specs.TestLaws.{and-fst, decide, differ}
-use Rattle.model.specs.ListLaws.{all-elim, all-intro, nodes-ascending, nodes-in, nodes-out}
+use Rattle.model.specs.ListLaws.{all-elim, all-intro, nodes-in, nodes-out}
 use Rattle.rows.specs.Rows.{Words}
 use Rattle.rows.specs.Search.{edgesIn, firstFrom, joins, meets, ownBit, ownBits, rowIn}
-use Rattle.rows.specs.KeyLaws.{cubes-cong, cubes-set}
 use Rattle.rows.specs.SearchLaws.{meets-by}
 use Rattle.checks.specs.Walk.{ahead}
-use Rattle.checks.specs.WalkLaws.{ahead-end, ahead-gone, ahead-here, ahead-next, ahead-off, ahead-start, cleared-less, lowest-small}
+use Rattle.checks.specs.WalkLaws.{ahead-end, ahead-next, ahead-start}
+use Rattle.checks.specs.SumLaws.{Adding, adding-done, adding-less, adding-next, adding-off, adding-on, adding-place, adding-set, adding-start}
 use Rattle.checks.specs.Checks.{agrees, alone, bitHolds, follows, keysHold, mirrored, nodeHolds, rowHolds, twinOf}
 
 -- a loop over the nodes that is left at the first that fails
@@ -39,10 +39,6 @@ all-fail f n p l h = step (decide (all (nodes n) f))
     step : (all (nodes n) f ≡ true) ⊎ (all (nodes n) f ≡ false) → false ≡ all (nodes n) f
     step (inl t) = differ (all-elim (nodes n) f t p (nodes-in n p l)) h
     step (inr t) = sym t
-
-and-false : (a : Bool) {b : Bool} → b ≡ false → (a && b) ≡ false
-and-false true e = e
-and-false false e = refl
 
 -- a bit and its mirror
 module _ (n : ℕ) (edges : List ℕ) (p q : ℕ) where
@@ -68,65 +64,33 @@ module _ (keys : List ℕ) (p sum : ℕ) where
   unfolding agrees
   by-closed x r h e f = rw (eq-eqb (getD keys (2 * p) 0) sum h, f, e)
 
-no-cubes : (l : List ℕ) → sumCubes (filter (λ q. false) l) ≡ 0
-unfolding filter sumCubes
-no-cubes [] = refl
-no-cubes (x ∷ xs) = no-cubes xs
-
--- a walk over p's row: x is what is left of word w, sum the cubes so far
+-- a walk over p's row: the bits passed are mirrored
 pub record Walking (n : ℕ) (edges : List ℕ) (p w x sum : ℕ) : Type 0 where
-  pub small : x < 2 ^ 64
-  pub fits : sum < 2 ^ 32
-  pub set : (q : ℕ) → ahead edges p w x q ≡ true → edgeBit edges p q ≡ true
+  pub adding : Adding n edges p w x sum
   pub passed : (q : ℕ) → q < 512 → ahead edges p w x q ≡ false → bitHolds n edges p q ≡ true
-  pub total : (sum + sumCubes (filter (ahead edges p w x) (nodes n))) % 2 ^ 32 ≡ openKey (nodes n) (edgesIn n edges) p
 
 module _ {n : ℕ} {edges : List ℕ} {p : ℕ} where
   pub walk-start : p < n → Words edges → Walking n edges p 0 (getD edges (8 * p + 0) 0) 0
-  unfolding bitHolds openKey edgesIn
-  walk-start hp words =
-      record {
-        small = words (8 * p + 0);
-        fits = omega arith;
-        set = λ q h. sym (ahead-start edges p q) ∙ h;
-        passed = λ q l h. ap (λ (b : Bool). not b || mirrored n edges p q) (sym (ahead-start edges p q) ∙ h);
-        total = ap (λ (s : ℕ). s % 2 ^ 32) sums;
-      }
-    where
-      sums : 0 + sumCubes (filter (ahead edges p 0 (getD edges (8 * p + 0) 0)) (nodes n)) ≡ sumCubes (filter (λ q. ltb p n && (ltb q n && edgeBit edges p q)) (nodes n))
-      sums =
-          omega (arith, cubes-cong (nodes n) (ahead edges p 0 (getD edges (8 * p + 0) 0)) (λ q. ltb p n && (ltb q n && edgeBit edges p q)) (λ q m. rw (lt-ltb p n hp, lt-ltb q n (nodes-out n q m)) (ahead-start edges p q)))
+  unfolding bitHolds
+  walk-start hp words = record { adding = adding-start hp words; passed = λ q l h. ap (λ (b : Bool). not b || mirrored n edges p q) (sym (ahead-start edges p q) ∙ h) }
 
   module _ {w x sum : ℕ} (h : Walking n edges p w x sum) where
     -- a word of which nothing is left
     pub walk-next : x ≡ 0 → Words edges → Walking n edges p (w + 1) (getD edges (8 * p + (w + 1)) 0) sum
-    walk-next e words =
-        record {
-          small = words (8 * p + (w + 1));
-          fits = h .fits;
-          set = λ q t. h .set q (same q ∙ t);
-          passed = λ q l t. h .passed q l (same q ∙ t);
-          total = ap (λ (s : ℕ). (sum + s) % 2 ^ 32) (cubes-cong (nodes n) (ahead edges p (w + 1) (getD edges (8 * p + (w + 1)) 0)) (ahead edges p w x) (λ q m. sym (same q))) ∙ h .total;
-        }
-      where
-        same : (q : ℕ) → ahead edges p w x q ≡ ahead edges p (w + 1) (getD edges (8 * p + (w + 1)) 0) q
-        same q = ap (λ (y : ℕ). ahead edges p w y q) e ∙ ahead-next edges p w q
+    walk-next e words = record { adding = adding-next (h .adding) e words; passed = λ q l t. h .passed q l (ap (λ (y : ℕ). ahead edges p w y q) e ∙ ahead-next edges p w q ∙ t) }
 
     module _ (some : x ≡ 0 → ⊥) {t : ℕ} (lowest-is : t ≡ trailingZeros 64 x) where
       abbrev q : ℕ
       q = 64 * w + t
 
-      here : 64 * w + t ≡ 64 * w + trailingZeros 64 x
-      here = omega arith
-
       pub walk-place : w < 8 → 64 * w + t < 512
-      walk-place l = omega (arith, lowest-small x (h .small) some)
+      walk-place l = adding-place (h .adding) some lowest-is l
 
       is-set : edgeBit edges p (64 * w + t) ≡ true
-      is-set = h .set q (rw here (ahead-here edges p w x (h .small) some))
+      is-set = adding-set (h .adding) some lowest-is
 
       pub walk-less : bitAnd x (x - 1) < x
-      walk-less = cleared-less x (h .small) some
+      walk-less = adding-less (h .adding) some lowest-is
 
       -- a bit that is not mirrored
       pub walk-fails : (b : Bool) → w < 8 → b ≡ mirrored n edges p (64 * w + t) → not b ≡ true → (c : Bool) → false ≡ (rowHolds n edges p && c)
@@ -138,47 +102,22 @@ module _ {n : ℕ} {edges : List ℕ} {p : ℕ} where
       -- a bit that is
       pub walk-on : (b : Bool) {y r : ℕ} → b ≡ mirrored n edges p (64 * w + t) → not b ≡ false → y ≡ cube (64 * w + t) → r ≡ (sum + y) % 2 ^ 32 → Walking n edges p w (bitAnd x (x - 1)) r
       unfolding bitHolds mirrored
-      walk-on b {y} {r} e f ey er =
-          record {
-            small = omega (arith, walk-less, h .small);
-            fits = omega arith;
-            set = λ j t. h .set j (stays j t);
-            passed = λ j k t. over j k t (decide (eqb j q));
-            total = omega (arith, h .total, sums);
-          }
+      walk-on b {y} {r} e f ey er = record { adding = adding-on (h .adding) some lowest-is l ey er; passed = λ j k t. over j k t (decide (eqb j q)) }
         where
           l : q < n
           l = ltb-true q n (and-fst (ltb q n) _ (passed e f))
 
-          off : (j : ℕ) → (j ≡ q → ⊥) → ahead edges p w (bitAnd x (x - 1)) j ≡ ahead edges p w x j
-          off j d = ahead-off edges p w x (h .small) some j (λ z. d (z ∙ sym here))
-
-          gone : ahead edges p w (bitAnd x (x - 1)) q ≡ false
-          gone = rw here (ahead-gone edges p w x (h .small) some)
-
-          stays : (j : ℕ) → ahead edges p w (bitAnd x (x - 1)) j ≡ true → ahead edges p w x j ≡ true
-          stays j t = sym (off j (λ z. differ t (ap (ahead edges p w (bitAnd x (x - 1))) z ∙ gone))) ∙ t
-
           over : (j : ℕ) → j < 512 → ahead edges p w (bitAnd x (x - 1)) j ≡ false → (eqb j q ≡ true) ⊎ (eqb j q ≡ false) → (not (edgeBit edges p j) || mirrored n edges p j) ≡ true
           over j k t (inl z) = rw (eqb-true j q z, is-set) (passed e f)
-          over j k t (inr z) = h .passed j k (sym (off j (eqb-false j q z)) ∙ t)
-
-          sums : sumCubes (filter (ahead edges p w x) (nodes n)) ≡ cube q + sumCubes (filter (ahead edges p w (bitAnd x (x - 1))) (nodes n))
-          sums = cubes-set (nodes n) (nodes-ascending n) (ahead edges p w (bitAnd x (x - 1))) (ahead edges p w x) q (nodes-in n q l) gone (rw here (ahead-here edges p w x (h .small) some)) (λ j d. off j d)
+          over j k t (inr z) = h .passed j k (sym (adding-off (h .adding) some lowest-is j (eqb-false j q z)) ∙ t)
 
   -- after the last word
   pub walk-done : {x sum w : ℕ} → Walking n edges p w x sum → w ≡ 8 → (keys : List ℕ) (b : Bool) → b ≡ agrees keys p sum → n ≤ 512 → b ≡ (rowHolds n edges p && keysHold n edges keys p)
   unfolding rowHolds keysHold
-  walk-done {x} {sum} {w} h e keys b f l = f ∙ ap (agrees keys p) same ∙ ap (λ (t : Bool). t && agrees keys p (openKey (nodes n) (edgesIn n edges) p)) (all-pass (bitHolds n edges p) 512 512 (omega arith) (λ q k. h .passed q k (none q k)))
-    where
-      none : (q : ℕ) → q < 512 → ahead edges p w x q ≡ false
-      none q k = rw e (ahead-end edges p x q k)
-
-      empty : sumCubes (filter (ahead edges p w x) (nodes n)) ≡ 0
-      empty = cubes-cong (nodes n) (ahead edges p w x) (λ q. false) (λ q m. none q (omega (arith, nodes-out n q m))) ∙ no-cubes (nodes n)
-
-      same : sum ≡ openKey (nodes n) (edgesIn n edges) p
-      same = omega (arith, h .total, empty, h .fits)
+  walk-done {x} {sum} {w} h e keys b f l =
+      f
+      ∙ ap (agrees keys p) (adding-done (h .adding) e l)
+      ∙ ap (λ (t : Bool). t && agrees keys p (openKey (nodes n) (edgesIn n edges) p)) (all-pass (bitHolds n edges p) 512 512 (omega arith) (λ q k. h .passed q k (rw e (ahead-end edges p x q k))))
 
 -- a node and its leader
 module _ (edges table : List ℕ) (p l : ℕ) where

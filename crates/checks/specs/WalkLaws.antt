@@ -3,7 +3,7 @@ use mathlib.Core.Path.{_≡_, refl, sym, ap, ap₂, _∙_}
 use mathlib.Core.Bool.{Bool, true, false, not, cond, xor, _&&_}
 use mathlib.Core.List.{List}
 use mathlib.Core.Logic.{_⊎_, inl, inr}
-use Prim.Native.Nat.{ℕ, zero, suc, _+_, _*_, _-_, _/_, _%_, _^_, _≤_, _<_}
+use Prim.Native.Nat.{ℕ, zero, suc, _+_, _*_, _-_, _/_, _%_, _^_, _<_}
 use native.Mathlib.Nat.{add-mul, mul-assoc, mul-comm, one-mul, mod-self, pow-suc, zero-div}
 use native.Mathlib.Omega.{arith}
 use lib.Bits.{and-block, and-le-r, and-mask, and-self, bitAnd, bitXor, xor-shifted}
@@ -95,7 +95,7 @@ module _ (x : ℕ) (small : x < 2 ^ 64) (some : x ≡ 0 → ⊥) where
   pub cleared-off : (j : ℕ) → (j ≡ trailingZeros 64 x → ⊥) → bitAt (bitAnd x (x - 1)) j ≡ bitAt x j
   cleared-off j d = sym (bits j ∙ ap (λ (b : Bool). cond b (not (bitAt (bitAnd x (x - 1)) j)) (bitAt (bitAnd x (x - 1)) j)) (ne-eqb j t d))
 
-bit-zero : (j : ℕ) → bitAt 0 j ≡ false
+pub bit-zero : (j : ℕ) → bitAt 0 j ≡ false
 unfolding bitAt
 bit-zero j = ne-eqb (0 / 2 ^ j % 2) 1 (let z : 0 / 2 ^ j ≡ 0 = zero-div (2 ^ j) in omega arith)
 
@@ -142,9 +142,6 @@ module _ (edges : List ℕ) (p : ℕ) where
 
   -- the lowest bit of what is left is ahead, then no longer; the others stay as they are
   module _ (w x : ℕ) (small : x < 2 ^ 64) (some : x ≡ 0 → ⊥) where
-    abbrev at : ℕ
-    at = 64 * w + trailingZeros 64 x
-
     word-of : (64 * w + trailingZeros 64 x) / 64 ≡ w
     word-of = omega (arith, lowest-small x small some)
 

@@ -7,6 +7,7 @@ ghost use Rattle.model.specs.Graph.{maxNodes, rowWords, nodeNumbers};
 ghost use Rattle.model.specs.Tables.{holds};
 ghost use Rattle.rows.specs.Rows.{lent};
 ghost use Rattle.rows.specs.Search.{Ready};
+ghost use Rattle.checks.specs.SlotLaws.{Marked, Seen, slotOf};
 ghost use Rattle.checks.specs.Checks.{
   agrees,
   alone,
@@ -21,16 +22,15 @@ ghost use Rattle.checks.specs.Checks.{
   twinOf,
   twinsHold,
 };
+
+mod dense;
+
+use groups::LEAST;
+use groups::MARK;
+use groups::NEXT;
+use groups::PREVIOUS;
 use groups::number;
 use rows::Graph;
-
-const LEAST: usize = 0;
-
-const NEXT: usize = 1;
-
-const PREVIOUS: usize = 2;
-
-const MARK: usize = 3;
 
 // Whether q is another node, with p's bit in its row.
 fn is_mirrored(edges: &[u64], n: usize, p: usize, q: usize) -> bool
@@ -80,8 +80,8 @@ fn row_holds(edges: &[u64], keys: &[u32], n: usize, p: usize) -> bool
     keys_agree(keys, p, sum)
 }
 
-// Whether edges and keys are those of a graph.
-fn rows_hold(edges: &[u64], keys: &[u32], n: usize) -> bool
+// Whether edges and keys are those of a graph, bit by bit.
+fn sparse_rows_hold(edges: &[u64], keys: &[u32], n: usize) -> bool
     requires { ⌜ (n ≤ maxNodes) × (length (now edges) ≡ rowWords * n) × (length (now keys) ≡ 2 * n) ⌝ }
     ensures { λ r. ⌜ r ≡ rowsHold n (now (edges .entry)) (now (keys .entry)) ⌝ }
 {
@@ -91,6 +91,37 @@ fn rows_hold(edges: &[u64], keys: &[u32], n: usize) -> bool
         }
     }
     true
+}
+
+// How many bits of a word are set.
+fn ones_of(x: u64) -> usize
+    ensures { λ r. ⌜ r ≤ 64 ⌝ }
+{
+    u64::count_ones(x) as usize
+}
+
+// Whether a sample of the edges has so many bits that a walk over all of them would take long. Either answer is right.
+fn has_many_bits(edges: &[u64]) -> bool
+    requires { ⌜ length (now edges) ≤ rowWords * maxNodes ⌝ }
+{
+    let mut bits = 0;
+    let mut i = 0;
+    while i < edges.len() {
+        bits += ones_of(edges[i]);
+        i += 37;
+    }
+    bits > 1000
+}
+
+// Whether edges and keys are those of a graph.
+fn rows_hold(edges: &[u64], keys: &[u32], n: usize) -> bool
+    requires { ⌜ (n ≤ maxNodes) × (length (now edges) ≡ rowWords * n) × (length (now keys) ≡ 2 * n) ⌝ }
+    ensures { λ r. ⌜ r ≡ rowsHold n (now (edges .entry)) (now (keys .entry)) ⌝ }
+{
+    if has_many_bits(edges) {
+        return dense::rows_hold(edges, keys, n);
+    }
+    sparse_rows_hold(edges, keys, n)
 }
 
 // Whether l leads the group of p and p's row is that of a twin of l.
@@ -124,13 +155,50 @@ fn twins_hold(edges: &[u64], nodes: &[u16], n: usize) -> bool
     true
 }
 
-// Whether u leads no group, or no leader below it is similar to it.
-fn is_alone(edges: &[u64], nodes: &[u16], keys: &[u32], n: usize, u: usize) -> bool
+fn wide_byte(x: u8) -> usize
+    ensures { λ r. ⌜ r ≡ x ⌝ }
+{
+    x as usize
+}
+
+// The slot of a key among the keys seen.
+fn slot(key: u32) -> usize
+    ensures { λ r. ⌜ r ≡ slotOf key ⌝ }
+{
+    (key % 8191) as usize
+}
+
+// Whether the slots of both keys of u were free; now they are taken.
+fn are_new(keys: &[u32], u: usize, opens: &mut [u8], closeds: &mut [u8]) -> bool
+    requires { ⌜ (u < maxNodes) × (2 * u + 2 ≤ length (now keys)) × (length (now opens) ≡ 8192) × (length (now closeds) ≡ 8192) ⌝ }
+    ensures { λ r. ⌜ Marked (now (keys .entry)) u (now (opens .entry)) (now (closeds .entry)) (now (opens .exit)) (now (closeds .exit)) r ⌝ }
+{
+    let a = slot(keys[2 * u]);
+    let b = slot(keys[2 * u + 1]);
+    let taken = wide_byte(opens[a]) + wide_byte(closeds[b]);
+    opens[a] = 1;
+    closeds[b] = 1;
+    taken == 0
+}
+
+// Whether u leads no group, or no leader below it is similar to it: none can be where none has an equal key.
+fn is_alone(
+    edges: &[u64],
+    nodes: &[u16],
+    keys: &[u32],
+    n: usize,
+    u: usize,
+    opens: &mut [u8],
+    closeds: &mut [u8],
+) -> bool
     requires { ⌜ Ready n (now edges) (now keys) ⌝ }
-    requires { ⌜ (length (now nodes) ≡ nodeNumbers * n) × (u < n) ⌝ }
-    ensures { λ r. ⌜ r ≡ alone n (now (edges .entry)) (now (nodes .entry)) u ⌝ }
+    requires { ⌜ (length (now nodes) ≡ nodeNumbers * n) × (u < n) × Seen (now nodes) (now keys) u (now opens) (now closeds) ⌝ }
+    ensures { λ r. ⌜ (r ≡ alone n (now (edges .entry)) (now (nodes .entry)) u) × Seen (now (nodes .entry)) (now (keys .entry)) (u + 1) (now (opens .exit)) (now (closeds .exit)) ⌝ }
 {
     if number(nodes, u, LEAST) != u {
+        return true;
+    }
+    if are_new(keys, u, opens, closeds) {
         return true;
     }
     rows::find_group(edges, nodes, keys, n, u, u, u) == u
@@ -142,8 +210,10 @@ fn leaders_apart(edges: &[u64], nodes: &[u16], keys: &[u32], n: usize) -> bool
     requires { ⌜ length (now nodes) ≡ nodeNumbers * n ⌝ }
     ensures { λ r. ⌜ r ≡ leadersApart n (now (edges .entry)) (now (nodes .entry)) ⌝ }
 {
+    let mut opens = [0u8; 8192];
+    let mut closeds = [0u8; 8192];
     for u in 0..n {
-        if !is_alone(edges, nodes, keys, n, u) {
+        if !is_alone(edges, nodes, keys, n, u, &mut opens, &mut closeds) {
             return false;
         }
     }

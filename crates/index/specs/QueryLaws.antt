@@ -63,7 +63,7 @@ collect-room P n p {s₀} {s} {k} l room h t =
     omega (arith, l .ends)
 
 -- a scan from the start is a choice among the nodes
-scan-nodes : (P : ℕ → Bool) (n : ℕ) → scan P n 0 ≡ filter P (nodes n)
+pub scan-nodes : (P : ℕ → Bool) (n : ℕ) → scan P n 0 ≡ filter P (nodes n)
 unfolding scan nodes
 scan-nodes P n = let e : n - 0 ≡ n = omega arith in ap (λ (k : ℕ). filter P (from 0 k)) e
 

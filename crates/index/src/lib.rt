@@ -10,11 +10,11 @@ use rows::Graph;
 
 mod batch;
 mod opening;
-mod queries;
+pub mod queries;
 mod updating;
 
 // Whether n and the lengths of the tables are right (else 11).
-fn right_size(n: usize, edges: &[u64], nodes: &[u16], keys: &[u32]) -> bool
+pub fn right_size(n: usize, edges: &[u64], nodes: &[u16], keys: &[u32]) -> bool
     ensures { λ r. ⌜ r ≡ not (wrongSize n (lengths (lent (now (edges .entry)) (now (nodes .entry)) (now (keys .entry))))) ⌝ }
 {
     Graph::empty(n).fits(edges, nodes, keys)

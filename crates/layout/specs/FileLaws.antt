@@ -2,7 +2,7 @@
 use mathlib.Core.Path.{_≡_, refl, sym, ap, _∙_}
 use mathlib.Core.Bool.{Bool, true, false, cond}
 use mathlib.Core.List.{List, [], _∷_, _++_, append-assoc}
-use Prim.Native.Nat.{ℕ, suc, zero, _+_, _*_, _-_, _/_, _%_, _≤_, _<_}
+use Prim.Native.Nat.{ℕ, suc, zero, _+_, _*_, _/_, _%_, _≤_, _<_}
 use native.Mathlib.Omega.{arith}
 use native.Mathlib.Numerals.{add-one}
 use lib.Dec.{ltb}
@@ -126,14 +126,17 @@ unfolding groupBytes u16
 length-group e g = omega (arith, length-members g)
 
 -- the members first, then the mark, then the count between them
-pub wrote-group : (e : ℕ → ℕ → Bool) (g : List ℕ) {s : List ℕ} {at : ℕ} {s₁ : List ℕ} {to : ℕ} {c : Bool} {s₂ : List ℕ} {a : ℕ} {s₃ : List ℕ} {b : ℕ}
-    → Wrote s (at + 4) (u16s g) s₁ to → c ≡ firstTwo e g → Wrote s₁ at (groupMark c) s₂ a → Wrote s₂ a (u16 ((to - at - 4) / 2)) s₃ b → Wrote s at (groupBytes e g) s₃ to
+pub wrote-group : (e : ℕ → ℕ → Bool) (g : List ℕ) {s : List ℕ} {at : ℕ} {s₁ : List ℕ} {to : ℕ} {c : Bool} {s₂ : List ℕ} {a k : ℕ} {s₃ : List ℕ} {b : ℕ}
+    → Wrote s (at + 4) (u16s g) s₁ to → c ≡ firstTwo e g → Wrote s₁ at (groupMark c) s₂ a → k ≡ length g → Wrote s₂ a (u16 k) s₃ b → Wrote s at (groupBytes e g) s₃ to
 unfolding groupBytes
-wrote-group e g {s} {at} {s₁} {to} {c} {s₂} {a} {s₃} {b} m q h k =
-    let len : (to - at - 4) / 2 ≡ length g = omega (arith, m .place, length-members g) in
-    let two : Wrote s₁ at (groupMark c ++ u16 ((to - at - 4) / 2)) s₃ b = wrote-then h k in
-    let there : b ≡ at + 4 = omega (arith, k .place, h .place, length-u16 ((to - at - 4) / 2)) in
-    rw (← q, ← len) (rw (append-assoc (groupMark c) (u16 ((to - at - 4) / 2)) (u16s g)) at (wrote-before m (rw there at two)))
+wrote-group e g {s} {at} {s₁} {to} {c} {s₂} {a} {k} {s₃} {b} m q h count w =
+    let two : Wrote s₁ at (groupMark c ++ u16 k) s₃ b = wrote-then h w in
+    let there : b ≡ at + 4 = omega (arith, w .place, h .place, length-u16 k) in
+    rw (← q, ← count) (rw (append-assoc (groupMark c) (u16 k) (u16s g)) at (wrote-before m (rw there at two)))
+
+-- where the members end
+pub members-end : (g : List ℕ) (at : ℕ) {s t : List ℕ} {to : ℕ} → Wrote s (at + 4) (u16s g) t to → to ≡ at + 4 + 2 * length g
+members-end g at w = omega (arith, w .place, length-members g)
 
 -- tests of the code
 pub inGroup-yes : (least : List ℕ) (n p w : ℕ) → w ≡ getD least p 0 → w < n → inGroup least n p ≡ true
@@ -170,8 +173,8 @@ room-mark e g at h w = omega (arith, length-group e g, wrote-length w)
 pub room-count : (e : ℕ → ℕ → Bool) (g : List ℕ) {at : ℕ} {s : List ℕ} {x : ℕ} {bs t : List ℕ} {y : ℕ} (c : Bool) {u : List ℕ} {a : ℕ} → at + length (groupBytes e g) ≤ length s → Wrote s x bs t y → Wrote t at (groupMark c) u a → a + 2 ≤ length u
 room-count e g c h w v = omega (arith, length-group e g, wrote-length w, wrote-length v, v .place)
 
-pub count-fits : (next : List ℕ) (n l at : ℕ) {s : List ℕ} {t : List ℕ} {to : ℕ} → n ≤ 512 → Wrote s (at + 4) (u16s (chain n next n l)) t to → (to - at - 4) / 2 < 65536
-count-fits next n l at h w = omega (arith, w .place, length-members (chain n next n l), chain-length n next n l)
+pub members-few : (next : List ℕ) (n l at : ℕ) {s : List ℕ} {t : List ℕ} {to : ℕ} → n ≤ 512 → Wrote s (at + 4) (u16s (chain n next n l)) t to → to ≤ at + 1028
+members-few next n l at h w = omega (arith, members-end (chain n next n l) at w, chain-length n next n l)
 
 pub later-small : (e : ℕ → ℕ → Bool) (ls : List ℕ) (i : ℕ) {k : ℕ} → length ls ≤ 512 → k ≡ length (later e ls i) → k ≤ 512
 later-small e ls i h q = omega (arith, later-length e ls i)

@@ -9,6 +9,8 @@ use Rattle.model.specs.Grouping.{least, similar}
 use Rattle.model.specs.Tables.{edgeBit}
 use Rattle.model.specs.Release.{isVisible, visible, visibleEdge}
 
+-- lst has the least member of each visible node's group, worked out on the visible part, and a number n or above for a hidden node;
+-- of the edges only the bits between visible nodes are read, so the whole graph's table will do
 pub record Truth (g : Graph) (lst edges : List ℕ) : Type 0 where
   pub proper : Proper g
   pub size : g .nodeCount ≤ length lst

@@ -155,7 +155,7 @@ and-bits zero (suc (suc y)) hx hy = absurd (omega arith)
 and-bits (suc zero) (suc (suc y)) hx hy = absurd (omega arith)
 and-bits (suc (suc x)) y hx hy = absurd (omega arith)
 
-bit-and : (a b k : ℕ) → bitAt (bitAnd a b) k ≡ (bitAt a k && bitAt b k)
+pub bit-and : (a b k : ℕ) → bitAt (bitAnd a b) k ≡ (bitAt a k && bitAt b k)
 unfolding bitAt
 bit-and a b k =
     let e : bitAnd (a / 2 ^ k) (b / 2 ^ k) % 2 ≡ min (a / 2 ^ k % 2) (b / 2 ^ k % 2) = omega (arith, and-step (a / 2 ^ k) (b / 2 ^ k)) in
@@ -342,26 +342,26 @@ module _ (position : List ℕ) (i b x : ℕ) where
     pub word-more : {s₀ : List ℕ} {at₀ : ℕ} {all s : List ℕ} {to : ℕ} {t : List ℕ} {next : ℕ} → Left s₀ at₀ all s to (superedgesTo i (positionsOf position b x)) → Wrote s to (superedgeRecord (i, getD position (b + z) 0)) t next → Left s₀ at₀ all t next (superedgesTo i (positionsOf position b (bitAnd x (x - 1))))
     word-more l v = left-step l v word-one
 
-    pub word-within : z < 64
-    word-within = omega (arith, lowest 64 x pos fits .0)
+pub word-within : (x z : ℕ) → 0 < x → x < 2 ^ 64 → z ≡ trailingZeros 64 x → z < 64
+word-within x z pos fits low = omega (arith, lowest 64 x pos fits .0)
 
-    pub word-less : bitAnd x (x - 1) < x
-    word-less = omega (arith, and-le-r x (x - 1))
+pub word-less : (x : ℕ) → 0 < x → bitAnd x (x - 1) < x
+word-less x pos = omega (arith, and-le-r x (x - 1))
 
--- the set of leaders while it is made: those below p
-pub record Marking (least set : List ℕ) (p : ℕ) : Type 0 where
+-- a set of bits while it is made: the nodes below p that P chooses
+pub record Marking (P : ℕ → Bool) (set : List ℕ) (p : ℕ) : Type 0 where
   pub size : length set ≡ 8
   pub words : (i : ℕ) → getD set i 0 < 2 ^ 64
-  pub bits : (q : ℕ) → q < 512 → edgeBit set 0 q ≡ (ltb q p && leads least q)
+  pub bits : (q : ℕ) → q < 512 → edgeBit set 0 q ≡ (ltb q p && P q)
 
 getD-zeros : (k i : ℕ) → _≡_ {A = ℕ} (getD (replicate k 0) i 0) 0
 getD-zeros zero i = refl
 getD-zeros (suc k) zero = refl
 getD-zeros (suc k) (suc i) = getD-zeros k i
 
-pub marking-start : (least : List ℕ) → Marking least (replicate 8 0) 0
+pub marking-start : (P : ℕ → Bool) → Marking P (replicate 8 0) 0
 unfolding edgeBit bitAt
-marking-start least = record {
+marking-start P = record {
   size = refl;
   words = λ i. rw (getD-zeros 8 i) (omega arith);
   bits = λ q h. rw (getD-zeros 8 (8 * 0 + q / 64), zero-div (2 ^ (q % 64)), le-ltb q 0 (omega arith));
@@ -371,28 +371,28 @@ below-more : (q p : ℕ) → (q ≡ p → ⊥) → ltb q (p + 1) ≡ ltb q p
 below-more q p h = iff-eq (ltb q (p + 1)) (ltb q p) (λ t. lt-ltb q p (omega (arith, ltb-true q (p + 1) t))) (λ t. lt-ltb q (p + 1) (omega (arith, ltb-true q p t)))
 
 -- p's bit was false, and is flipped
-pub marking-yes : {least set after : List ℕ} {p : ℕ} → Marking least set p → leads least p ≡ true → length after ≡ length set → (((i : ℕ) → getD set i 0 < 2 ^ 64) → (i : ℕ) → getD after i 0 < 2 ^ 64)
-    → ((a b : ℕ) → b < 512 → edgeBit after a b ≡ cond (eqb a 0 && eqb b p) (not (edgeBit set a b)) (edgeBit set a b)) → Marking least after (p + 1)
-marking-yes {least} {set} {after} {p} m y s w f = record { size = s ∙ m .size; words = w (m .words); bits = λ q h. f 0 q h ∙ step q h (decide (eqb q p)) }
+pub marking-yes : {P : ℕ → Bool} {set after : List ℕ} {p : ℕ} → Marking P set p → P p ≡ true → length after ≡ length set → (((i : ℕ) → getD set i 0 < 2 ^ 64) → (i : ℕ) → getD after i 0 < 2 ^ 64)
+    → ((a b : ℕ) → b < 512 → edgeBit after a b ≡ cond (eqb a 0 && eqb b p) (not (edgeBit set a b)) (edgeBit set a b)) → Marking P after (p + 1)
+marking-yes {P} {set} {after} {p} m y s w f = record { size = s ∙ m .size; words = w (m .words); bits = λ q h. f 0 q h ∙ step q h (decide (eqb q p)) }
   where
-    step : (q : ℕ) → q < 512 → (eqb q p ≡ true) ⊎ (eqb q p ≡ false) → cond (eqb q p) (not (edgeBit set 0 q)) (edgeBit set 0 q) ≡ (ltb q (p + 1) && leads least q)
+    step : (q : ℕ) → q < 512 → (eqb q p ≡ true) ⊎ (eqb q p ≡ false) → cond (eqb q p) (not (edgeBit set 0 q)) (edgeBit set 0 q) ≡ (ltb q (p + 1) && P q)
     step q h (inl t) =
         let e : q ≡ p = eqb-true q p t in
-        rw (t, m .bits q h, le-ltb q p (omega arith), lt-ltb q (p + 1) (omega arith)) (sym (ap (leads least) e ∙ y))
+        rw (t, m .bits q h, le-ltb q p (omega arith), lt-ltb q (p + 1) (omega arith)) (sym (ap P e ∙ y))
     step q h (inr t) = rw (t, m .bits q h, below-more q p (eqb-false q p t))
 
-pub marking-no : {least set : List ℕ} {p : ℕ} → Marking least set p → leads least p ≡ false → Marking least set (p + 1)
-marking-no {least} {set} {p} m y = record { size = m .size; words = m .words; bits = λ q h. m .bits q h ∙ step q (decide (eqb q p)) }
+pub marking-no : {P : ℕ → Bool} {set : List ℕ} {p : ℕ} → Marking P set p → P p ≡ false → Marking P set (p + 1)
+marking-no {P} {set} {p} m y = record { size = m .size; words = m .words; bits = λ q h. m .bits q h ∙ step q (decide (eqb q p)) }
   where
-    step : (q : ℕ) → (eqb q p ≡ true) ⊎ (eqb q p ≡ false) → (ltb q p && leads least q) ≡ (ltb q (p + 1) && leads least q)
+    step : (q : ℕ) → (eqb q p ≡ true) ⊎ (eqb q p ≡ false) → (ltb q p && P q) ≡ (ltb q (p + 1) && P q)
     step q (inl t) =
-        let e : leads least q ≡ false = ap (leads least) (eqb-true q p t) ∙ y in
+        let e : P q ≡ false = ap P (eqb-true q p t) ∙ y in
         rw (e, and-false (ltb q p), and-false (ltb q (p + 1)))
     step q (inr t) = rw (below-more q p (eqb-false q p t))
 
-pub marking-done : {least set : List ℕ} {n p : ℕ} → Marking least set p → p ≡ n → n ≤ 512 → Marked (leadersOf n least) set
+pub marking-done : (least : List ℕ) {set : List ℕ} {n p : ℕ} → Marking (leads least) set p → p ≡ n → n ≤ 512 → Marked (leadersOf n least) set
 unfolding leadersOf
-marking-done {least} {set} {n} {p} m e small = record { size = m .size; words = m .words; list = sym (scan-cut (edgeBit set 0) n 512 small after 0 (omega arith) ∙ scan-cong (edgeBit set 0) (leads least) n 0 before) }
+marking-done least {set} {n} {p} m e small = record { size = m .size; words = m .words; list = sym (scan-cut (edgeBit set 0) n 512 small after 0 (omega arith) ∙ scan-cong (edgeBit set 0) (leads least) n 0 before) }
   where
     after : (q : ℕ) → n ≤ q → q < 512 → edgeBit set 0 q ≡ false
     after q a b = m .bits q b ∙ rw (le-ltb q p (omega arith))

@@ -26,7 +26,7 @@ u16At-u16 : (x : ℕ) (r : List ℕ) → u16At (u16 x ++ r) 0 ≡ x
 unfolding u16At u16
 u16At-u16 x r = omega arith
 
-u16s-back : (l r : List ℕ) → u16s (length l) (concat (map u16 l) ++ r) ≡ l
+pub u16s-back : (l r : List ℕ) → u16s (length l) (concat (map u16 l) ++ r) ≡ l
 unfolding u16s concat u16At u16
 u16s-back [] r = refl
 u16s-back (x ∷ xs) r = ap₂ _∷_ (omega arith) (u16s-back xs r)
@@ -45,11 +45,11 @@ module _ (e : ℕ → ℕ → Bool) where
   mark-back clique = refl
 
   -- one group record, before whatever follows
-  count-back : (g r : List ℕ) → u16At (groupRecord e g ++ r) 2 ≡ length g
+  pub count-back : (g r : List ℕ) → u16At (groupRecord e g ++ r) 2 ≡ length g
   unfolding groupRecord u16At u16
   count-back g r = omega arith
 
-  body : (g r : List ℕ) → drop 4 (groupRecord e g ++ r) ≡ concat (map u16 g) ++ r
+  pub body : (g r : List ℕ) → drop 4 (groupRecord e g ++ r) ≡ concat (map u16 g) ++ r
   unfolding groupRecord u16
   body g r = refl
 
@@ -57,10 +57,10 @@ module _ (e : ℕ → ℕ → Bool) where
   unfolding groupRecord
   first g r = mark-back (kindOf e g)
 
-  next : (g r : List ℕ) → drop (2 * u16At (groupRecord e g ++ r) 2) (drop 4 (groupRecord e g ++ r)) ≡ r
+  pub next : (g r : List ℕ) → drop (2 * u16At (groupRecord e g ++ r) 2) (drop 4 (groupRecord e g ++ r)) ≡ r
   next g r = rw (count-back g r, body g r) (u16s-rest g r)
 
-  groups-back : (gs : List (List ℕ)) (r : List ℕ) → groupsAt (length gs) (concat (map (groupRecord e) gs) ++ r) ≡ map marked gs
+  pub groups-back : (gs : List (List ℕ)) (r : List ℕ) → groupsAt (length gs) (concat (map (groupRecord e) gs) ++ r) ≡ map marked gs
   unfolding groupsAt concat
   groups-back [] r = refl
   groups-back (g ∷ gs) r =
@@ -72,14 +72,14 @@ module _ (e : ℕ → ℕ → Bool) where
       rest : List ℕ
       rest = concat (map (groupRecord e) gs) ++ r
 
-  groups-after : (gs : List (List ℕ)) (r : List ℕ) → afterGroups (length gs) (concat (map (groupRecord e) gs) ++ r) ≡ r
+  pub groups-after : (gs : List (List ℕ)) (r : List ℕ) → afterGroups (length gs) (concat (map (groupRecord e) gs) ++ r) ≡ r
   unfolding afterGroups concat
   groups-after [] r = refl
   groups-after (g ∷ gs) r =
       rw (append-assoc (groupRecord e g) (concat (map (groupRecord e) gs)) r)
       (ap (afterGroups (length gs)) (next g (concat (map (groupRecord e) gs) ++ r)) ∙ groups-after gs r)
 
-superedges-back : (js : List (ℕ × ℕ)) (k : ℕ) → length js ≤ k → superedgesAt k (concat (map superedgeRecord js) ++ endRecord) ≡ js
+pub superedges-back : (js : List (ℕ × ℕ)) (k : ℕ) → length js ≤ k → superedgesAt k (concat (map superedgeRecord js) ++ endRecord) ≡ js
 unfolding superedgesAt concat superedgeRecord endRecord u16At u16
 superedges-back [] zero h = refl
 superedges-back [] (suc k) h = refl

@@ -221,7 +221,7 @@ fn count_superedges_of(edges: &[u64], leaders: &[u16], set: &[u64; 8], i: usize)
 {
     let p = wide(leaders[i]);
     let mut count: usize = 0;
-    let mut q = p + 1;
+    let mut q: usize = p + 1;
     while q < 512 {
         let w = rows::word_of(q);
         let x = later_word(edges, set, p, q);

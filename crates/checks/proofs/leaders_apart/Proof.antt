@@ -1,30 +1,40 @@
--- The invariant: the nodes before u pass.
-use mathlib.Core.Path.{_≡_}
+-- The invariant: the nodes before u pass, and the slots of the keys of leaders among them are taken.
+use mathlib.Core.Path.{_≡_, sym}
 use mathlib.Core.Bool.{true}
 use Prim.Native.Nat.{ℕ, _-_, _≤_, _<_}
 use native.Mathlib.Omega.{arith}
+use lib.ListN.{length-replicate}
 use borrow.Author.Count.{below-more, below-none}
-use borrow.Author.Needs.{needs}
 use Rattle.checks.specs.Checks.{alone, leadersApart}
+use Rattle.checks.specs.SlotLaws.{Seen, seen-none}
 use Rattle.checks.specs.StepLaws.{all-fail, all-pass, failed, passed}
 use Rattle.checks.proofs.leaders_apart.Statement.{statement}
 use Rattle.checks.proofs.leaders_apart.Tie as tie
 
 abbrev Inv-loop : tie.InvT-loop
-Inv-loop edges nodes keys n u₀ u = (u ≤ n) × ((k : ℕ) → k < u → alone n edges nodes k ≡ true)
+Inv-loop edges nodes keys n opens₀ closeds₀ u₀ opens closeds u = (u ≤ n) × ((k : ℕ) → k < u → alone n edges nodes k ≡ true) × Seen nodes keys u opens closeds
 
 abbrev μ-loop : tie.MeasureT-loop
-μ-loop edges nodes keys n u₀ u = n - u
+μ-loop edges nodes keys n opens₀ closeds₀ u₀ opens closeds u = n - u
 
 loop-holds : tie.Need-loop-holds Inv-loop μ-loop
-loop-holds c = (omega arith, below-none _)
+loop-holds c = (omega arith, below-none _, seen-none (length-replicate {A = ℕ} 8192 0) (length-replicate {A = ℕ} 8192 0))
+
+slice-aggregate-is-alone : tie.Need-slice-aggregate-is-alone Inv-loop μ-loop
+slice-aggregate-is-alone c = sym (c .before .before .loop .inv .2 .open-size)
+
+slice-aggregate-is-alone-2 : tie.Need-slice-aggregate-is-alone-2 Inv-loop μ-loop
+slice-aggregate-is-alone-2 c = sym (c .before .before .before .loop .inv .2 .closed-size)
 
 is-alone-requires : tie.Need-is-alone-requires Inv-loop μ-loop
-is-alone-requires c κs = search needs
+is-alone-requires c κs =
+    let l = c .before .before .before in
+    let pre = l .before .before .before .before .pre in
+    (pre .0, (pre .1, omega arith, l .loop .inv .2))
 
 returns : tie.Need-returns Inv-loop μ-loop
 unfolding leadersApart
-returns c = all-fail _ _ _ (omega arith) (failed (c .before .is-alone .ensures) (c .if1 .taken))
+returns c = all-fail _ _ _ (omega arith) (failed (c .before .before .before .is-alone .ensures .0) (c .if1 .taken))
 
 add-u : tie.Need-add-u Inv-loop μ-loop
 add-u c = omega arith
@@ -33,7 +43,10 @@ loop-less : tie.Need-loop-less Inv-loop μ-loop
 loop-less c = omega arith
 
 loop-again : tie.Need-loop-again Inv-loop μ-loop
-loop-again c = (omega arith, below-more _ _ (c .before .before .before .loop .inv .1) (passed (c .before .is-alone .ensures) (c .if1 .left)))
+loop-again c =
+    let a = c .before .before .before in
+    let l = a .before .before .before .before in
+    (omega arith, below-more _ _ (l .loop .inv .1) (passed (a .is-alone .ensures .0) (c .if1 .left)), a .is-alone .ensures .1)
 
 returns-2 : tie.Need-returns-2 Inv-loop μ-loop
 unfolding leadersApart
@@ -46,6 +59,8 @@ leaders-apart-spec =
     Inv-loop
     μ-loop
     loop-holds
+    slice-aggregate-is-alone
+    slice-aggregate-is-alone-2
     is-alone-requires
     returns
     add-u

@@ -4,13 +4,14 @@ use Prim.Native.Nat.{_-_, _≤_}
 use native.Mathlib.Omega.{arith}
 use borrow.Author.Needs.{needs}
 use Rattle.rows.specs.BitLaws.{flipped-at}
+use Rattle.layout.specs.File.{leads}
 use Rattle.layout.specs.FileLaws.{leads-no, leads-yes}
 use Rattle.layout.specs.WordLaws.{Marking, marking-done, marking-no, marking-start, marking-yes}
 use Rattle.writer.proofs.leader_set.Statement.{statement}
 use Rattle.writer.proofs.leader_set.Tie as tie
 
 abbrev Inv-loop : tie.InvT-loop
-Inv-loop least n set₀ p₀ set p = (p ≤ n) × Marking least set p
+Inv-loop least n set₀ p₀ set p = (p ≤ n) × Marking (leads least) set p
 
 abbrev μ-loop : tie.MeasureT-loop
 μ-loop least n set₀ p₀ set p = n - p
@@ -55,7 +56,7 @@ loop-again : tie.Need-loop-again Inv-loop μ-loop
 loop-again c = ⊎-elim (λ w. (omega arith, let f = flipped-at _ 0 _ _ _ (omega arith) (omega (arith, c .before .before .before .before .loop .inv .1 .size)) (omega (arith, w .1 .ensures)) (w .2 .ensures) in rw (w .3) (marking-yes (c .before .before .before .before .loop .inv .1) (leads-yes _ _ _ (c .before .wide .ensures) (w .0 .taken)) (f .size) (f .words) (f .bits)))) (λ w. (omega arith, rw (w .1) (marking-no (c .before .before .before .before .loop .inv .1) (leads-no _ _ _ (c .before .wide .ensures) (w .0 .left))))) (c .if1 .came)
 
 returns : tie.Need-returns Inv-loop μ-loop
-returns c = marking-done (c .before .loop .inv .1) (omega (arith, c .before .loop .inv .0)) (c .before .before .before .pre .0)
+returns c = marking-done _ (c .before .loop .inv .1) (omega (arith, c .before .loop .inv .0)) (c .before .before .before .pre .0)
 
 pub leader-set-spec : {M : Type 1} → statement M
 leader-set-spec =

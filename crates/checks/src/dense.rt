@@ -1,0 +1,249 @@
+// Rows with many bits: symmetry by blocks of 64 rows and 64 columns, keys by sums over four bits at a time.
+ghost use mathlib.Core.Path.{_≡_};
+ghost use mathlib.Core.Bool.{true, cond, _&&_, _||_};
+ghost use Prim.Native.Nat.{ℕ, _+_, _*_, _/_, _%_, _^_, _≤_, _<_};
+ghost use lib.Dec.{ltb};
+ghost use lib.ListN.{length, getD};
+ghost use Rattle.model.specs.Graph.{maxNodes, rowWords};
+ghost use Rattle.model.specs.Tables.{bitAt};
+ghost use Rattle.checks.specs.Checks.{keysHold, rowHolds, rowsHold};
+ghost use Rattle.checks.specs.Dense.{
+  Across,
+  Filled,
+  Loaded,
+  Masks,
+  RowSwapped,
+  Staging,
+  Transposed,
+  blockEven,
+  even,
+  fourCubes,
+  rowCubes,
+  wordCubes,
+};
+use rows::Graph;
+
+// The bits of z where the mask has ones, those of x elsewhere.
+fn blend(x: u64, z: u64, mask: u64) -> u64
+    ensures { λ r. ⌜ ((c : ℕ) → bitAt r c ≡ cond (bitAt mask c) (bitAt z c) (bitAt x c)) ⌝ }
+{
+    x ^ ((x ^ z) & mask)
+}
+
+// Row r of a block with digit k of row and column exchanged.
+fn swapped_row(a: &[u64], k: usize, j: usize, high: u64, low: u64, r: usize) -> u64
+    requires { ⌜ (length (now a) ≡ 64) × (k < 6) × (j ≡ 2 ^ k) × Masks k high low × (r < 64) ⌝ }
+    ensures { λ x. ⌜ RowSwapped k (now (a .entry)) r x ⌝ }
+{
+    if (r >> k) % 2 == 0 {
+        return blend(a[r], a[r + j] << j, high);
+    }
+    blend(a[r], a[r - j] >> j, low)
+}
+
+fn swap_digit(a: &[u64], b: &mut [u64], k: usize, j: usize, high: u64, low: u64)
+    requires { ⌜ (length (now a) ≡ 64) × (length (now b) ≡ 64) × (k < 6) × (j ≡ 2 ^ k) × Masks k high low ⌝ }
+    ensures { λ _. ⌜ Staging k (now (a .entry)) 64 (now (b .exit)) ⌝ }
+{
+    for r in 0..64 {
+        b[r] = swapped_row(a, k, j, high, low, r);
+    }
+}
+
+// The rows and columns of a block exchanged, digit by digit; b is room to work in.
+fn transpose(a: &mut [u64], b: &mut [u64])
+    requires { ⌜ (length (now a) ≡ 64) × (length (now b) ≡ 64) ⌝ }
+    ensures { λ _. ⌜ Transposed (now (a .entry)) (now (a .exit)) ⌝ }
+{
+    swap_digit(a, b, 0, 1, 0xAAAAAAAAAAAAAAAA, 0x5555555555555555);
+    swap_digit(b, a, 1, 2, 0xCCCCCCCCCCCCCCCC, 0x3333333333333333);
+    swap_digit(a, b, 2, 4, 0xF0F0F0F0F0F0F0F0, 0x0F0F0F0F0F0F0F0F);
+    swap_digit(b, a, 3, 8, 0xFF00FF00FF00FF00, 0x00FF00FF00FF00FF);
+    swap_digit(a, b, 4, 16, 0xFFFF0000FFFF0000, 0x0000FFFF0000FFFF);
+    swap_digit(b, a, 5, 32, 0xFFFFFFFF00000000, 0x00000000FFFFFFFF);
+}
+
+// Word w of p's row, 0 if there is no such node.
+fn word_at(edges: &[u64], n: usize, p: usize, w: usize) -> u64
+    requires { ⌜ (n ≤ maxNodes) × (length (now edges) ≡ rowWords * n) × (w < rowWords) ⌝ }
+    ensures { λ r. ⌜ r ≡ getD (now (edges .entry)) (rowWords * p + w) 0 ⌝ }
+{
+    if p >= n {
+        return 0;
+    }
+    edges[Graph::ROW_WORDS * p + w]
+}
+
+// Word j of the 64 rows of block i.
+fn load(edges: &[u64], n: usize, i: usize, j: usize, a: &mut [u64])
+    requires { ⌜ (n ≤ maxNodes) × (length (now edges) ≡ rowWords * n) × (i < 8) × (j < 8) × (length (now a) ≡ 64) ⌝ }
+    ensures { λ _. ⌜ Loaded (now (edges .entry)) i j 64 (now (a .exit)) ⌝ }
+{
+    for k in 0..64 {
+        a[k] = word_at(edges, n, 64 * i + k, j);
+    }
+}
+
+// Whether a transposed block is the one across the diagonal.
+fn is_across(edges: &[u64], n: usize, i: usize, j: usize, a: &[u64]) -> bool
+    requires { ⌜ (n ≤ maxNodes) × (length (now edges) ≡ rowWords * n) × (i < 8) × (j < 8) × Across (now edges) i j (now a) ⌝ }
+    ensures { λ r. ⌜ r ≡ blockEven (now (edges .entry)) i j ⌝ }
+{
+    for c in 0..64 {
+        if a[c] != word_at(edges, n, 64 * j + c, i) {
+            return false;
+        }
+    }
+    true
+}
+
+fn is_block_even(edges: &[u64], n: usize, i: usize, j: usize) -> bool
+    requires { ⌜ (n ≤ maxNodes) × (length (now edges) ≡ rowWords * n) × (i < 8) × (j < 8) ⌝ }
+    ensures { λ r. ⌜ r ≡ blockEven (now (edges .entry)) i j ⌝ }
+{
+    let mut a = [0u64; 64];
+    let mut b = [0u64; 64];
+    load(edges, n, i, j, &mut a);
+    transpose(&mut a, &mut b);
+    is_across(edges, n, i, j, &a)
+}
+
+// Whether block b is even; those below the diagonal are passed over.
+fn block_holds(edges: &[u64], n: usize, b: usize) -> bool
+    requires { ⌜ (n ≤ maxNodes) × (length (now edges) ≡ rowWords * n) × (b < 64) ⌝ }
+    ensures { λ r. ⌜ r ≡ (ltb (b % 8) (b / 8) || blockEven (now (edges .entry)) (b / 8) (b % 8)) ⌝ }
+{
+    if b % 8 < b / 8 {
+        return true;
+    }
+    is_block_even(edges, n, b / 8, b % 8)
+}
+
+// Whether every bit has its mirror.
+fn is_even(edges: &[u64], n: usize) -> bool
+    requires { ⌜ (n ≤ maxNodes) × (length (now edges) ≡ rowWords * n) ⌝ }
+    ensures { λ r. ⌜ r ≡ even (now (edges .entry)) ⌝ }
+{
+    for b in 0..64 {
+        if !block_holds(edges, n, b) {
+            return false;
+        }
+    }
+    true
+}
+
+// x if v is odd, else 0.
+fn if_odd(v: usize, x: u32) -> u32
+    ensures { λ r. ⌜ (r ≡ v % 2 * x) × (r ≤ x) ⌝ }
+{
+    if v % 2 == 1 {
+        return x;
+    }
+    0
+}
+
+// The sum of those of four cubes that the digits of v choose.
+fn chosen_of(v: usize, c: u32, d: u32, e: u32, f: u32) -> u32
+    requires { ⌜ (c ≤ 134217728) × (d ≤ 134217728) × (e ≤ 134217728) × (f ≤ 134217728) ⌝ }
+    ensures { λ r. ⌜ r ≡ v % 2 * c + v / 2 % 2 * d + v / 4 % 2 * e + v / 8 % 2 * f ⌝ }
+{
+    if_odd(v, c) + if_odd(v / 2, d) + if_odd(v / 4, e) + if_odd(v / 8, f)
+}
+
+// The cubes of four nodes from 4 * b on, for each choice among them.
+fn fill_four(sums: &mut [u32], b: usize)
+    requires { ⌜ (b < 128) × Filled (16 * b) (now sums) ⌝ }
+    ensures { λ _. ⌜ Filled (16 * (b + 1)) (now (sums .exit)) ⌝ }
+{
+    let c = rows::cube_of(4 * b);
+    let d = rows::cube_of(4 * b + 1);
+    let e = rows::cube_of(4 * b + 2);
+    let f = rows::cube_of(4 * b + 3);
+    for v in 0..16 {
+        sums[16 * b + v] = chosen_of(v, c, d, e, f);
+    }
+}
+
+fn fill(sums: &mut [u32])
+    requires { ⌜ length (now sums) ≡ 2048 ⌝ }
+    ensures { λ _. ⌜ Filled 2048 (now (sums .exit)) ⌝ }
+{
+    for b in 0..128 {
+        fill_four(sums, b);
+    }
+}
+
+fn wide_key(x: u32) -> u64
+    ensures { λ r. ⌜ r ≡ x ⌝ }
+{
+    x as u64
+}
+
+// The sum for the four bits of x from bit 4 * i on, in word w.
+fn four_sum(sums: &[u32], w: usize, x: u64, i: usize) -> u64
+    requires { ⌜ (w < 8) × (i < 16) × Filled 2048 (now sums) ⌝ }
+    ensures { λ r. ⌜ (r ≡ fourCubes (16 * w + i) (x / 2 ^ (4 * i) % 16)) × (r < 2 ^ 32) ⌝ }
+{
+    let v = ((x >> (4 * i)) % 16) as usize;
+    wide_key(sums[16 * (16 * w + i) + v])
+}
+
+// The cubes of the nodes whose bits stand in word w.
+fn word_sum(sums: &[u32], w: usize, x: u64) -> u64
+    requires { ⌜ (w < 8) × Filled 2048 (now sums) ⌝ }
+    ensures { λ r. ⌜ (r ≡ wordCubes w x 64) × (r ≤ 68719476736) ⌝ }
+{
+    let mut total = 0;
+    for i in 0..16 {
+        total += four_sum(sums, w, x, i);
+    }
+    total
+}
+
+// The cubes of the nodes whose bits stand in p's row.
+fn row_sum(edges: &[u64], sums: &[u32], p: usize) -> u64
+    requires { ⌜ (p < maxNodes) × (rowWords * p + rowWords ≤ length (now edges)) × Filled 2048 (now sums) ⌝ }
+    ensures { λ r. ⌜ r ≡ rowCubes (now (edges .entry)) p 8 ⌝ }
+{
+    let a = Graph::ROW_WORDS * p;
+    let mut total = 0;
+    for w in 0..8 {
+        total += word_sum(sums, w, edges[a + w]);
+    }
+    total
+}
+
+fn low_half(x: u64) -> u32
+    ensures { λ r. ⌜ r ≡ x % 2 ^ 32 ⌝ }
+{
+    (x % 4294967296) as u32
+}
+
+// Whether p's row holds, given that every bit has its mirror.
+fn row_holds(edges: &[u64], keys: &[u32], sums: &[u32], n: usize, p: usize) -> bool
+    requires { ⌜ (n ≤ maxNodes) × (length (now edges) ≡ rowWords * n) × (length (now keys) ≡ 2 * n) × (p < n) × Filled 2048 (now sums) × (even (now edges) ≡ true) ⌝ }
+    ensures { λ r. ⌜ r ≡ (rowHolds n (now (edges .entry)) p && keysHold n (now (edges .entry)) (now (keys .entry)) p) ⌝ }
+{
+    if rows::edge(edges, p, p) {
+        return false;
+    }
+    super::keys_agree(keys, p, low_half(row_sum(edges, sums, p)))
+}
+
+// Whether edges and keys are those of a graph.
+pub fn rows_hold(edges: &[u64], keys: &[u32], n: usize) -> bool
+    requires { ⌜ (n ≤ maxNodes) × (length (now edges) ≡ rowWords * n) × (length (now keys) ≡ 2 * n) ⌝ }
+    ensures { λ r. ⌜ r ≡ rowsHold n (now (edges .entry)) (now (keys .entry)) ⌝ }
+{
+    if !is_even(edges, n) {
+        return false;
+    }
+    let mut sums = [0u32; 2048];
+    fill(&mut sums);
+    for p in 0..n {
+        if !row_holds(edges, keys, &sums, n, p) {
+            return false;
+        }
+    }
+    true
+}

@@ -1,0 +1,59 @@
+-- Edges put into an edge table, and members read off a file.
+use mathlib.Core.Path.{_≡_}
+use mathlib.Core.Bool.{Bool, not, _&&_, _||_}
+use mathlib.Core.List.{List}
+use Prim.Native.Nat.{ℕ, _+_, _*_, _-_, _≤_, _<_}
+use lib.Dec.{eqb}
+use lib.ListN.{length, drop}
+use Rattle.model.specs.Lists.{member}
+use Rattle.model.specs.Tables.{edgeBit}
+use Rattle.model.specs.Reading.{u16At, u16s}
+
+-- the edges of f are put in, everything else is as it was
+pub record Added (f : ℕ → ℕ → Bool) (t after : List ℕ) : Type 0 where
+  pub size : length after ≡ length t
+  pub bits : (a b : ℕ) → b < 512 → edgeBit after a b ≡ (edgeBit t a b || f a b)
+
+-- underway: with the rest put in, all will have been put in
+pub record Adding (all rest : ℕ → ℕ → Bool) (t now : List ℕ) : Type 0 where
+  pub size : length now ≡ length t
+  pub bits : (a b : ℕ) → b < 512 → (edgeBit now a b || rest a b) ≡ (edgeBit t a b || all a b)
+
+-- the bit for q in p's row
+unfoldable pub oneBit : ℕ → ℕ → ℕ → ℕ → Bool
+oneBit p q a b = eqb a p && eqb b q
+
+-- an edge from p to q, none from a node to itself
+unfoldable pub oneEdge : ℕ → ℕ → ℕ → ℕ → Bool
+oneEdge p q a b = eqb a p && (eqb b q && not (eqb a b))
+
+-- edges from p, and from each of ms, to each of ls
+unfoldable pub fan : ℕ → List ℕ → ℕ → ℕ → Bool
+fan p ls a b = eqb a p && (member b ls && not (eqb a b))
+
+unfoldable pub across : List ℕ → List ℕ → ℕ → ℕ → Bool
+across ms ls a b = member a ms && (member b ls && not (eqb a b))
+
+-- edges both ways
+unfoldable pub joined : List ℕ → List ℕ → ℕ → ℕ → Bool
+joined ms ls a b = across ms ls a b || across ls ms a b
+
+-- a clique's own edges
+unfoldable pub inner : Bool → List ℕ → ℕ → ℕ → Bool
+inner clique ms a b = clique && across ms ms a b
+
+-- how many members a group record at a place has, and who they are
+unfoldable pub countAt : List ℕ → ℕ → ℕ
+countAt s at = u16At s (at + 2)
+
+unfoldable pub membersAt : List ℕ → ℕ → List ℕ
+membersAt s at = u16s (countAt s at) (drop (at + 4) s)
+
+-- of count numbers from a place on, those from number k on
+unfoldable pub restAt : List ℕ → ℕ → ℕ → ℕ → List ℕ
+restAt s at count k = u16s (count - k) (drop (at + 2 * k) s)
+
+-- a group record at a place: all its members are there, and are nodes of a graph of n
+pub record GroupHere (n : ℕ) (s : List ℕ) (at : ℕ) : Type 0 where
+  pub room : at + 4 + 2 * countAt s at ≤ length s
+  pub small : (k : ℕ) → k < countAt s at → u16At s (at + 4 + 2 * k) < n

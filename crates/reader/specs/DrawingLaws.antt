@@ -1,0 +1,155 @@
+-- Laws of edges put in one after the other.
+use mathlib.Core.Path.{_≡_, refl, sym, ap, _∙_}
+use mathlib.Core.Bool.{Bool, true, false, not, _&&_, _||_, or-false}
+use mathlib.Core.List.{List, [], _∷_}
+use mathlib.Core.Logic.{_⊎_, inl, inr}
+use Prim.Native.Nat.{ℕ, suc, _+_, _*_, _-_, _≤_, _<_}
+use native.Mathlib.Omega.{arith}
+use lib.Dec.{eqb}
+use lib.ListN.{drop}
+use lib.Seq.{drop-drop}
+use borrow.Author.Tests.{eqb-true, eq-eqb, ne-eqb}
+use Rattle.model.specs.Lists.{any, member}
+use Rattle.model.specs.Tables.{edgeBit}
+use Rattle.model.specs.Reading.{u16At, u16s}
+use Rattle.model.specs.TestLaws.{decide}
+use Rattle.reader.specs.Drawing.{Added, Adding, GroupHere, across, countAt, fan, inner, joined, membersAt, oneBit, oneEdge, restAt}
+use Rattle.reader.specs.RecordLaws.{u16-drop}
+
+or-assoc : (a b c : Bool) → ((a || b) || c) ≡ (a || (b || c))
+or-assoc true b c = refl
+or-assoc false b c = refl
+
+pub added-as : {f g : ℕ → ℕ → Bool} {t after : List ℕ} → ((a b : ℕ) → f a b ≡ g a b) → Added f t after → Added g t after
+added-as {t = t} e h = record { size = h .size; bits = λ a b l. h .bits a b l ∙ ap (λ (x : Bool). edgeBit t a b || x) (e a b) }
+
+pub added-none : (f : ℕ → ℕ → Bool) (t : List ℕ) → ((a b : ℕ) → f a b ≡ false) → Added f t t
+added-none f t e = record { size = refl; bits = λ a b l. sym (ap (λ (x : Bool). edgeBit t a b || x) (e a b) ∙ or-false (edgeBit t a b)) }
+
+pub added-then : {f g h : ℕ → ℕ → Bool} {s t u : List ℕ} → Added f s t → Added g t u → ((a b : ℕ) → (f a b || g a b) ≡ h a b) → Added h s u
+added-then {f = f} {g = g} {s = s} x y e = record {
+  size = y .size ∙ x .size;
+  bits = λ a b l. y .bits a b l ∙ ap (λ (z : Bool). z || g a b) (x .bits a b l) ∙ or-assoc (edgeBit s a b) (f a b) (g a b) ∙ ap (λ (z : Bool). edgeBit s a b || z) (e a b);
+}
+
+pub adding-start : (f g : ℕ → ℕ → Bool) (t : List ℕ) → ((a b : ℕ) → g a b ≡ f a b) → Adding f g t t
+adding-start f g t e = record { size = refl; bits = λ a b l. ap (λ (z : Bool). edgeBit t a b || z) (e a b) }
+
+pub adding-step : {all rest f more : ℕ → ℕ → Bool} {t now after : List ℕ} → Adding all rest t now → Added f now after → ((a b : ℕ) → rest a b ≡ (f a b || more a b)) → Adding all more t after
+adding-step {f = f} {more = more} {now = now} x y e = record {
+  size = y .size ∙ x .size;
+  bits =
+      λ a b l.
+      ap (λ (z : Bool). z || more a b) (y .bits a b l)
+      ∙ or-assoc (edgeBit now a b) (f a b) (more a b)
+      ∙ ap (λ (z : Bool). edgeBit now a b || z) (sym (e a b))
+      ∙ x .bits a b l;
+}
+
+pub adding-done : {all rest : ℕ → ℕ → Bool} {t now : List ℕ} → Adding all rest t now → ((a b : ℕ) → rest a b ≡ false) → Added all t now
+adding-done {rest = rest} {now = now} x e = record {
+  size = x .size;
+  bits = λ a b l. sym (ap (λ (z : Bool). edgeBit now a b || z) (e a b) ∙ or-false (edgeBit now a b)) ∙ x .bits a b l;
+}
+
+-- an edge is one bit, or none where the two nodes are one
+pub edge-loop : (p q : ℕ) (t : List ℕ) → p ≡ q → Added (oneEdge p q) t t
+unfolding oneEdge
+edge-loop p q t e = added-none (λ a b. eqb a p && (eqb b q && not (eqb a b))) t (λ a b. step a b (decide (eqb a p)) (decide (eqb b q)))
+  where
+    step : (a b : ℕ) → (eqb a p ≡ true) ⊎ (eqb a p ≡ false) → (eqb b q ≡ true) ⊎ (eqb b q ≡ false) → (eqb a p && (eqb b q && not (eqb a b))) ≡ false
+    step a b (inl x) (inl y) = rw (x, y, eq-eqb a b (eqb-true a p x ∙ e ∙ sym (eqb-true b q y)))
+    step a b (inl x) (inr y) = rw (x, y)
+    step a b (inr x) y = rw x
+
+pub edge-bit : {p q : ℕ} {t after : List ℕ} → (p ≡ q → ⊥) → Added (oneBit p q) t after → Added (oneEdge p q) t after
+unfolding oneBit oneEdge
+edge-bit {p} {q} d h = added-as (λ a b. step a b (decide (eqb a p)) (decide (eqb b q))) h
+  where
+    step : (a b : ℕ) → (eqb a p ≡ true) ⊎ (eqb a p ≡ false) → (eqb b q ≡ true) ⊎ (eqb b q ≡ false) → (eqb a p && eqb b q) ≡ (eqb a p && (eqb b q && not (eqb a b)))
+    step a b (inl x) (inl y) = rw (x, y, ne-eqb a b (λ e. d (sym (eqb-true a p x) ∙ e ∙ eqb-true b q y)))
+    step a b (inl x) (inr y) = rw (x, y)
+    step a b (inr x) y = rw x
+
+-- the rest of a list of numbers in a file
+module _ (s : List ℕ) (at count : ℕ) where
+  pub rest-step : (k : ℕ) → k < count → restAt s at count k ≡ u16At s (at + 2 * k) ∷ restAt s at count (k + 1)
+  unfolding restAt u16s
+  rest-step k h =
+      let e : count - k ≡ suc (count - (k + 1)) = omega arith in
+      let f : at + 2 * k + 2 ≡ at + 2 * (k + 1) = omega arith in
+      let g : at + 2 * k + 0 ≡ at + 2 * k = omega arith in
+      rw (e, drop-drop 2 (at + 2 * k) s, f, u16-drop s (at + 2 * k) 0, g)
+
+  pub rest-end : (k : ℕ) → count ≤ k → restAt s at count k ≡ []
+  unfolding restAt u16s
+  rest-end k h = let e : count - k ≡ 0 = omega arith in rw e
+
+  pub rest-start : restAt s at count 0 ≡ u16s count (drop at s)
+  unfolding restAt
+  rest-start = let e : at + 2 * 0 ≡ at = omega arith in let f : count - 0 ≡ count = omega arith in rw (e, f)
+
+  -- a fan: one edge more
+  pub fan-step : (p k q : ℕ) {all : ℕ → ℕ → Bool} {t now after : List ℕ} → k < count → q ≡ u16At s (at + 2 * k) → Adding all (fan p (restAt s at count k)) t now → Added (oneEdge p q) now after → Adding all (fan p (restAt s at count (k + 1))) t after
+  unfolding fan member any oneEdge
+  fan-step p k q h e x y = adding-step x y (λ a b. rw (rest-step k h, ← e) (split (eqb a p) (eqb b q) (any (restAt s at count (k + 1)) (eqb b)) (not (eqb a b))))
+    where
+      split : (u v w z : Bool) → (u && ((v || w) && z)) ≡ ((u && (v && z)) || (u && (w && z)))
+      split true true w true = refl
+      split true true w false = sym (low w)
+        where
+          low : (w : Bool) → (w && false) ≡ false
+          low true = refl
+          low false = refl
+      split true false w z = refl
+      split false v w z = refl
+
+  pub fan-done : (p k : ℕ) {all : ℕ → ℕ → Bool} {t now : List ℕ} → count ≤ k → Adding all (fan p (restAt s at count k)) t now → Added all t now
+  unfolding fan member any
+  fan-done p k h x = adding-done x (λ a b. rw (rest-end k h) (low (eqb a p)))
+    where
+      low : (w : Bool) → (w && false) ≡ false
+      low true = refl
+      low false = refl
+
+  -- all edges from one list to another: one fan more
+  pub across-step : (ls : List ℕ) (k q : ℕ) {all : ℕ → ℕ → Bool} {t now after : List ℕ} → k < count → q ≡ u16At s (at + 2 * k) → Adding all (across (restAt s at count k) ls) t now → Added (fan q ls) now after → Adding all (across (restAt s at count (k + 1)) ls) t after
+  unfolding fan across member any
+  across-step ls k q h e x y = adding-step x y (λ a b. rw (rest-step k h, ← e) (split (eqb a q) (any (restAt s at count (k + 1)) (eqb a)) (any ls (eqb b) && not (eqb a b))))
+    where
+      split : (u v w : Bool) → ((u || v) && w) ≡ ((u && w) || (v && w))
+      split true true true = refl
+      split true false true = refl
+      split true true false = refl
+      split true false false = refl
+      split false v w = refl
+
+  pub across-done : (ls : List ℕ) (k : ℕ) {all : ℕ → ℕ → Bool} {t now : List ℕ} → count ≤ k → Adding all (across (restAt s at count k) ls) t now → Added all t now
+  unfolding across member any
+  across-done ls k h x = adding-done x (λ a b. rw (rest-end k h))
+
+-- the members of a group record at a place
+pub members-start : (s : List ℕ) (at count : ℕ) → count ≡ countAt s at → restAt s (at + 4) count 0 ≡ membersAt s at
+unfolding membersAt
+members-start s at count e = rw e (rest-start s (at + 4) (countAt s at))
+
+pub here-most : (n : ℕ) (s : List ℕ) (at : ℕ) → n ≤ 512 → GroupHere n s at → GroupHere 512 s at
+here-most n s at l h = record { room = h .room; small = λ k i. omega (arith, h .small k i) }
+
+pub fan-start : (s : List ℕ) (at count p : ℕ) (t : List ℕ) → count ≡ countAt s at → Adding (fan p (membersAt s at)) (fan p (restAt s (at + 4) count 0)) t t
+fan-start s at count p t e = adding-start (fan p (membersAt s at)) (fan p (restAt s (at + 4) count 0)) t (λ a b. ap (λ (l : List ℕ). fan p l a b) (members-start s at count e))
+
+pub across-start : (s : List ℕ) (at count : ℕ) (ls t : List ℕ) → count ≡ countAt s at → Adding (across (membersAt s at) ls) (across (restAt s (at + 4) count 0) ls) t t
+across-start s at count ls t e = adding-start (across (membersAt s at) ls) (across (restAt s (at + 4) count 0) ls) t (λ a b. ap (λ (l : List ℕ). across l ls a b) (members-start s at count e))
+
+pub joined-by : (ms ls : List ℕ) {r t u : List ℕ} → Added (across ms ls) r t → Added (across ls ms) t u → Added (joined ms ls) r u
+unfolding joined
+joined-by ms ls x y = added-then x y (λ a b. refl)
+
+pub inner-yes : (ms : List ℕ) {t u : List ℕ} (q : Bool) → q ≡ true → Added (across ms ms) t u → Added (inner q ms) t u
+unfolding inner
+inner-yes ms q e x = added-as (λ a b. rw e) x
+
+pub inner-no : (q : Bool) (ms t : List ℕ) → q ≡ false → Added (inner q ms) t t
+unfolding inner
+inner-no q ms t e = added-none (λ a b. q && across ms ms a b) t (λ a b. rw e)

@@ -1,0 +1,134 @@
+use mathlib.Core.Path.{_∙_}
+use Rattle.release.specs.ReadLaws.{judged-holds}
+use native.Mathlib.Omega.{arith}
+use borrow.Author.Tests.{not-true, not-false}
+use Rattle.index.specs.IndexLaws.{sized}
+use Rattle.release.specs.ReadLaws.{read-size, read-none, read-other, read-done}
+use borrow.Author.Needs.{needs}
+use Rattle.release.proofs.read.Statement.{statement}
+use Rattle.release.proofs.read.Tie as tie
+use Rattle.release.proofs.read.Reads as reads
+use Rattle.release.proofs.read.Lts as lts
+use Rattle.index.proofs.right_size.Reads as right-size-reads
+use Rattle.release.proofs.judging.judge.Reads as judge-reads
+use Rattle.release.proofs.reading.fill.Reads as fill-reads
+
+right-size-requires : tie.Need-right-size-requires
+right-size-requires c κs = search needs
+
+same-length : tie.Need-same-length
+same-length c = search needs
+
+same-length-2 : tie.Need-same-length-2
+same-length-2 c = search needs
+
+same-length-3 : tie.Need-same-length-3
+same-length-3 c = search needs
+
+returns : tie.Need-returns
+returns c = read-size _ _ _ _ (c .before .right-size .ensures) (not-true _ (c .if1 .taken))
+
+slice-aggregate-judge : tie.Need-slice-aggregate-judge
+slice-aggregate-judge c = search needs
+
+slice-aggregate-judge-2 : tie.Need-slice-aggregate-judge-2
+slice-aggregate-judge-2 c = search needs
+
+judge-requires : tie.Need-judge-requires
+judge-requires c κs = search needs
+
+enum-known-judged : tie.Need-enum-known-judged
+enum-known-judged c = search needs
+
+enum-told : tie.Need-enum-told
+enum-told c = search needs
+
+same-length-4 : tie.Need-same-length-4
+same-length-4 c = search needs
+
+same-length-5 : tie.Need-same-length-5
+same-length-5 c = search needs
+
+same-length-6 : tie.Need-same-length-6
+same-length-6 c = search needs
+
+returns-2 : tie.Need-returns-2
+returns-2 c =
+    let j = c .before .before .before .before in
+    let i = j .before .before .before in
+    read-none _ _ _ _ (i .before .right-size .ensures) (not-false _ (i .if1 .left)) (j .judge .ensures) (c .enum-told .given .1)
+
+same-length-7 : tie.Need-same-length-7
+same-length-7 c = search needs
+
+same-length-8 : tie.Need-same-length-8
+same-length-8 c = search needs
+
+same-length-9 : tie.Need-same-length-9
+same-length-9 c = search needs
+
+returns-3 : tie.Need-returns-3
+returns-3 c =
+    let j = c .before .before .before .before .before .before in
+    let i = j .before .before .before in
+    read-other _ _ _ _ (i .before .right-size .ensures) (not-false _ (i .if1 .left)) (j .judge .ensures) _ (c .before .before .judged .given .1) (c .if2 .taken)
+
+slice-aggregate-fill : tie.Need-slice-aggregate-fill
+slice-aggregate-fill c = search needs
+
+slice-aggregate-fill-2 : tie.Need-slice-aggregate-fill-2
+slice-aggregate-fill-2 c = search needs
+
+fill-requires : tie.Need-fill-requires
+fill-requires c κs =
+    let t = c .before .before .before .before .before .before .before in
+    let j = t .before .before .before .before in
+    let i = j .before .before .before in
+    (judged-holds (j .judge .ensures) _ (t .judged .given .1) _ (c .before .before .before .before .before .if2 .left), j .judge .ensures .rows, j .judge .ensures .size, sized _ _ _ (i .before .right-size .ensures) (not-false _ (i .if1 .left)))
+
+same-length-10 : tie.Need-same-length-10
+same-length-10 c = search needs
+
+same-length-11 : tie.Need-same-length-11
+same-length-11 c = search needs
+
+same-length-12 : tie.Need-same-length-12
+same-length-12 c = search needs
+
+returns-4 : tie.Need-returns-4
+returns-4 c =
+    let f = c .before .before .before .before .before .before in
+    let t = f .before .before .before .before .before .before .before .before in
+    let j = t .before .before .before .before in
+    let i = j .before .before .before in
+    read-done _ _ _ _ (i .before .right-size .ensures) (not-false _ (i .if1 .left)) (j .judge .ensures) _ (t .judged .given .1) (f .before .before .before .before .before .before .if2 .left) (f .fill .ensures)
+
+pub read-spec : {M : Type 1} → statement M
+read-spec =
+    tie.close
+    (tie.spec
+    right-size-requires
+    same-length
+    same-length-2
+    same-length-3
+    returns
+    slice-aggregate-judge
+    slice-aggregate-judge-2
+    judge-requires
+    enum-known-judged
+    enum-told
+    same-length-4
+    same-length-5
+    same-length-6
+    returns-2
+    same-length-7
+    same-length-8
+    same-length-9
+    returns-3
+    slice-aggregate-fill
+    slice-aggregate-fill-2
+    fill-requires
+    same-length-10
+    same-length-11
+    same-length-12
+    returns-4)

@@ -1,0 +1,213 @@
+-- The calls on releases are those of the model.
+use mathlib.Core.Path.{_≡_, refl, sym, ap, ap₂, _∙_, fun-ext}
+use mathlib.Core.Bool.{Bool, true, false, cond, not, _&&_}
+use mathlib.Core.List.{List, [], _∷_}
+use mathlib.Core.Logic.{_≢_, _⊎_, inl, inr}
+use Prim.Native.Nat.{ℕ, _+_, _*_, _/_, _%_, _≤_, _<_}
+use native.Mathlib.Omega.{arith}
+use lib.Dec.{eqb, ltb}
+use lib.ListN.{length, getD, take}
+use lib.Seq.{getD-take, length-take-le}
+use borrow.Author.Tests.{ltb-true, lt-ltb, le-ltb, eq-eqb, ne-eqb, not-true, not-false}
+use Rattle.model.specs.Graph.{Graph, Proper, maxNodes, rowWords}
+use Rattle.model.specs.Lists.{sameList}
+use Rattle.model.specs.Tables.{Tables, tablesOf, graphOf, edgeBit, bitAt, nodeNumber, holds}
+use Rattle.model.specs.Refusals.{Reasons, firstOf, lengths, wrongSize}
+use Rattle.model.specs.Release.{release, isVisible, visibleEdge}
+use Rattle.model.specs.Reading.{decode, isRelease}
+use Rattle.model.specs.Queries.{neighbours}
+use Rattle.model.specs.Calls.{released, releaseReasons, releaseRefused, releaseCall, Opened, openRefused, readReasons, readCall, listRefused, fileNeighboursReasons, fileNeighboursCall, onto}
+use Rattle.model.specs.TestLaws.{decide}
+use Rattle.reader.specs.declared.Decoded.{Decoded}
+use Rattle.reader.specs.declared.Decoded.the-variants as answer
+use Rattle.reader.specs.Decoding.{graphIn, HoldsGraph, Decodes}
+use Rattle.reader.specs.HeldLaws.{decodes-simple, refused-is-none, release-read, release-compared}
+use Rattle.index.specs.Index.{opened, listed, tableReasons}
+use Rattle.index.specs.IndexLaws.{table-refused, table-rest, call-refused, call-done}
+use Rattle.index.specs.Update.{Held}
+use Rattle.index.specs.UpdateLaws.{held-sized}
+use Rattle.rows.specs.Search.{edgesIn}
+use Rattle.visible.specs.Visible.{markedGraph, Drawn}
+use Rattle.layout.specs.File.{Partition, fileOf, writtenFile}
+use Rattle.layout.specs.Truth.{Truth}
+use Rattle.layout.specs.TruthLaws.{truth-partition, written-is, file-is}
+use Rattle.model.specs.ReadBackLaws.{visible-inside}
+use Rattle.release.specs.Release.{told, Marks, Judged}
+use Rattle.release.specs.Fill.{MarksTaken}
+
+-- the graph of edges and marks is that of the tables
+pub marks-graph : (n : ℕ) (t : Tables) (hidden : List ℕ) → Marks n (t .nodes) hidden → graphIn n (t .edges) hidden ≡ graphOf n t
+unfolding graphIn graphOf
+marks-graph n t hidden m = λ i. record { nodeCount = n; edge = λ p q. ltb p n && (ltb q n && edgeBit (t .edges) p q); hidden = fun-ext (λ p. mark p (decide (ltb p n))) i }
+  where
+    mark : (p : ℕ) → (ltb p n ≡ true) ⊎ (ltb p n ≡ false) → (ltb p n && eqb (getD hidden p 0) 1) ≡ (ltb p n && eqb (nodeNumber (t .nodes) p 3) 1)
+    mark p (inl x) = rw (m .same p (ltb-true p n x))
+    mark p (inr x) = rw x
+
+-- release
+module _ (n : ℕ) (t : Tables) (out : List ℕ) (r : ℕ) (e : r ≡ firstOf (tableReasons n t [])) where
+  pub release-table : r ≢ 0 → releaseRefused out r ≡ releaseCall n t out
+  unfolding releaseCall releaseReasons
+  release-table d = call-refused _ (releaseRefused out) _ r (table-refused n t r e _ d) d
+
+  pub release-told : r ≡ 0 → told (graphOf n t) out ≡ releaseCall n t out
+  unfolding releaseCall told
+  release-told z = step (decide (ltb (length out) (length (release (graphOf n t)))))
+    where
+      rs : Reasons
+      rs = (ltb (length out) (length (release (graphOf n t))), 18) ∷ []
+
+      first : firstOf (releaseReasons n t out) ≡ firstOf ((ltb (length out) (length (release (graphOf n t))), 18) ∷ [])
+      first = unfold releaseReasons in table-rest n t r e z ((ltb (length out) (length (release (graphOf n t))), 18) ∷ [])
+
+      step : (ltb (length out) (length (release (graphOf n t))) ≡ true) ⊎ (ltb (length out) (length (release (graphOf n t))) ≡ false)
+          → cond (ltb (length out) (length (release (graphOf n t)))) (releaseRefused out 18) (released (graphOf n t) out) ≡ releaseCall n t out
+      step (inl x) = rw x (call-refused (releaseReasons n t out) (releaseRefused out) (released (graphOf n t) out) 18 (first ∙ unfold firstOf in rw x) (omega arith))
+      step (inr x) = rw x (call-done (releaseReasons n t out) (releaseRefused out) (released (graphOf n t) out) (first ∙ unfold firstOf in rw x))
+
+-- a file is judged by what it is decoded as, released again and compared
+pub judged-none : (s edges hidden : List ℕ) {r : Decoded} → Decodes s edges hidden r → r ≡ answer.NoRelease → Judged s edges hidden answer.NoRelease
+judged-none s edges hidden {r} d e = record {
+  rows = d .rows;
+  size = d .size;
+  none = λ z. refused-is-none s edges hidden (rw e at d);
+  is = λ n z. never n z;
+  graph = λ n z. never n z;
+  holds = λ n z. never n z;
+}
+  where
+    never : {X : Type 0} (n : ℕ) → answer.NoRelease ≡ answer.Graph n → X
+    never n z = let w : _≡_ {A = ℕ} 0 1 = cc in absurd (omega arith)
+
+module _ (s edges hidden : List ℕ) (n : ℕ) {r : Decoded} (d₀ : Decodes s edges hidden r) (told-n : r ≡ answer.Graph n) (b : Bool) (c : b ≡ sameList s (release (graphIn n edges hidden))) where
+  d : Decodes s edges hidden (answer.Graph n)
+  d = rw told-n at d₀
+
+  pub judged-other : b ≡ false → Judged s edges hidden answer.NoRelease
+  judged-other z = record {
+    rows = d .rows;
+    size = d .size;
+    none = λ w. release-compared s edges hidden n d ∙ sym c ∙ z;
+    is = λ m w. never m w;
+    graph = λ m w. never m w;
+    holds = λ m w. never m w;
+  }
+    where
+      never : {X : Type 0} (m : ℕ) → answer.NoRelease ≡ answer.Graph m → X
+      never m z = let w : _≡_ {A = ℕ} 0 1 = cc in absurd (omega arith)
+
+  pub judged-release : b ≡ true → Judged s edges hidden (answer.Graph n)
+  judged-release z = record {
+    rows = d .rows;
+    size = d .size;
+    none = λ w. never w;
+    is = λ m w. yes′;
+    graph = λ m w. let q : n ≡ m = cc in ap (λ (k : ℕ). graphIn k edges hidden) (sym q) ∙ release-read s edges hidden n d yes′;
+    holds = λ m w. decodes-simple s edges hidden (answer.Graph n) m d w;
+  }
+    where
+      yes′ : isRelease s ≡ true
+      yes′ = release-compared s edges hidden n d ∙ sym c ∙ z
+
+      never : {X : Type 0} → answer.Graph n ≡ answer.NoRelease → X
+      never z = let w : _≡_ {A = ℕ} 0 1 = cc in absurd (omega arith)
+
+-- the two names of the graph of edges and marks
+pub marked-in : (n : ℕ) (edges hidden : List ℕ) → markedGraph n edges hidden ≡ graphIn n edges hidden
+unfolding markedGraph graphIn edgesIn
+marked-in n edges hidden = refl
+
+-- the writer looks at edges of visible nodes only, so it may have the table before masking
+pub truth-whole : (n : ℕ) {edges : List ℕ} (hidden : List ℕ) {lst masked : List ℕ} → length edges ≡ rowWords * n → Truth (markedGraph n edges hidden) lst masked → Truth (markedGraph n edges hidden) lst edges
+truth-whole n {edges} hidden {lst} {masked} l t = record {
+  proper = t .proper;
+  size = t .size;
+  rows = unfold markedGraph in omega (arith, l);
+  visible-least = t .visible-least;
+  hidden-least = t .hidden-least;
+  edge-is = λ p q x y. bit p q x y;
+}
+  where
+    g : Graph
+    g = markedGraph n edges hidden
+
+    below : (p : ℕ) → isVisible (markedGraph n edges hidden) p ≡ true → p < n
+    below p x = unfold markedGraph in visible-inside (markedGraph n edges hidden) p x
+
+    bit : (p q : ℕ) → isVisible (markedGraph n edges hidden) p ≡ true → isVisible (markedGraph n edges hidden) q ≡ true → edgeBit edges p q ≡ visibleEdge (markedGraph n edges hidden) p q
+    bit p q x y = sym (shown p q x y ∙ inside p q x y)
+      where
+        shown : (p q : ℕ) → isVisible (markedGraph n edges hidden) p ≡ true → isVisible (markedGraph n edges hidden) q ≡ true → visibleEdge (markedGraph n edges hidden) p q ≡ markedGraph n edges hidden .edge p q
+        shown p q x y = unfold visibleEdge in rw (x, y)
+
+        inside : (p q : ℕ) → isVisible (markedGraph n edges hidden) p ≡ true → isVisible (markedGraph n edges hidden) q ≡ true → markedGraph n edges hidden .edge p q ≡ edgeBit edges p q
+        inside p q x y = unfold markedGraph edgesIn in rw (lt-ltb p n (below p x), lt-ltb q n (below q y))
+
+-- tables that hold a graph, with their marks apart
+pub drawn-held : {n : ℕ} {t : Tables} {hidden₀ hidden : List ℕ} → Held n t → n ≤ length hidden₀ → MarksTaken n (t .nodes) hidden₀ hidden → Drawn n (t .edges) hidden
+drawn-held {n} {t} {hidden₀} {hidden} h l m =
+    let s = held-sized h in
+    record { small = s .small; proper = rw (same-graph m) (h .proper); size = s .edges; marked = omega (arith, m .size) }
+  where
+    same-graph : MarksTaken n (t .nodes) hidden₀ hidden → markedGraph n (t .edges) hidden ≡ graphOf n t
+    same-graph m = marked-in n (t .edges) hidden ∙ marks-graph n t hidden (record { same = m .marks })
+
+pub taken-graph : (n : ℕ) (t : Tables) {hidden₀ hidden : List ℕ} → MarksTaken n (t .nodes) hidden₀ hidden → markedGraph n (t .edges) hidden ≡ graphOf n t
+taken-graph n t {hidden₀} {hidden} m = marked-in n (t .edges) hidden ∙ marks-graph n t hidden (record { same = m .marks })
+
+-- the file that is written from such least members
+pub written-told : (g : Graph) (n : ℕ) (lst edges out : List ℕ) → n ≡ g .nodeCount → Truth g lst edges → writtenFile n lst edges out ≡ told g out
+unfolding told
+written-told g n lst edges out e t = rw e (written-is g lst edges t out)
+
+pub truth-parts : (g : Graph) (n : ℕ) (lst edges : List ℕ) → n ≡ g .nodeCount → Truth g lst edges → Partition n lst edges
+truth-parts g n lst edges e t = rw e (truth-partition g lst edges t)
+
+pub file-told : (g : Graph) (n : ℕ) (lst edges s : List ℕ) → n ≡ g .nodeCount → Truth g lst edges → sameList s (fileOf n lst edges) ≡ sameList s (release g)
+file-told g n lst edges s e t = rw e (ap (sameList s) (file-is g lst edges t))
+
+-- what a release is written from: edges, and least members of the visible part
+module _ (n : ℕ) (edges hidden : List ℕ) {lst : List ℕ} (w : Truth (markedGraph n edges hidden) lst edges) where
+  same-size : n ≡ markedGraph n edges hidden .nodeCount
+  same-size = unfold markedGraph in refl
+
+  pub visible-parts : Partition n lst edges
+  visible-parts = truth-parts (markedGraph n edges hidden) n lst edges same-size w
+
+  pub visible-told : (t : Tables) {hidden₀ : List ℕ} → t .edges ≡ edges → MarksTaken n (t .nodes) hidden₀ hidden → (out : List ℕ) → writtenFile n lst edges out ≡ told (graphOf n t) out
+  visible-told t e m out = written-told (markedGraph n edges hidden) n lst edges out same-size w ∙ ap (λ (g : Graph). told g out) (ap (λ (x : List ℕ). markedGraph n x hidden) (sym e) ∙ taken-graph n t m)
+
+  pub visible-file : (s : List ℕ) → sameList s (fileOf n lst edges) ≡ sameList s (release (graphIn n edges hidden))
+  visible-file s = file-told (markedGraph n edges hidden) n lst edges s same-size w ∙ ap (λ (g : Graph). sameList s (release g)) (marked-in n edges hidden)
+
+-- the rows of n nodes at the start of a longer table
+pub take-bit : (n : ℕ) (edges : List ℕ) (p q : ℕ) → p < n → q < 512 → edgeBit (take (rowWords * n) edges) p q ≡ edgeBit edges p q
+unfolding edgeBit
+take-bit n edges p q hp hq = ap (λ (x : ℕ). bitAt x (q % 64)) (getD-take (8 * n) edges (8 * p + q / 64) 0 (omega arith))
+
+pub take-graph : (n : ℕ) (edges hidden : List ℕ) → n ≤ maxNodes → graphIn n (take (rowWords * n) edges) hidden ≡ graphIn n edges hidden
+unfolding graphIn
+take-graph n edges hidden small = λ i. record { nodeCount = n; edge = fun-ext (λ p. fun-ext (λ q. bit p q (decide (ltb p n)) (decide (ltb q n)))) i; hidden = λ p. ltb p n && eqb (getD hidden p 0) 1 }
+  where
+    bit : (p q : ℕ) → (ltb p n ≡ true) ⊎ (ltb p n ≡ false) → (ltb q n ≡ true) ⊎ (ltb q n ≡ false) → (ltb p n && (ltb q n && edgeBit (take (rowWords * n) edges) p q)) ≡ (ltb p n && (ltb q n && edgeBit edges p q))
+    bit p q (inl x) (inl y) = rw (x, y) (take-bit n edges p q (ltb-true p n x) (omega (arith, ltb-true q n y)))
+    bit p q (inl x) (inr y) = rw (x, y)
+    bit p q (inr x) y = rw x
+
+module _ (n : ℕ) {edges hidden : List ℕ} (h : HoldsGraph n edges hidden) (l : length edges ≡ 4096) (k : length hidden ≡ 512) where
+  pub held-small : n ≤ maxNodes
+  held-small = unfold graphIn in h .proper .small
+
+  pub taken-size : rowWords * n ≡ length (take (rowWords * n) edges)
+  taken-size = sym (length-take-le (rowWords * n) edges (omega (arith, held-small)))
+
+  pub drawn-decoded : Drawn n (take (rowWords * n) edges) hidden
+  drawn-decoded = record {
+    small = held-small;
+    proper = rw (marked-in n (take (rowWords * n) edges) hidden ∙ take-graph n edges hidden held-small) (h .proper);
+    size = sym taken-size;
+    marked = omega (arith, held-small);
+  }
+
+  pub same-release : {lst : List ℕ} → Truth (markedGraph n (take (rowWords * n) edges) hidden) lst (take (rowWords * n) edges) → (s : List ℕ) (b : Bool) → b ≡ sameList s (fileOf n lst (take (rowWords * n) edges)) → b ≡ sameList s (release (graphIn n edges hidden))
+  same-release w s b e = e ∙ visible-file n (take (rowWords * n) edges) hidden w s ∙ ap (λ (g : Graph). sameList s (release g)) (take-graph n edges hidden held-small)

@@ -1,0 +1,83 @@
+-- Tables filled from decoded arrays are those of the graph in the arrays.
+use mathlib.Core.Path.{_≡_, refl, sym, ap, ap₂, _∙_, fun-ext}
+use mathlib.Core.Bool.{Bool, true, false, cond, _&&_}
+use mathlib.Core.List.{List}
+use mathlib.Core.Logic.{_⊎_, inl, inr}
+use Prim.Native.Nat.{ℕ, _+_, _*_, _/_, _%_, _^_, _≤_, _<_}
+use native.Mathlib.Omega.{arith}
+use lib.Dec.{eqb, ltb}
+use lib.ListN.{length, getD}
+use borrow.Author.Tests.{ltb-true, ltb-false, lt-ltb, le-ltb}
+use Rattle.model.specs.Graph.{Graph, Proper, maxNodes, rowWords, nodeNumbers}
+use Rattle.model.specs.Tables.{Tables, tablesOf, graphOf, edgesOf, rowOf, nodesOf, keysOf, keyPair, edgeBit, bitAt, nodeNumber}
+use Rattle.model.specs.TestLaws.{decide, differ}
+use Rattle.rows.specs.Rows.{lent, Words}
+use Rattle.rows.specs.Search.{edgesIn, graphIn as rowsGraph}
+use Rattle.rows.specs.EdgeLaws.{edges-by-bits}
+use Rattle.rows.specs.SearchLaws.{edges-in}
+use Rattle.groups.specs.Groups.{Bare}
+use Rattle.visible.specs.Visible.{Within}
+use Rattle.reader.specs.Decoding.{graphIn, HoldsGraph}
+use Rattle.release.specs.Fill.{Copied, MarksPut}
+
+module _ (n : ℕ) {drawn hidden : List ℕ} (h : HoldsGraph n drawn hidden) (es ns : List ℕ) {es₁ ns₁ : List ℕ} (le : length es ≡ rowWords * n) (ln : length ns ≡ nodeNumbers * n) (a : Copied (length es) drawn es es₁) (w : Words es₁) (m : MarksPut n hidden ns ns₁) where
+  abbrev g : Graph
+  g = graphIn n drawn hidden
+
+  small : n ≤ maxNodes
+  small = unfold graphIn in h .proper .small
+
+  bit : (p q : ℕ) → p < n → q < 512 → edgeBit es₁ p q ≡ edgeBit drawn p q
+  unfolding edgeBit
+  bit p q hp hq = ap (λ (x : ℕ). bitAt x (q % 64)) (a .words (8 * p + q / 64) (omega (arith, le)))
+
+  edge : (p q : ℕ) → p < n → q < 512 → edgeBit es₁ p q ≡ graphIn n drawn hidden .edge p q
+  unfolding graphIn
+  edge p q hp hq = bit p q hp hq ∙ step (decide (ltb q n)) (decide (edgeBit drawn p q))
+    where
+      step : (ltb q n ≡ true) ⊎ (ltb q n ≡ false) → (edgeBit drawn p q ≡ true) ⊎ (edgeBit drawn p q ≡ false) → edgeBit drawn p q ≡ (ltb p n && (ltb q n && edgeBit drawn p q))
+      step (inl x) y = rw (lt-ltb p n hp, x)
+      step (inr x) (inl y) = absurd (omega (arith, h .outside p q hq y, ltb-false q n x))
+      step (inr x) (inr y) = rw (y, lt-ltb p n hp, x)
+
+  pub filled-edges : es₁ ≡ edgesOf (graphIn n drawn hidden)
+  unfolding graphIn
+  filled-edges = edges-by-bits g es₁ (a .size ∙ le) w (λ p q hp hq. edge p q hp hq)
+
+  same-edge : edgesIn n es₁ ≡ graphIn n drawn hidden .edge
+  same-edge = ap (edgesIn n) filled-edges ∙ size-edge
+    where
+      size-edge : edgesIn n (edgesOf (graphIn n drawn hidden)) ≡ graphIn n drawn hidden .edge
+      size-edge = unfold graphIn in edges-in (graphIn n drawn hidden) (h .proper)
+
+  abbrev with : (ℕ → ℕ → Bool) → Graph
+  with e = record { nodeCount = n; edge = e; hidden = λ p. false }
+
+  pub filled-within : Within n es₁
+  filled-within = record { small = small; edges-of = filled-edges ∙ unfold edgesOf rowOf graphIn in ap (λ (e : ℕ → ℕ → Bool). edgesOf (with e)) (sym same-edge) }
+
+  module _ {ks₁ : List ℕ} (k : ks₁ ≡ keysOf (rowsGraph n es₁)) where
+    filled-keys : ks₁ ≡ keysOf (graphIn n drawn hidden)
+    unfolding keysOf keyPair graphIn
+    filled-keys = k ∙ ap (λ (e : ℕ → ℕ → Bool). keysOf (with e)) same-edge
+
+    same : graphOf n (lent es₁ ns₁ ks₁) ≡ graphIn n drawn hidden
+    unfolding graphOf graphIn edgesIn
+    same = λ i. record { nodeCount = n; edge = same-edge i; hidden = fun-ext (λ p. mark p (decide (ltb p n))) i }
+      where
+        mark : (p : ℕ) → (ltb p n ≡ true) ⊎ (ltb p n ≡ false) → (ltb p n && eqb (nodeNumber ns₁ p 3) 1) ≡ (ltb p n && eqb (getD hidden p 0) 1)
+        mark p (inl x) = rw (m .marks p (ltb-true p n x))
+        mark p (inr x) = rw x
+
+    pub filled-bare : Bare n (lent es₁ ns₁ ks₁)
+    filled-bare = record {
+      proper = rw same (h .proper);
+      edges = filled-edges ∙ ap edgesOf (sym same);
+      keys = filled-keys ∙ ap keysOf (sym same);
+      size = m .size ∙ ln;
+      marks = λ p l. omega (arith, m .marks p l, h .marks p (omega (arith, small)));
+    }
+
+    pub filled-tables : {ns₂ : List ℕ} → ns₂ ≡ nodesOf (graphOf n (lent es₁ ns₁ ks₁)) → lent es₁ ns₂ ks₁ ≡ tablesOf (graphIn n drawn hidden)
+    unfolding tablesOf
+    filled-tables e = λ i. record { edges = filled-edges i; nodes = (e ∙ ap nodesOf same) i; keys = filled-keys i }

@@ -1,0 +1,37 @@
+// Whether bytes are a release: what they tell, released again, must give the same bytes.
+ghost use mathlib.Core.Path.{_≡_};
+ghost use lib.ListN.{length, replicate};
+ghost use Rattle.model.specs.Lists.{sameList};
+ghost use Rattle.model.specs.Release.{release};
+ghost use Rattle.reader.specs.Decoding.{HoldsGraph, graphIn};
+ghost use Rattle.release.specs.Release.{Judged};
+use crate::least_members;
+use reader::Decoded;
+use rows::Graph;
+
+// Whether the file is the release of the graph that it was decoded as.
+fn is_same(file: &[u8], edges: &[u64], hidden: &[u16], n: usize) -> bool
+    requires { ⌜ HoldsGraph n (now edges) (now hidden) × (length (now edges) ≡ 4096) × (length (now hidden) ≡ 512) ⌝ }
+    ensures { λ r. ⌜ r ≡ sameList (now (file .entry)) (release (graphIn n (now (edges .entry)) (now (hidden .entry)))) ⌝ }
+{
+    let end = Graph::ROW_WORDS * n;
+    let rows = &edges[..end];
+    let mut least = [0u16; Graph::NODES];
+    least_members(rows, hidden, n, &mut least);
+    compare::same_file(n, &least, rows, file)
+}
+
+// The graph of a release, into arrays; or that the bytes are no release.
+pub fn judge(file: &[u8], edges: &mut [u64], hidden: &mut [u16]) -> Decoded
+    requires { ⌜ (now edges ≡ replicate 4096 0) × (now hidden ≡ replicate 512 1) ⌝ }
+    ensures { λ r. ⌜ Judged (now (file .entry)) (now (edges .exit)) (now (hidden .exit)) r ⌝ }
+{
+    let told = reader::decode(file, edges, hidden);
+    let Decoded::Graph { n } = told else {
+        return Decoded::NoRelease;
+    };
+    if !is_same(file, edges, hidden, n) {
+        return Decoded::NoRelease;
+    }
+    Decoded::Graph { n }
+}

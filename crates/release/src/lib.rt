@@ -1,0 +1,114 @@
+// Releases: written, read back, asked. Each call is the model's (Calls) on every input.
+ghost use mathlib.Core.Path.{_≡_};
+ghost use lib.ListN.{length, replicate};
+ghost use Prim.Native.Nat.{_≤_};
+ghost use Rattle.model.specs.Graph.{maxNodes};
+ghost use Rattle.model.specs.Lists.{sameList};
+ghost use Rattle.model.specs.Tables.{graphOf, tablesOf};
+ghost use Rattle.model.specs.Release.{release};
+ghost use Rattle.model.specs.Calls.{fileNeighboursCall, readCall, releaseCall};
+ghost use Rattle.rows.specs.Rows.{lent};
+ghost use Rattle.visible.specs.Visible.{Drawn, markedGraph};
+ghost use Rattle.layout.specs.Truth.{Truth};
+ghost use Rattle.writer.specs.Written.{answer};
+ghost use Rattle.reader.specs.Decoding.{HoldsGraph, graphIn};
+ghost use Rattle.index.specs.Index.{listed, opened};
+ghost use Rattle.index.specs.Update.{Held};
+ghost use Rattle.release.specs.Release.{Judged, told};
+use index::Listed;
+use reader::Decoded;
+use rows::Graph;
+use writer::Written;
+
+mod asking;
+mod copies;
+mod judging;
+mod reading;
+
+// The least members of the groups of the visible nodes.
+fn least_members(edges: &[u64], hidden: &[u16], n: usize, least: &mut [u16])
+    requires { ⌜ Drawn n (now edges) (now hidden) × (n ≤ length (now least)) ⌝ }
+    ensures { λ _. ⌜ Truth (markedGraph n (now (edges .entry)) (now (hidden .entry))) (now (least .exit)) (now (edges .entry)) ⌝ }
+{
+    let mut masked = [0u64; Graph::NODES * Graph::ROW_WORDS];
+    let end = Graph::ROW_WORDS * n;
+    visible::summarise(edges, hidden, n, &mut masked[..end], least);
+}
+
+// The release of the graph that tables hold, or 18.
+fn write_visible(n: usize, edges: &[u64], nodes: &[u16], keys: &[u32], out: &mut [u8]) -> Written
+    requires { ⌜ Held n (lent (now edges) (now nodes) (now keys)) ⌝ }
+    ensures { λ r. ⌜ answer r (now (out .exit)) ≡ told (graphOf n (lent (now (edges .entry)) (now (nodes .entry)) (now (keys .entry)))) (now (out .entry)) ⌝ }
+{
+    let mut hidden = [0u16; Graph::NODES];
+    copies::take_marks(nodes, n, &mut hidden);
+    let mut least = [0u16; Graph::NODES];
+    least_members(edges, &hidden, n, &mut least);
+    writer::write(n, &least, edges, out)
+}
+
+// The release file of the visible part, and its m, g, s and length. 0, or 11, 12, 18.
+pub fn release(n: usize, edges: &[u64], nodes: &[u16], keys: &[u32], out: &mut [u8]) -> Written
+    ensures { λ r. ⌜ answer r (now (out .exit)) ≡ releaseCall n (lent (now (edges .entry)) (now (nodes .entry)) (now (keys .entry))) (now (out .entry)) ⌝ }
+{
+    let number = index::table_refusal(n, edges, nodes, keys);
+    if number != 0 {
+        return Written {
+            result: number,
+            nodes: 0,
+            groups: 0,
+            superedges: 0,
+            bytes: 0,
+        };
+    }
+    write_visible(n, edges, nodes, keys, out)
+}
+
+// A release read back into tables: hidden nodes are those missing, without edges. 0, or 11, 19, 20.
+pub fn read(n: usize, edges: &mut [u64], nodes: &mut [u16], keys: &mut [u32], file: &[u8]) -> u16
+    ensures { λ r. ⌜ opened r (lent (now (edges .exit)) (now (nodes .exit)) (now (keys .exit))) ≡ readCall n (lent (now (edges .entry)) (now (nodes .entry)) (now (keys .entry))) (now (file .entry)) ⌝ }
+{
+    if !index::right_size(n, edges, nodes, keys) {
+        return 11;
+    }
+    let mut drawn = [0u64; Graph::NODES * Graph::ROW_WORDS];
+    let mut hidden = [1u16; Graph::NODES];
+    let judged = judging::judge(file, &mut drawn, &mut hidden);
+    let Decoded::Graph { n: told } = judged else {
+        return 19;
+    };
+    if told != n {
+        return 20;
+    }
+    reading::fill(n, &drawn, &hidden, edges, nodes, keys);
+    0
+}
+
+// The neighbours of p, asked of a release, ascending, and their count. 0, or 19, 14 (out of range or hidden), 18.
+pub fn file_neighbours(file: &[u8], p: u16, out: &mut [u16]) -> Listed
+    ensures { λ r. ⌜ listed (r .result) (r .count) (now (out .exit)) ≡ fileNeighboursCall (now (file .entry)) p (now (out .entry)) ⌝ }
+{
+    let mut drawn = [0u64; Graph::NODES * Graph::ROW_WORDS];
+    let mut hidden = [1u16; Graph::NODES];
+    let judged = judging::judge(file, &mut drawn, &mut hidden);
+    let Decoded::Graph { n } = judged else {
+        return Listed {
+            result: 19,
+            count: 0,
+        };
+    };
+    let node = p as usize;
+    if node >= n {
+        return Listed {
+            result: 14,
+            count: 0,
+        };
+    }
+    if hidden[node] == 1 {
+        return Listed {
+            result: 14,
+            count: 0,
+        };
+    }
+    asking::answer(&drawn, n, node, out)
+}

@@ -1,0 +1,5 @@
+pub mod Grammar
+pub mod NumberLaws
+pub mod PieceLaws
+pub mod LineLaws
+pub mod ParseLaws

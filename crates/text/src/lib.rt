@@ -1,0 +1,218 @@
+// The program's input: n on the first line, then a line for each change.
+use rows::Graph;
+ghost use mathlib.Core.Path.{_≡_};
+ghost use mathlib.Core.List.{[], _∷_};
+ghost use Prim.Native.Nat.{_+_, _*_, _≤_, _<_};
+ghost use lib.ListN.{length, drop};
+ghost use Rattle.model.specs.Graph.{maxUpdates};
+ghost use Rattle.model.specs.Program.{edgeLine, inputOf, lineOf, linesFrom, markLine, pieces};
+ghost use Rattle.layout.specs.Wrote.{Wrote};
+ghost use Rattle.text.specs.Grammar.{Told, digitOf, edgeChange, lineIn, markChange, numberOf, shape, upTo};
+
+// Longer input is refused.
+pub const INPUT_BYTES: usize = 65536;
+
+// A number of the input, or none.
+pub enum Number {
+    Value(u16),
+    NoNumber,
+}
+
+// A line after the first: a change, or an ill-formed line.
+pub enum Line {
+    Change { kind: u16, u: u16, v: u16 },
+    NoChange,
+}
+
+// The whole input: refused at a line, or n and as many changes.
+pub enum Parsed {
+    Refused { line: usize },
+    Accepted { n: usize, count: usize },
+}
+
+// How many bytes stand before the first `separator`; all of them if there is none.
+fn find(s: &[u8], separator: u8) -> usize
+    ensures { λ r. ⌜ r ≡ upTo separator (now (s .entry)) ⌝ }
+{
+    let mut i = 0;
+    while i < s.len() {
+        if s[i] == separator {
+            return i;
+        }
+        i += 1;
+    }
+    i
+}
+
+// A digit's worth; 10 of any other byte.
+fn digit(b: u8) -> usize
+    ensures { λ r. ⌜ r ≡ digitOf b ⌝ }
+{
+    if b < b'0' {
+        return 10;
+    }
+    if b > b'9' {
+        return 10;
+    }
+    (b - b'0') as usize
+}
+
+// Whether s has 1 to 5 bytes and no zero leads more.
+fn has_shape(s: &[u8]) -> bool
+    ensures { λ r. ⌜ r ≡ shape (now (s .entry)) ⌝ }
+{
+    if s.len() == 0 {
+        return false;
+    }
+    if s.len() > 5 {
+        return false;
+    }
+    if s.len() == 1 {
+        return true;
+    }
+    s[0] != b'0'
+}
+
+// The number that the whole of s is: 1 to 5 digits, no leading zero, at most 65,535.
+fn read_number(s: &[u8]) -> Number
+    ensures { λ r. ⌜ r ≡ numberOf (now (s .entry)) ⌝ }
+{
+    if !has_shape(s) {
+        return Number::NoNumber;
+    }
+    let mut value = 0;
+    let mut i = 0;
+    while i < s.len() {
+        let d = digit(s[i]);
+        if d > 9 {
+            return Number::NoNumber;
+        }
+        value = 10 * value + d;
+        if value > 65535 {
+            return Number::NoNumber;
+        }
+        i += 1;
+    }
+    Number::Value(value as u16)
+}
+
+// An insertion or deletion of the edge between two nodes, if both numbers are there.
+fn edge_change(kind: u16, first: Number, second: Number) -> Line
+    ensures { λ r. ⌜ r ≡ edgeChange kind first second ⌝ }
+{
+    let Number::Value(u) = first else {
+        return Line::NoChange;
+    };
+    let Number::Value(v) = second else {
+        return Line::NoChange;
+    };
+    Line::Change { kind, u, v }
+}
+
+// A node hidden or revealed, if its number is there.
+fn mark_change(kind: u16, first: Number) -> Line
+    ensures { λ r. ⌜ r ≡ markChange kind first ⌝ }
+{
+    let Number::Value(u) = first else {
+        return Line::NoChange;
+    };
+    Line::Change { kind, u, v: 0 }
+}
+
+// What follows the letter and its space in a line that inserts or deletes an edge: two numbers.
+fn edge_line(kind: u16, s: &[u8]) -> Line
+    ensures { λ r. ⌜ lineIn r ≡ edgeLine kind ([] ∷ pieces 0x20 (now (s .entry))) ⌝ }
+{
+    let end = find(s, b' ');
+    if end == s.len() {
+        return Line::NoChange;
+    }
+    edge_change(kind, read_number(&s[..end]), read_number(&s[end + 1..]))
+}
+
+// What follows the letter and its space in a line that hides or reveals a node: one number.
+fn mark_line(kind: u16, s: &[u8]) -> Line
+    ensures { λ r. ⌜ lineIn r ≡ markLine kind ([] ∷ pieces 0x20 (now (s .entry))) ⌝ }
+{
+    mark_change(kind, read_number(s))
+}
+
+// A line after the first, without its line feed.
+fn read_line(s: &[u8]) -> Line
+    ensures { λ r. ⌜ lineIn r ≡ lineOf (now (s .entry)) ⌝ }
+{
+    if find(s, b' ') != 1 {
+        return Line::NoChange;
+    }
+    if s.len() == 1 {
+        return Line::NoChange;
+    }
+    let letter = s[0];
+    match letter {
+        b't' => edge_line(1, &s[2..]),
+        b'u' => edge_line(2, &s[2..]),
+        b'w' => mark_line(3, &s[2..]),
+        b'o' => mark_line(4, &s[2..]),
+        _ => Line::NoChange,
+    }
+}
+
+// A change into the batch, after `count` others.
+fn put_change(batch: &mut [u16], count: usize, kind: u16, u: u16, v: u16)
+    requires { ⌜ (count < maxUpdates) × (3 * maxUpdates ≤ length (now batch)) ⌝ }
+    ensures { λ _. ⌜ Wrote (now (batch .entry)) (3 * count) (kind ∷ u ∷ v ∷ []) (now (batch .exit)) (3 * (count + 1)) ⌝ }
+{
+    let at = 3 * count;
+    batch[at] = kind;
+    batch[at + 1] = u;
+    batch[at + 2] = v;
+}
+
+// The lines after the first, from the place `from` on.
+fn read_lines(input: &[u8], from: usize, n: usize, batch: &mut [u16]) -> Parsed
+    requires { ⌜ (from ≤ length (now input)) × (3 * maxUpdates ≤ length (now batch)) ⌝ }
+    ensures { λ r. ⌜ Told (linesFrom n 2 (pieces 0x0A (drop from (now (input .entry))))) (now (batch .entry)) (now (batch .exit)) r ⌝ }
+{
+    let mut at = from;
+    let mut count = 0;
+    while at < input.len() {
+        let end = at + find(&input[at..], b'\n');
+        if end == input.len() {
+            return Parsed::Refused { line: count + 2 };
+        }
+        if count == Graph::UPDATES {
+            return Parsed::Refused { line: count + 2 };
+        }
+        let line = read_line(&input[at..end]);
+        let Line::Change { kind, u, v } = line else {
+            return Parsed::Refused { line: count + 2 };
+        };
+        put_change(batch, count, kind, u, v);
+        count += 1;
+        at = end + 1;
+    }
+    Parsed::Accepted { n, count }
+}
+
+// The program's whole input. Its changes go to the batch, three numbers for each, which has room for 4,096 of them.
+pub fn parse(input: &[u8], batch: &mut [u16]) -> Parsed
+    requires { ⌜ 3 * maxUpdates ≤ length (now batch) ⌝ }
+    ensures { λ r. ⌜ Told (inputOf (now (input .entry))) (now (batch .entry)) (now (batch .exit)) r ⌝ }
+{
+    if input.len() > INPUT_BYTES {
+        return Parsed::Refused { line: 0 };
+    }
+    let end = find(input, b'\n');
+    if end == input.len() {
+        return Parsed::Refused { line: 1 };
+    }
+    let first = read_number(&input[..end]);
+    let Number::Value(value) = first else {
+        return Parsed::Refused { line: 1 };
+    };
+    let n = value as usize;
+    if n > Graph::NODES {
+        return Parsed::Refused { line: 1 };
+    }
+    read_lines(input, end + 1, n, batch)
+}

@@ -1,0 +1,4 @@
+pub mod Visible
+pub mod MaskLaws
+pub mod KeySumLaws
+pub mod LeastLaws

@@ -1,0 +1,187 @@
+-- Masked words hold the edges between visible nodes.
+use mathlib.Core.Path.{_≡_, refl, sym, ap, ap₂, _∙_}
+use mathlib.Core.Bool.{Bool, true, false, not, cond, _&&_, and-false}
+use mathlib.Core.List.{List}
+use mathlib.Core.Logic.{_⊎_, inl, inr}
+use Prim.Native.Nat.{ℕ, _+_, _*_, _/_, _%_, _^_, _≤_, _<_}
+use native.Mathlib.Omega.{arith}
+use lib.Bits.{and-le-r, bitAnd}
+use lib.Dec.{eqb, ltb}
+use lib.ListN.{List·getD-eq-default, getD, length, length-set, set}
+use lib.Pow.{pow-pos}
+use lib.Seq.{getD-set-other, getD-set-same}
+use borrow.Author.Tests.{eqb-false, eqb-true, le-ltb, lt-ltb, ltb-false, ltb-true}
+use Rattle.model.specs.Graph.{Graph, Proper, rowWords}
+use Rattle.model.specs.Grouping.{least, similar}
+use Rattle.model.specs.Tables.{bitAt, edgeBit, edgesOf, keysOf}
+use Rattle.model.specs.Release.{isVisible, visibleEdge, visiblePart}
+use Rattle.model.specs.History.{Alike}
+use Rattle.model.specs.TestLaws.{and-fst, decide}
+use Rattle.model.specs.TableLaws.{simple-test}
+use Rattle.model.specs.ReleaseLaws.{alike-edges, alike-visible}
+use Rattle.model.specs.ReadBackLaws.{visible-proper}
+use Rattle.layout.specs.Truth.{Truth}
+use Rattle.layout.specs.WordLaws.{Marking, bit-and}
+use Rattle.rows.specs.Rows.{Words}
+use Rattle.rows.specs.Search.{Ready, edgesIn, graphIn}
+use Rattle.rows.specs.EdgeLaws.{edges-by-bits}
+use Rattle.rows.specs.SearchLaws.{edges-in, ready}
+use Rattle.checks.specs.WalkLaws.{bit-zero}
+use Rattle.visible.specs.Visible.{Apart, Drawn, Within, keptWord, markedGraph, maskedWord, shown}
+
+pub visible-is : (n : ℕ) (edges marks : List ℕ) (p : ℕ) → isVisible (markedGraph n edges marks) p ≡ (ltb p n && shown marks p)
+unfolding isVisible markedGraph shown
+visible-is n edges marks p = once (ltb p n) (eqb (getD marks p 0) 1)
+  where
+    once : (x w : Bool) → (x && not (x && w)) ≡ (x && not w)
+    once true w = refl
+    once false w = refl
+
+-- the branches of a masked word
+pub kept-shown : (mask marks : List ℕ) (p w : ℕ) (b : Bool) → b ≡ shown marks p → b ≡ true → getD mask w 0 ≡ keptWord mask marks p w
+unfolding keptWord
+kept-shown mask marks p w b e t = rw (sym e ∙ t)
+
+pub kept-hidden : (mask marks : List ℕ) (p w : ℕ) (b : Bool) → b ≡ shown marks p → b ≡ false → 0 ≡ keptWord mask marks p w
+unfolding keptWord
+kept-hidden mask marks p w b e t = rw (sym e ∙ t)
+
+-- the first i words are masked
+pub record Masking (edges mask marks : List ℕ) (i : ℕ) (t after : List ℕ) : Type 0 where
+  pub size : length after ≡ length t
+  pub words : (j : ℕ) → j < i → getD after j 0 ≡ maskedWord edges mask marks j
+
+pub masking-start : (edges mask marks t : List ℕ) → Masking edges mask marks 0 t t
+masking-start edges mask marks t = record { size = refl; words = λ j h. absurd (omega arith) }
+
+pub masking-more : {edges mask marks : List ℕ} {i x : ℕ} {t t₁ : List ℕ} → Masking edges mask marks i t t₁ → i < length t → x ≡ keptWord mask marks (i / 8) (i % 8) → Masking edges mask marks (i + 1) t (set t₁ i (bitAnd (getD edges i 0) x))
+unfolding maskedWord
+masking-more {edges} {mask} {marks} {i} {x} {t} {t₁} m l e = record { size = length-set t₁ i (bitAnd (getD edges i 0) x) ∙ m .size; words = λ j h. step j h (decide (eqb j i)) }
+  where
+    step : (j : ℕ) → j < i + 1 → (eqb j i ≡ true) ⊎ (eqb j i ≡ false) → getD (set t₁ i (bitAnd (getD edges i 0) x)) j 0 ≡ bitAnd (getD edges j 0) (keptWord mask marks (j / 8) (j % 8))
+    step j h (inl s) = rw (eqb-true j i s) (getD-set-same t₁ i (bitAnd (getD edges i 0) x) 0 (omega (arith, m .size)) ∙ ap (bitAnd (getD edges i 0)) e)
+    step j h (inr s) =
+        let d : j ≡ i → ⊥ = eqb-false j i s in
+        getD-set-other t₁ i j (bitAnd (getD edges i 0) x) 0 d ∙ m .words j (omega arith)
+
+kept-lt : (mask marks : List ℕ) (p w : ℕ) → ((i : ℕ) → getD mask i 0 < 2 ^ 64) → keptWord mask marks p w < 2 ^ 64
+unfolding keptWord
+kept-lt mask marks p w h = step (shown marks p)
+  where
+    step : (b : Bool) → cond b (getD mask w 0) 0 < 2 ^ 64
+    step true = h w
+    step false = pow-pos 64
+
+kept-bit : (mask marks : List ℕ) (p q : ℕ) → bitAt (keptWord mask marks p (q / 64)) (q % 64) ≡ (shown marks p && edgeBit mask 0 q)
+unfolding keptWord edgeBit
+kept-bit mask marks p q = step (shown marks p)
+  where
+    step : (b : Bool) → bitAt (cond b (getD mask (q / 64) 0) 0) (q % 64) ≡ (b && bitAt (getD mask (8 * 0 + q / 64) 0) (q % 64))
+    step true = let z : 8 * 0 + q / 64 ≡ q / 64 = omega arith in rw z
+    step false = bit-zero (q % 64)
+
+module _ {n : ℕ} {edges marks : List ℕ} (d : Drawn n edges marks) where
+  abbrev g : Graph
+  g = markedGraph n edges marks
+
+  module _ {mask t after : List ℕ} {i : ℕ} (size : length t ≡ rowWords * n) (chosen : Marking (shown marks) mask n) (m : Masking edges mask marks i t after) (all : rowWords * n ≤ i) where
+    word-lt : (j : ℕ) → getD after j 0 < 2 ^ 64
+    unfolding maskedWord
+    word-lt j = step (decide (ltb j (8 * n)))
+      where
+        step : (ltb j (8 * n) ≡ true) ⊎ (ltb j (8 * n) ≡ false) → getD after j 0 < 2 ^ 64
+        step (inl s) =
+            let l : j < 8 * n = ltb-true j (8 * n) s in
+            omega (arith, m .words j (omega arith), and-le-r (getD edges j 0) (keptWord mask marks (j / 8) (j % 8)), kept-lt mask marks (j / 8) (j % 8) (chosen .words))
+        step (inr s) = rw (List·getD-eq-default after 0 {n = j} (omega (arith, m .size, ltb-false j (8 * n) s))) (pow-pos 64)
+
+    bit-is : (p q : ℕ) → p < n → q < 512 → edgeBit after p q ≡ visibleEdge (markedGraph n edges marks) p q
+    unfolding visibleEdge markedGraph edgesIn edgeBit maskedWord
+    bit-is p q hp hq = word ∙ rw (visible-is n edges marks p, visible-is n edges marks q, lt-ltb p n hp) (sorted (edgeBit edges p q) (shown marks p) (ltb q n) (shown marks q))
+      where
+        sorted : (b s l v : Bool) → (b && (s && (l && v))) ≡ (s && ((l && v) && (l && b)))
+        sorted true true true true = refl
+        sorted true true true false = refl
+        sorted true true false v = refl
+        sorted true false l v = refl
+        sorted false true true true = refl
+        sorted false true true false = refl
+        sorted false true false v = refl
+        sorted false false l v = refl
+
+        kept : bitAt (keptWord mask marks ((8 * p + q / 64) / 8) ((8 * p + q / 64) % 8)) (q % 64) ≡ (shown marks p && (ltb q n && shown marks q))
+        kept =
+            let x : (8 * p + q / 64) / 8 ≡ p = omega arith in
+            let y : (8 * p + q / 64) % 8 ≡ q / 64 = omega arith in
+            ap₂ (λ (a b : ℕ). bitAt (keptWord mask marks a b) (q % 64)) x y ∙ kept-bit mask marks p q ∙ ap (λ (b : Bool). shown marks p && b) (chosen .bits q hq)
+
+        word : edgeBit after p q ≡ (edgeBit edges p q && (shown marks p && (ltb q n && shown marks q)))
+        word =
+            ap (λ (x : ℕ). bitAt x (q % 64)) (m .words (8 * p + q / 64) (omega arith))
+            ∙ bit-and (getD edges (8 * p + q / 64) 0) (keptWord mask marks ((8 * p + q / 64) / 8) ((8 * p + q / 64) % 8)) (q % 64)
+            ∙ ap (λ (b : Bool). edgeBit edges p q && b) kept
+
+    pub masking-done : after ≡ edgesOf (visiblePart (markedGraph n edges marks))
+    unfolding visiblePart markedGraph
+    masking-done = edges-by-bits (visiblePart g) after (m .size ∙ size) word-lt bit-is
+
+  part-proper : Proper (visiblePart (markedGraph n edges marks))
+  part-proper = visible-proper g (d .proper .small) (simple-test g (d .proper))
+
+  -- what the masked table tells
+  module _ {masked : List ℕ} (e : masked ≡ edgesOf (visiblePart (markedGraph n edges marks))) where
+    masked-edge : edgesIn n masked ≡ visibleEdge (markedGraph n edges marks)
+    unfolding visiblePart markedGraph
+    masked-edge = ap (edgesIn n) e ∙ edges-in (visiblePart g) part-proper
+
+    pub masked-within : Within n masked
+    unfolding visiblePart markedGraph
+    masked-within = rw e (record { small = d .small; edges-of = ready (visiblePart g) part-proper .edges-of })
+
+    pub masked-ready : {keys : List ℕ} → keys ≡ keysOf (graphIn n masked) → Ready n masked keys
+    masked-ready f = record { small = d .small; loops = λ p. ap (λ (h : ℕ → ℕ → Bool). h p p) masked-edge ∙ loop p (decide (isVisible g p)); edges-of = masked-within .edges-of; keys-of = f }
+      where
+        loop : (p : ℕ) → (isVisible g p ≡ true) ⊎ (isVisible g p ≡ false) → visibleEdge g p p ≡ false
+        loop p (inl v) = unfold visibleEdge in rw (v, d .proper .irreflexive p)
+        loop p (inr v) = unfold visibleEdge in rw v
+
+    hidden-edge : (p q : ℕ) → shown marks q ≡ false → visibleEdge (markedGraph n edges marks) p q ≡ false
+    unfolding visibleEdge
+    hidden-edge p q h = rw (visible-is n edges marks q, h, and-false (ltb q n)) (and-false (isVisible g p))
+
+    pub masked-apart : Apart n masked marks
+    unfolding markedGraph
+    masked-apart = record {
+      proper = record {
+        small = d .small;
+        symmetric = λ p q. rw masked-edge (unfold visiblePart in part-proper .symmetric p q);
+        irreflexive = λ p. rw masked-edge (unfold visiblePart in part-proper .irreflexive p);
+        inside = λ p q t. unfold edgesIn in ltb-true p n (and-fst (ltb p n) _ t);
+        held = λ p t. ltb-true p n (and-fst (ltb p n) _ t);
+      };
+      marked = d .marked;
+      none = λ p q h. rw masked-edge (hidden-edge p q h);
+    }
+
+    masked-alike : Alike (markedGraph n masked marks) (markedGraph n edges marks)
+    unfolding markedGraph
+    masked-alike = record { nodeCount = refl; hidden = λ p h. refl; edge = λ p q x y. rw masked-edge (both p q (told p x) (told q y)) }
+      where
+        told : (p : ℕ) → isVisible (markedGraph n masked marks) p ≡ true → isVisible (markedGraph n edges marks) p ≡ true
+        told p x = visible-is n edges marks p ∙ sym (visible-is n masked marks p) ∙ x
+
+        both : (p q : ℕ) → isVisible (markedGraph n edges marks) p ≡ true → isVisible (markedGraph n edges marks) q ≡ true → visibleEdge (markedGraph n edges marks) p q ≡ edgesIn n edges p q
+        both p q x y = unfold visibleEdge in rw (x, y)
+
+    pub masked-truth : {lst : List ℕ} → Truth (markedGraph n masked marks) lst masked → Truth (markedGraph n edges marks) lst masked
+    masked-truth {lst} t = record {
+      proper = d .proper;
+      size = unfold markedGraph in t .size;
+      rows = unfold markedGraph in t .rows;
+      visible-least = λ p h. t .visible-least p (seen p ∙ h) ∙ ap₂ (λ (vs : List ℕ) (f : ℕ → ℕ → Bool). least vs (similar vs f) p) (alike-visible _ _ masked-alike) (alike-edges _ _ masked-alike);
+      hidden-least = λ p l h. unfold markedGraph in t .hidden-least p l (seen p ∙ h);
+      edge-is = λ p q x y. t .edge-is p q (seen p ∙ x) (seen q ∙ y) ∙ ap (λ (f : ℕ → ℕ → Bool). f p q) (alike-edges _ _ masked-alike);
+    }
+      where
+        seen : (p : ℕ) → isVisible (markedGraph n masked marks) p ≡ isVisible (markedGraph n edges marks) p
+        seen p = visible-is n masked marks p ∙ sym (visible-is n edges marks p)
