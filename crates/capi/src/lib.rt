@@ -1,9 +1,10 @@
 // The calls for C and Rust: each does what the library's call does, and equals the model's call on every input.
 ghost use mathlib.Core.Path.{_≡_};
 ghost use mathlib.Core.Bool.{cond};
-ghost use Rattle.model.specs.Calls.{applyCall, groupCall, neighboursCall, openCall, tiedCall};
+ghost use Rattle.model.specs.Calls.{applyCall, fileNeighboursCall, groupCall, neighboursCall, openCall, readCall, releaseCall, tiedCall};
 ghost use Rattle.rows.specs.Rows.{lent};
 ghost use Rattle.index.specs.Index.{applied, grouped, listed, opened};
+ghost use Rattle.capi.specs.Exported.{releasedWith};
 
 // A graph of n nodes without edges, none hidden.
 #[no_mangle]
@@ -95,5 +96,57 @@ pub extern "C" fn tegmulos_group(
     *least = found.least;
     *kind = found.kind;
     *size = found.size;
+    found.result
+}
+
+// The release file of the visible part: its nodes, groups, superedges and bytes.
+#[no_mangle]
+pub extern "C" fn tegmulos_release(
+    n: usize,
+    edges: &[u64],
+    nodes: &[u16],
+    keys: &[u32],
+    out: &mut [u8],
+    m: &mut u16,
+    g: &mut u16,
+    s: &mut u32,
+    length: &mut u32,
+) -> u16
+    ensures { λ r. ⌜ releasedWith r (now (m .exit)) (now (g .exit)) (now (s .exit)) (now (length .exit)) (now (out .exit)) ≡ releaseCall n (lent (now (edges .entry)) (now (nodes .entry)) (now (keys .entry))) (now (out .entry)) ⌝ }
+{
+    let written = release::release(n, edges, nodes, keys, out);
+    *m = written.nodes;
+    *g = written.groups;
+    *s = written.superedges;
+    *length = written.bytes;
+    written.result
+}
+
+// The tables of the graph that a release file holds.
+#[no_mangle]
+pub extern "C" fn tegmulos_read(
+    n: usize,
+    edges: &mut [u64],
+    nodes: &mut [u16],
+    keys: &mut [u32],
+    file: &[u8],
+) -> u16
+    ensures { λ r. ⌜ opened r (lent (now (edges .exit)) (now (nodes .exit)) (now (keys .exit))) ≡ readCall n (lent (now (edges .entry)) (now (nodes .entry)) (now (keys .entry))) (now (file .entry)) ⌝ }
+{
+    release::read(n, edges, nodes, keys, file)
+}
+
+// The neighbours of p in a release file, ascending, and their count.
+#[no_mangle]
+pub extern "C" fn tegmulos_file_neighbours(
+    file: &[u8],
+    p: u16,
+    out: &mut [u16],
+    count: &mut u16,
+) -> u16
+    ensures { λ r. ⌜ listed r (now (count .exit)) (now (out .exit)) ≡ fileNeighboursCall (now (file .entry)) p (now (out .entry)) ⌝ }
+{
+    let found = release::file_neighbours(file, p, out);
+    *count = found.count;
     found.result
 }
