@@ -1,5 +1,5 @@
 -- Masked words hold the edges between visible nodes.
-use mathlib.Core.Path.{_≡_, refl, sym, ap, ap₂, _∙_, fun-ext}
+use mathlib.Core.Path.{_≡_, refl, sym, ap, ap₂, _∙_}
 use mathlib.Core.Bool.{Bool, true, false, not, cond, _&&_, and-false}
 use mathlib.Core.List.{List}
 use mathlib.Core.Logic.{_⊎_, inl, inr}
@@ -11,13 +11,13 @@ use lib.ListN.{List·getD-eq-default, getD, length, length-set, set}
 use lib.Pow.{pow-pos}
 use lib.Seq.{getD-set-other, getD-set-same}
 use borrow.Author.Tests.{eqb-false, eqb-true, lt-ltb, ltb-false, ltb-true}
-use Rattle.model.specs.Graph.{Graph, Proper, maxNodes, rowWords}
+use Rattle.model.specs.Graph.{Graph, Proper, rowWords}
 use Rattle.model.specs.Grouping.{least, similar}
-use Rattle.model.specs.Tables.{Tables, bitAt, edgeBit, edgesOf, graphOf, holds, nodeNumber}
+use Rattle.model.specs.Tables.{bitAt, edgeBit, edgesOf}
 use Rattle.model.specs.Release.{isVisible, visibleEdge, visiblePart}
 use Rattle.model.specs.History.{Alike}
 use Rattle.model.specs.TestLaws.{and-fst, decide}
-use Rattle.model.specs.TableLaws.{held-proper, simple-test}
+use Rattle.model.specs.TableLaws.{simple-test}
 use Rattle.model.specs.ReleaseLaws.{alike-edges, alike-visible}
 use Rattle.model.specs.ReadBackLaws.{visible-proper}
 use Rattle.layout.specs.Truth.{Truth}
@@ -178,16 +178,3 @@ module _ {n : ℕ} {edges marks : List ℕ} (d : Drawn n edges marks) where
       where
         seen : (p : ℕ) → isVisible (markedGraph n masked marks) p ≡ isVisible (markedGraph n edges marks) p
         seen p = visible-is n masked marks p ∙ sym (visible-is n edges marks p)
-
--- marks copied from a node table: what is drawn is the graph that the tables are read as
-module _ (n : ℕ) (t : Tables) (marks : List ℕ) (copied : (p : ℕ) → p < n → getD marks p 0 ≡ nodeNumber (t .nodes) p 3) where
-  pub marked-tables : markedGraph n (t .edges) marks ≡ graphOf n t
-  unfolding markedGraph graphOf edgesIn
-  marked-tables = λ i. record { nodeCount = n; edge = λ p q. ltb p n && (ltb q n && edgeBit (t .edges) p q); hidden = fun-ext (λ p. at p (decide (ltb p n))) i }
-    where
-      at : (p : ℕ) → (ltb p n ≡ true) ⊎ (ltb p n ≡ false) → (ltb p n && eqb (getD marks p 0) 1) ≡ (ltb p n && eqb (nodeNumber (t .nodes) p 3) 1)
-      at p (inl h) = rw (copied p (ltb-true p n h))
-      at p (inr h) = rw h
-
-  pub drawn-tables : holds n t ≡ true → n ≤ maxNodes → length (t .edges) ≡ rowWords * n → n ≤ length marks → Drawn n (t .edges) marks
-  drawn-tables h small size marked = record { small = small; proper = rw marked-tables (held-proper n t h small); size = size; marked = marked }
