@@ -1,0 +1,55 @@
+/* Each of 0 1 2 tied to each of 3 4 5; 3 is hidden; the visible part is released, read back and asked. */
+#include <stdio.h>
+
+#include "tegmulos.h"
+
+enum { N = 6, UPDATES = 10 };
+
+static uint64_t edges[8 * N];
+static uint16_t nodes[4 * N];
+static uint32_t keys[2 * N];
+
+/* The nine edges, and one node hidden. */
+static const uint16_t batch[3 * UPDATES] = {
+    1, 0, 3, 1, 0, 4, 1, 0, 5, 1, 1, 3, 1, 1, 4, 1, 1, 5, 1, 2, 3, 1, 2, 4, 1, 2, 5, 3, 3, 0,
+};
+
+static void print_list(const char *name, const uint16_t *list, size_t count) {
+    printf("%s:", name);
+    for (size_t i = 0; i < count; i++) {
+        printf(" %u", list[i]);
+    }
+    printf("\n");
+}
+
+int main(void) {
+    int16_t answers[UPDATES];
+    uint8_t file[128];
+    uint16_t out[N], count, m, g, least, kind, size, yes;
+    uint32_t s, length;
+
+    printf("open: %u\n", tegmulos_open(N, edges, 8 * N, nodes, 4 * N, keys, 2 * N));
+    printf("apply: %u\n", tegmulos_apply(N, edges, 8 * N, nodes, 4 * N, keys, 2 * N, batch, 3 * UPDATES, answers, UPDATES));
+    printf("answers:");
+    for (int i = 0; i < UPDATES; i++) {
+        printf(" %d", answers[i]);
+    }
+    printf("\n");
+    tegmulos_tied(N, edges, 8 * N, nodes, 4 * N, keys, 2 * N, 0, 3, &yes);
+    printf("0 and 3 tied: %u\n", yes);
+    tegmulos_group(N, edges, 8 * N, nodes, 4 * N, keys, 2 * N, 4, &least, &kind, &size);
+    printf("group of 4: least %u kind %u size %u\n", least, kind, size);
+    tegmulos_neighbours(N, edges, 8 * N, nodes, 4 * N, keys, 2 * N, 0, out, N, &count);
+    print_list("neighbours of 0", out, count);
+    printf("release: %u\n",
+           tegmulos_release(N, edges, 8 * N, nodes, 4 * N, keys, 2 * N, file, sizeof file, &m, &g, &s, &length));
+    printf("visible %u groups %u superedges %u bytes %u\n", m, g, s, length);
+    for (uint32_t i = 0; i < length; i++) {
+        printf("%02X%c", file[i], i + 1 == length ? '\n' : ' ');
+    }
+    printf("read: %u\n", tegmulos_read(N, edges, 8 * N, nodes, 4 * N, keys, 2 * N, file, length));
+    tegmulos_file_neighbours(file, length, 0, out, N, &count);
+    print_list("neighbours of 0 in the file", out, count);
+    printf("of 3, hidden: %u\n", tegmulos_file_neighbours(file, length, 3, out, N, &count));
+    return 0;
+}

@@ -1,0 +1,38 @@
+//! Each of 0 1 2 tied to each of 3 4 5; 3 is hidden; the visible part is released, read back and asked.
+
+#[path = "tegmulos.rs"]
+mod tegmulos;
+
+use tegmulos::{file_neighbours, Index, Refusal, Update};
+
+fn main() -> Result<(), Refusal> {
+    let mut index = Index::open(6)?;
+    let mut updates = Vec::new();
+    for u in 0..3 {
+        for v in 3..6 {
+            updates.push(Update::Insert(u, v));
+        }
+    }
+    updates.push(Update::Hide(3));
+    println!("answers: {:?}", index.apply(&updates)?);
+    println!("again: {:?}", index.apply(&[Update::Insert(0, 3), Update::Delete(0, 1), Update::Reveal(0)])?);
+    println!("0 and 3 tied: {}", index.tied(0, 3)?);
+    println!("group of 4: {:?}", index.group(4)?);
+    println!("neighbours of 0: {:?}", index.neighbours(0)?);
+    let release = index.release()?;
+    println!("visible {} groups {} superedges {} bytes {}", release.nodes, release.groups, release.superedges, release.file.len());
+    println!("{:02X?}", release.file);
+    let read = Index::read(6, &release.file)?;
+    println!("released again, the same: {}", read.release()? == release);
+    println!("neighbours of 0 in the file: {:?}", file_neighbours(&release.file, 0)?);
+    index.apply(&[Update::Delete(0, 3)])?;
+    println!("group of 0 without its edge to the hidden 3: {:?}", index.group(0)?);
+    println!("the release, the same: {}", index.release()? == release);
+    if let Err(refusal) = file_neighbours(&release.file, 3) {
+        println!("of 3, hidden: {}", refusal);
+    }
+    if let Err(refusal) = Index::open(513) {
+        println!("of 513 nodes: {}", refusal);
+    }
+    Ok(())
+}

@@ -1,0 +1,90 @@
+/* The calls of the library, for C. Link with libcapi.a, which `rt staticlib capi` writes to target/staticlib.
+ *
+ * Every call works on tables that the caller lends, for a graph of n nodes (at most 512):
+ *   edges  8 * n words: node p's row is the eight words from word 8 * p on, and node q is bit q % 64 of word q / 64 of the row
+ *   nodes  4 * n numbers: for each node the least member of its group, the next greater (the greatest is followed by the least),
+ *          the previous one, and the mark, 1 for a hidden node
+ *   keys   2 * n numbers: for each node the open and the closed key
+ *
+ * A call returns 0 if it was done, or the number of its refusal. A refused call leaves every table and buffer as it was, and sets
+ * every number that it hands back to 0. Buffers may be longer than needed: what lies beyond is left as it was. A pointer to a table
+ * or a buffer of length 0 must still be aligned and not NULL; tables and buffers must not overlap.
+ */
+#ifndef TEGMULOS_H
+#define TEGMULOS_H
+
+#include <stddef.h>
+#include <stdint.h>
+
+#ifdef __cplusplus
+extern "C" {
+#endif
+
+enum {
+    TEGMULOS_NODES = 512,        /* nodes of a graph */
+    TEGMULOS_UPDATES = 4096,     /* updates of a batch */
+    TEGMULOS_ROW_WORDS = 8,      /* words of a row */
+    TEGMULOS_NODE_NUMBERS = 4,   /* numbers of a node */
+    TEGMULOS_FILE_BYTES = 787978 /* no release is longer */
+};
+
+/* The kinds of an update. */
+enum { TEGMULOS_INSERT = 1, TEGMULOS_DELETE = 2, TEGMULOS_HIDE = 3, TEGMULOS_REVEAL = 4 };
+
+/* The kinds of a group. */
+enum { TEGMULOS_SINGLETON = 0, TEGMULOS_INDEPENDENT = 1, TEGMULOS_CLIQUE = 2 };
+
+/* Results and answers. */
+enum {
+    TEGMULOS_DONE = 0,
+    TEGMULOS_WRONG_SIZE = 11,    /* n over 512, a table of the wrong length, or a batch not in threes or too long */
+    TEGMULOS_NO_GRAPH = 12,      /* the tables hold no graph */
+    TEGMULOS_NO_KIND = 13,       /* an update of no kind from 1 to 4 */
+    TEGMULOS_NO_NODE = 14,       /* a node n or above; asked of a file, also a hidden one */
+    TEGMULOS_SAME_NODE = 15,     /* one node where two are asked; a second number that is not 0 in a hide or reveal */
+    TEGMULOS_ALREADY = 16,       /* the edge is there; the node is hidden */
+    TEGMULOS_NOT_THERE = 17,     /* the edge is not there; the node is visible */
+    TEGMULOS_SHORT_BUFFER = 18,  /* a buffer shorter than needed */
+    TEGMULOS_NO_RELEASE = 19,    /* the bytes are no graph's release */
+    TEGMULOS_OTHER_SIZE = 20     /* a release, but for another n */
+};
+
+/* A graph of n nodes without edges, none hidden. 0, or 11. */
+uint16_t tegmulos_open(size_t n, uint64_t *edges, size_t edges_len, uint16_t *nodes, size_t nodes_len, uint32_t *keys,
+                       size_t keys_len);
+
+/* A batch of updates, three numbers each: kind, u, v (v is 0 to hide or reveal). Each writes one answer: the number of its refusal,
+ * or how many groups more there are, from -2 to 2. 0, or 11, 12, 18. */
+uint16_t tegmulos_apply(size_t n, uint64_t *edges, size_t edges_len, uint16_t *nodes, size_t nodes_len, uint32_t *keys,
+                        size_t keys_len, const uint16_t *batch, size_t batch_len, int16_t *answers, size_t answers_len);
+
+/* The neighbours of p, ascending, and their count. 0, or 11, 12, 14, 18. */
+uint16_t tegmulos_neighbours(size_t n, const uint64_t *edges, size_t edges_len, const uint16_t *nodes, size_t nodes_len,
+                             const uint32_t *keys, size_t keys_len, uint16_t p, uint16_t *out, size_t out_len, uint16_t *count);
+
+/* Whether p and q are neighbours: 1 or 0. 0, or 11, 12, 14, 15. */
+uint16_t tegmulos_tied(size_t n, const uint64_t *edges, size_t edges_len, const uint16_t *nodes, size_t nodes_len,
+                       const uint32_t *keys, size_t keys_len, uint16_t p, uint16_t q, uint16_t *yes);
+
+/* The group of p: its least member, its kind, its size. 0, or 11, 12, 14. */
+uint16_t tegmulos_group(size_t n, const uint64_t *edges, size_t edges_len, const uint16_t *nodes, size_t nodes_len,
+                        const uint32_t *keys, size_t keys_len, uint16_t p, uint16_t *least, uint16_t *kind, uint16_t *size);
+
+/* The release of the visible part: its m nodes, g groups, s superedges, and its length in bytes. 0, or 11, 12, 18. */
+uint16_t tegmulos_release(size_t n, const uint64_t *edges, size_t edges_len, const uint16_t *nodes, size_t nodes_len,
+                          const uint32_t *keys, size_t keys_len, uint8_t *out, size_t out_len, uint16_t *m, uint16_t *g, uint32_t *s,
+                          uint32_t *length);
+
+/* A release read back into tables for n nodes: nodes that it lacks are hidden and without edges. 0, or 11, 19, 20. */
+uint16_t tegmulos_read(size_t n, uint64_t *edges, size_t edges_len, uint16_t *nodes, size_t nodes_len, uint32_t *keys,
+                       size_t keys_len, const uint8_t *file, size_t file_len);
+
+/* The neighbours of p, asked of a release, ascending, and their count. 0, or 19, 14, 18. */
+uint16_t tegmulos_file_neighbours(const uint8_t *file, size_t file_len, uint16_t p, uint16_t *out, size_t out_len,
+                                  uint16_t *count);
+
+#ifdef __cplusplus
+}
+#endif
+
+#endif
