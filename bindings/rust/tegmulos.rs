@@ -2,18 +2,8 @@
 
 use std::fmt;
 
-mod c {
-    extern "C" {
-        pub fn tegmulos_open(n: usize, e: *mut u64, el: usize, v: *mut u16, vl: usize, k: *mut u32, kl: usize) -> u16;
-        pub fn tegmulos_apply(n: usize, e: *mut u64, el: usize, v: *mut u16, vl: usize, k: *mut u32, kl: usize, batch: *const u16, batch_len: usize, answers: *mut i16, answers_len: usize) -> u16;
-        pub fn tegmulos_neighbours(n: usize, e: *const u64, el: usize, v: *const u16, vl: usize, k: *const u32, kl: usize, p: u16, out: *mut u16, out_len: usize, count: *mut u16) -> u16;
-        pub fn tegmulos_tied(n: usize, e: *const u64, el: usize, v: *const u16, vl: usize, k: *const u32, kl: usize, p: u16, q: u16, yes: *mut u16) -> u16;
-        pub fn tegmulos_group(n: usize, e: *const u64, el: usize, v: *const u16, vl: usize, k: *const u32, kl: usize, p: u16, least: *mut u16, kind: *mut u16, size: *mut u16) -> u16;
-        pub fn tegmulos_release(n: usize, e: *const u64, el: usize, v: *const u16, vl: usize, k: *const u32, kl: usize, out: *mut u8, out_len: usize, m: *mut u16, g: *mut u16, s: *mut u32, length: *mut u32) -> u16;
-        pub fn tegmulos_read(n: usize, e: *mut u64, el: usize, v: *mut u16, vl: usize, k: *mut u32, kl: usize, file: *const u8, file_len: usize) -> u16;
-        pub fn tegmulos_file_neighbours(file: *const u8, file_len: usize, p: u16, out: *mut u16, out_len: usize, count: *mut u16) -> u16;
-    }
-}
+#[path = "calls.rs"]
+pub mod calls;
 
 /// At most so many nodes has a graph.
 pub const NODES: usize = 512;
@@ -112,16 +102,14 @@ impl Index {
     /// A graph of n nodes without edges, none hidden.
     pub fn open(n: usize) -> Result<Index, Refusal> {
         let mut t = Index::unfilled(n);
-        // SAFETY: each pointer comes with the length of its own vector, and no two overlap.
-        let result = unsafe { c::tegmulos_open(n, t.edges.as_mut_ptr(), t.edges.len(), t.nodes.as_mut_ptr(), t.nodes.len(), t.keys.as_mut_ptr(), t.keys.len()) };
+        let result = calls::open(n, &mut t.edges, &mut t.nodes, &mut t.keys);
         done(result, t)
     }
 
     /// The graph of a release, for n nodes: nodes that it lacks are hidden and without edges.
     pub fn read(n: usize, file: &[u8]) -> Result<Index, Refusal> {
         let mut t = Index::unfilled(n);
-        // SAFETY: as above; the file is only read.
-        let result = unsafe { c::tegmulos_read(n, t.edges.as_mut_ptr(), t.edges.len(), t.nodes.as_mut_ptr(), t.nodes.len(), t.keys.as_mut_ptr(), t.keys.len(), file.as_ptr(), file.len()) };
+        let result = calls::read(n, &mut t.edges, &mut t.nodes, &mut t.keys, file);
         done(result, t)
     }
 
@@ -129,8 +117,7 @@ impl Index {
     pub fn apply(&mut self, updates: &[Update]) -> Result<Vec<i16>, Refusal> {
         let batch: Vec<u16> = updates.iter().flat_map(|u| u.numbers()).collect();
         let mut answers = vec![0; updates.len()];
-        // SAFETY: as above; the batch is only read.
-        let result = unsafe { c::tegmulos_apply(self.n, self.edges.as_mut_ptr(), self.edges.len(), self.nodes.as_mut_ptr(), self.nodes.len(), self.keys.as_mut_ptr(), self.keys.len(), batch.as_ptr(), batch.len(), answers.as_mut_ptr(), answers.len()) };
+        let result = calls::apply(self.n, &mut self.edges, &mut self.nodes, &mut self.keys, &batch, &mut answers);
         done(result, answers)
     }
 
@@ -138,8 +125,7 @@ impl Index {
     pub fn neighbours(&self, p: u16) -> Result<Vec<u16>, Refusal> {
         let mut out = vec![0; NODES];
         let mut count = 0;
-        // SAFETY: the tables are only read; the buffer and the count are this function's own.
-        let result = unsafe { c::tegmulos_neighbours(self.n, self.edges.as_ptr(), self.edges.len(), self.nodes.as_ptr(), self.nodes.len(), self.keys.as_ptr(), self.keys.len(), p, out.as_mut_ptr(), out.len(), &mut count) };
+        let result = calls::neighbours(self.n, &self.edges, &self.nodes, &self.keys, p, &mut out, &mut count);
         out.truncate(usize::from(count));
         done(result, out)
     }
@@ -147,32 +133,29 @@ impl Index {
     /// Whether p and q are neighbours.
     pub fn tied(&self, p: u16, q: u16) -> Result<bool, Refusal> {
         let mut yes = 0;
-        // SAFETY: the tables are only read.
-        let result = unsafe { c::tegmulos_tied(self.n, self.edges.as_ptr(), self.edges.len(), self.nodes.as_ptr(), self.nodes.len(), self.keys.as_ptr(), self.keys.len(), p, q, &mut yes) };
+        let result = calls::tied(self.n, &self.edges, &self.nodes, &self.keys, p, q, &mut yes);
         done(result, yes == 1)
     }
 
     /// The group of p.
     pub fn group(&self, p: u16) -> Result<Group, Refusal> {
-        let (mut least, mut kind, mut size) = (0, 0, 0);
-        // SAFETY: the tables are only read.
-        let result = unsafe { c::tegmulos_group(self.n, self.edges.as_ptr(), self.edges.len(), self.nodes.as_ptr(), self.nodes.len(), self.keys.as_ptr(), self.keys.len(), p, &mut least, &mut kind, &mut size) };
-        let kind = match kind {
+        let mut member = calls::Member::default();
+        let result = calls::group(self.n, &self.edges, &self.nodes, &self.keys, p, &mut member);
+        let kind = match member.kind {
             0 => Kind::Singleton,
             1 => Kind::Independent,
             _ => Kind::Clique,
         };
-        done(result, Group { least, kind, size })
+        done(result, Group { least: member.least, kind, size: member.size })
     }
 
     /// The release of the visible part.
     pub fn release(&self) -> Result<Release, Refusal> {
         let mut file = vec![0; 10 + 6 * self.n + 3 * self.n * self.n.saturating_sub(1)];
-        let (mut nodes, mut groups, mut superedges, mut length) = (0, 0, 0, 0);
-        // SAFETY: the tables are only read; the buffer and the numbers are this function's own.
-        let result = unsafe { c::tegmulos_release(self.n, self.edges.as_ptr(), self.edges.len(), self.nodes.as_ptr(), self.nodes.len(), self.keys.as_ptr(), self.keys.len(), file.as_mut_ptr(), file.len(), &mut nodes, &mut groups, &mut superedges, &mut length) };
-        file.truncate(length as usize);
-        done(result, Release { file, nodes, groups, superedges })
+        let mut counts = calls::Counts::default();
+        let result = calls::release(self.n, &self.edges, &self.nodes, &self.keys, &mut file, &mut counts);
+        file.truncate(counts.bytes as usize);
+        done(result, Release { file, nodes: counts.nodes, groups: counts.groups, superedges: counts.superedges })
     }
 }
 
@@ -180,8 +163,7 @@ impl Index {
 pub fn file_neighbours(file: &[u8], p: u16) -> Result<Vec<u16>, Refusal> {
     let mut out = vec![0; NODES];
     let mut count = 0;
-    // SAFETY: the file is only read; the buffer and the count are this function's own.
-    let result = unsafe { c::tegmulos_file_neighbours(file.as_ptr(), file.len(), p, out.as_mut_ptr(), out.len(), &mut count) };
+    let result = calls::file_neighbours(file, p, &mut out, &mut count);
     out.truncate(usize::from(count));
     done(result, out)
 }
