@@ -1,0 +1,96 @@
+//! Graphs and batches to measure on, from a seed.
+
+use crate::calls;
+
+/// The tables of a graph.
+#[derive(Clone, PartialEq, Eq, Debug)]
+pub struct Tables {
+    pub n: usize,
+    pub edges: Vec<u64>,
+    pub nodes: Vec<u16>,
+    pub keys: Vec<u32>,
+}
+
+impl Tables {
+    pub fn filled(n: usize, x: u16) -> Tables {
+        Tables { n, edges: vec![u64::from(x); 8 * n], nodes: vec![x; 4 * n], keys: vec![u32::from(x); 2 * n] }
+    }
+}
+
+/// Numbers from a seed (xorshift).
+pub struct Random(pub u64);
+
+impl Random {
+    pub fn next(&mut self) -> u64 {
+        self.0 ^= self.0 << 13;
+        self.0 ^= self.0 >> 7;
+        self.0 ^= self.0 << 17;
+        self.0
+    }
+
+    pub fn below(&mut self, k: usize) -> usize {
+        ((self.next() >> 11) % k as u64) as usize
+    }
+}
+
+#[derive(Clone, Copy, PartialEq, Eq, Debug)]
+pub enum Shape {
+    Sparse,
+    Dense,
+    Twins,
+    Threshold,
+}
+
+/// The edges of a random graph: degree 4 on average, half of all pairs, 16 classes of twins, or nested neighbourhoods.
+pub fn edges(shape: Shape, n: usize, random: &mut Random) -> Vec<(u16, u16)> {
+    let classes: Vec<usize> = (0..n).map(|_| random.below(16)).collect();
+    let joined: Vec<bool> = (0..256).map(|_| random.below(2) == 0).collect();
+    let weights: Vec<usize> = (0..n).map(|_| random.below(2 * n)).collect();
+    let mut list = Vec::new();
+    for p in 0..n {
+        for q in p + 1..n {
+            let (a, b) = (classes[p].min(classes[q]), classes[p].max(classes[q]));
+            let there = match shape {
+                Shape::Sparse => random.below(n) < 4,
+                Shape::Dense => random.below(2) == 0,
+                Shape::Twins => joined[16 * a + b],
+                Shape::Threshold => weights[p] + weights[q] > 2 * n,
+            };
+            if there {
+                list.push((p as u16, q as u16));
+            }
+        }
+    }
+    list
+}
+
+/// The library's tables of a graph, one node in `hide` hidden.
+pub fn build(n: usize, edges: &[(u16, u16)], hide: usize) -> Tables {
+    let mut t = Tables::filled(n, 7);
+    assert_eq!(calls::open(n, &mut t.edges, &mut t.nodes, &mut t.keys), 0);
+    let mut batch: Vec<u16> = edges.iter().flat_map(|&(u, v)| [1, u, v]).collect();
+    for p in (0..n).step_by(hide) {
+        batch.extend([3, p as u16, 0]);
+    }
+    for part in batch.chunks(3 * 4096) {
+        let mut answers = vec![0; part.len() / 3];
+        assert_eq!(calls::apply(n, &mut t.edges, &mut t.nodes, &mut t.keys, part, &mut answers), 0);
+    }
+    t
+}
+
+/// A batch of 4,096 that changes 2,048 edges and changes them back, so that the graph is the same after it.
+pub fn there_and_back(t: &Tables, random: &mut Random) -> Vec<u16> {
+    let mut there: Vec<Vec<bool>> = (0..t.n).map(|p| (0..t.n).map(|q| t.edges[8 * p + q / 64] >> (q % 64) & 1 == 1).collect()).collect();
+    let mut batch = Vec::new();
+    for _ in 0..2048 {
+        let p = random.below(t.n);
+        let q = (p + 1 + random.below(t.n - 1)) % t.n;
+        let kind = if there[p][q] { 2 } else { 1 };
+        there[p][q] = kind == 1;
+        there[q][p] = kind == 1;
+        batch.push([kind, p as u16, q as u16]);
+    }
+    let back: Vec<[u16; 3]> = batch.iter().rev().map(|&[kind, p, q]| [3 - kind, p, q]).collect();
+    batch.into_iter().chain(back).flatten().collect()
+}

@@ -1,0 +1,149 @@
+//! The library against the same calls in Rust and against the paper's hash buckets: that they agree, then how long they take.
+
+#[path = "../../bindings/rust/calls.rs"]
+mod calls;
+mod buckets;
+mod faults;
+mod graphs;
+mod lent;
+
+use buckets::Buckets;
+use calls::Counts;
+use graphs::{Random, Shape, Tables};
+use std::hint::black_box;
+use std::time::Instant;
+
+const SHAPES: [(Shape, &str); 3] = [(Shape::Sparse, "sparse"), (Shape::Dense, "dense"), (Shape::Twins, "twin-rich")];
+const FILE_BYTES: usize = 787_978;
+const ROUNDS: usize = 41;
+
+/// The medians of the times of two functions, run in turn, in nanoseconds.
+fn medians(mut first: impl FnMut(), mut second: impl FnMut()) -> (f64, f64) {
+    let start = Instant::now();
+    first();
+    let times = 1 + 1_000_000 / (1 + start.elapsed().as_nanos() as usize);
+    let time = |f: &mut dyn FnMut()| {
+        let start = Instant::now();
+        for _ in 0..times {
+            f();
+        }
+        start.elapsed().as_nanos() as f64 / times as f64
+    };
+    let (mut a, mut b) = (Vec::new(), Vec::new());
+    for _ in 0..ROUNDS {
+        a.push(time(&mut first));
+        b.push(time(&mut second));
+    }
+    a.sort_by(f64::total_cmp);
+    b.sort_by(f64::total_cmp);
+    (a[ROUNDS / 2], b[ROUNDS / 2])
+}
+
+/// A line of the table: microseconds, each time divided by how often the thing was done.
+fn line(t: &Tables, name: &str, what: &str, (library, other): (f64, f64), done: f64) {
+    println!("| {} | {name} | {what} | {:.2} | {:.2} | {:.2} |", t.n, library / done / 1000.0, other / done / 1000.0, library / other);
+}
+
+fn bucketed(t: &Tables) -> Buckets {
+    let mut buckets = Buckets::new(t.n as u16);
+    for p in 0..t.n {
+        for q in p + 1..t.n {
+            if t.edges[8 * p + q / 64] >> (q % 64) & 1 == 1 {
+                buckets.update(1, p as u16, q as u16);
+            }
+        }
+    }
+    assert_eq!(buckets.groups, (0..t.n).filter(|&p| usize::from(t.nodes[4 * p]) == p).count());
+    buckets
+}
+
+fn updates(t: &Tables, name: &str, random: &mut Random) {
+    let n = t.n;
+    let batch = graphs::there_and_back(t, random);
+    let (mut a, mut b, mut buckets) = (t.clone(), t.clone(), bucketed(t));
+    let (mut x, mut y) = (vec![0; 4096], vec![0; 4096]);
+    let times = medians(
+        || assert_eq!(calls::apply(n, &mut a.edges, &mut a.nodes, &mut a.keys, &batch, &mut x), 0),
+        || assert_eq!(lent::apply(n, &mut b.edges, &mut b.nodes, &mut b.keys, &batch, &mut y), 0),
+    );
+    line(t, name, "update in a batch of 4,096", times, 4096.0);
+    let times = medians(
+        || assert_eq!(calls::apply(n, &mut a.edges, &mut a.nodes, &mut a.keys, &batch, &mut x), 0),
+        || batch.chunks_exact(3).for_each(|c| buckets.update(c[0], c[1], c[2])),
+    );
+    line(t, name, "the same, against hash buckets", times, 4096.0);
+    let ones = [&batch[..3], &batch[batch.len() - 3..]];
+    let times = medians(
+        || ones.iter().for_each(|one| assert_eq!(calls::apply(n, &mut a.edges, &mut a.nodes, &mut a.keys, one, &mut x), 0)),
+        || ones.iter().for_each(|one| assert_eq!(lent::apply(n, &mut b.edges, &mut b.nodes, &mut b.keys, one, &mut y), 0)),
+    );
+    line(t, name, "batch of 1", times, 2.0);
+    assert_eq!((&a, &x), (&b, &y));
+    assert_eq!(&a, t);
+}
+
+fn queries(t: &Tables, name: &str) {
+    let (mut yes, mut count, mut out) = (0, 0, [0; 512]);
+    let (mut yes2, mut count2, mut out2) = (0, 0, [0; 512]);
+    let times = medians(
+        || assert_eq!(calls::tied(t.n, &t.edges, &t.nodes, &t.keys, 0, 1, &mut yes), 0),
+        || assert_eq!(lent::tied(t.n, &t.edges, &t.nodes, &t.keys, 0, 1, &mut yes2), 0),
+    );
+    line(t, name, "check of tables (tied)", times, 1.0);
+    let times = medians(
+        || assert_eq!(calls::neighbours(t.n, &t.edges, &t.nodes, &t.keys, 5, &mut out, &mut count), 0),
+        || assert_eq!(lent::neighbours(t.n, &t.edges, &t.nodes, &t.keys, 5, &mut out2, &mut count2), 0),
+    );
+    line(t, name, "neighbours", times, 1.0);
+    assert_eq!((yes, count, out), (yes2, count2, out2));
+}
+
+fn files(t: &Tables, name: &str) {
+    let (mut out, mut counts) = (vec![0; FILE_BYTES], Counts::default());
+    let (mut out2, mut counts2) = (vec![0; FILE_BYTES], Counts::default());
+    let times = medians(
+        || assert_eq!(calls::release(t.n, &t.edges, &t.nodes, &t.keys, &mut out, &mut counts), 0),
+        || assert_eq!(lent::release(t.n, &t.edges, &t.nodes, &t.keys, &mut out2, &mut counts2), 0),
+    );
+    line(t, name, "release", times, 1.0);
+    assert!(out == out2 && counts == counts2);
+    let file = &out[..counts.bytes as usize];
+    let (mut a, mut b) = (Tables::filled(t.n, 7), Tables::filled(t.n, 7));
+    let times = medians(
+        || assert_eq!(calls::read(t.n, &mut a.edges, &mut a.nodes, &mut a.keys, file), 0),
+        || assert_eq!(lent::read(t.n, &mut b.edges, &mut b.nodes, &mut b.keys, file), 0),
+    );
+    line(t, name, "read", times, 1.0);
+    assert_eq!(a, b);
+    let (mut list, mut count, mut list2, mut count2) = ([0; 512], 0, [0; 512], 0);
+    let times = medians(
+        || assert_eq!(calls::file_neighbours(black_box(file), 5, &mut list, &mut count), 0),
+        || assert_eq!(lent::file_neighbours(black_box(file), 5, &mut list2, &mut count2), 0),
+    );
+    line(t, name, "file query", times, 1.0);
+    assert_eq!((list, count), (list2, count2));
+}
+
+fn measure() {
+    println!("| n | graph | call | library, µs | other, µs | ratio |");
+    println!("|---|---|---|---|---|---|");
+    for n in [512, 64] {
+        for (shape, name) in SHAPES {
+            let mut random = Random(0x1234_5678_9ABC_DEF1);
+            let t = graphs::build(n, &graphs::edges(shape, n, &mut random), 8);
+            updates(&t, name, &mut random);
+            queries(&t, name);
+            files(&t, name);
+        }
+    }
+}
+
+fn main() {
+    let words: Vec<String> = std::env::args().skip(1).collect();
+    let number = |i: usize| words.get(i).and_then(|w| w.parse().ok());
+    match words.first().map(String::as_str) {
+        None => measure(),
+        Some("faults") => faults::run(number(1).unwrap_or(1), number(2).unwrap_or(60)),
+        Some(_) => println!("bench, or bench faults SEED SECONDS"),
+    }
+}
