@@ -117,12 +117,13 @@ pub fn same_file(n: usize, least: &[u16], edges: &[u64], file: &[u8]) -> bool
     ensures { λ r. ⌜ r ≡ sameList (now (file .entry)) (fileOf n (now (least .entry)) (now (edges .entry))) ⌝ }
 {
     let mut leaders = [0u16; 512];
-    let g = writer::collect_leaders(least, n, &mut leaders);
-    let set = writer::leader_set(least, n);
-    let m = writer::count_visible(least, n);
-    let s = writer::count_superedges(edges, &leaders[..g], &set);
-    if file.len() != 10 + 4 * g + 2 * m + 6 * s {
+    let measured = writer::measure(n, least, edges, &mut leaders);
+    if file.len() != measured.bytes {
         return false;
     }
+    let m = measured.nodes;
+    let g = measured.groups;
+    let s = measured.superedges;
+    let set = measured.set;
     same_parts(n, m, s, least, edges, &leaders[..g], &set, file)
 }

@@ -200,8 +200,8 @@ module _ (n : ℕ) (least edges next ls : List ℕ) (p : Partition n least edges
       pub end-is : superedgesPart ≡ true → endPart ≡ sameList file (fileOf n least edges)
       end-is c = sym (same-parts ∙ rw (a, b, c))
 
-pub length-not : (n : ℕ) (least edges : List ℕ) (g m s : ℕ) → g ≡ fileGroups n least → m ≡ fileNodes n least → s ≡ fileSuperedges n least edges → Partition n least edges → (file : List ℕ) → (length file ≡ 10 + 4 * g + 2 * m + 6 * s → ⊥) → false ≡ sameList file (fileOf n least edges)
-length-not n least edges g m s eg em es p file h = sym (same-not file (fileOf n least edges) (λ e. h (omega (arith, length-is n least edges g m s eg em es, length-file n least edges p))))
+pub length-not : (n : ℕ) (least edges : List ℕ) {k : ℕ} → k ≡ fileLength n least edges → Partition n least edges → (file : List ℕ) → (length file ≡ k → ⊥) → false ≡ sameList file (fileOf n least edges)
+length-not n least edges ek p file h = sym (same-not file (fileOf n least edges) (λ e. h (omega (arith, length-file n least edges p))))
 
 -- the head was written into a buffer of 8 bytes
 pub head-told : (n m g : ℕ) (file : List ℕ) {s t : List ℕ} {k : ℕ} {r : Bool} → length s ≡ 8 → Wrote s 0 (headRecord n m g) t k → r ≡ matches file 0 t → r ≡ matches file 0 (headRecord n m g)

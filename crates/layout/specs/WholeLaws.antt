@@ -154,28 +154,28 @@ module _ (n : ℕ) (least edges next ls : List ℕ) (g : Partition n least edges
             rw (← em, ← e₁, ← groups-same n least edges next ls g k q, ← q) (wrote-then h (wrote-then w (wrote-then v t)))
 
 -- all that writing gives, from the numbers that the code has counted
-module _ (n : ℕ) (least edges : List ℕ) (g m s : ℕ) (eg : g ≡ fileGroups n least) (em : m ≡ fileNodes n least) (es : s ≡ fileSuperedges n least edges) where
-  pub length-is : 10 + 4 * g + 2 * m + 6 * s ≡ fileLength n least edges
-  unfolding fileLength
-  length-is = omega arith
+pub length-is : (n : ℕ) (least edges : List ℕ) {g m s : ℕ} → g ≡ fileGroups n least → m ≡ fileNodes n least → s ≡ fileSuperedges n least edges → 10 + 4 * g + 2 * m + 6 * s ≡ fileLength n least edges
+unfolding fileLength
+length-is n least edges eg em es = omega arith
 
-  pub room-is : {k : ℕ} → Partition n least edges → 10 + 4 * g + 2 * m + 6 * s ≤ k → length (fileOf n least edges) ≤ k
-  room-is t h = omega (arith, length-is, length-file n least edges t)
+module _ (n : ℕ) (least edges : List ℕ) {k : ℕ} (ek : k ≡ fileLength n least edges) where
+  pub room-is : {l : ℕ} → Partition n least edges → k ≤ l → length (fileOf n least edges) ≤ l
+  room-is t h = omega (arith, length-file n least edges t)
 
-  pub refused : (out : List ℕ) → length out < 10 + 4 * g + 2 * m + 6 * s → releaseRefused out 18 ≡ writtenFile n least edges out
+  pub refused : (out : List ℕ) → length out < k → releaseRefused out 18 ≡ writtenFile n least edges out
   unfolding writtenFile
   refused out h =
-      let k : length out < fileLength n least edges = omega (arith, length-is) in
-      rw (lt-ltb (length out) (fileLength n least edges) k)
+      let l : length out < fileLength n least edges = omega arith in
+      rw (lt-ltb (length out) (fileLength n least edges) l)
 
-  pub done : (out : List ℕ) {t : List ℕ} {f : ℕ} → Partition n least edges → 10 + 4 * g + 2 * m + 6 * s ≤ length out → Wrote out 0 (fileOf n least edges) t f
-      → record { result = 0; nodes = m; groups = g; superedges = s; bytes = 10 + 4 * g + 2 * m + 6 * s; out = t } ≡ writtenFile n least edges out
+  pub done : {g m s : ℕ} → g ≡ fileGroups n least → m ≡ fileNodes n least → s ≡ fileSuperedges n least edges → (out : List ℕ) {t : List ℕ} {f : ℕ} → Partition n least edges → k ≤ length out → Wrote out 0 (fileOf n least edges) t f
+      → record { result = 0; nodes = m; groups = g; superedges = s; bytes = k; out = t } ≡ writtenFile n least edges out
   unfolding writtenFile
-  done out {t} p h w =
-      let k : fileLength n least edges ≤ length out = omega (arith, length-is) in
+  done eg em es out {t} p h w =
+      let l : fileLength n least edges ≤ length out = omega arith in
       let e : 0 + length (fileOf n least edges) ≡ length (fileOf n least edges) = omega arith in
       let b : t ≡ onto (fileOf n least edges) out = w .bytes ∙ sets-eq (fileOf n least edges) out 0 (omega (arith, length-file n least edges p)) ∙ ap (λ (x : ℕ). fileOf n least edges ++ drop x out) e in
-      rw (le-ltb (length out) (fileLength n least edges) k) (rw (← eg, ← em, ← es, ← length-is, b) refl)
+      rw (le-ltb (length out) (fileLength n least edges) l) (rw (← eg, ← em, ← es, ← ek, b) refl)
 
 pub leaders-taken : (n : ℕ) (least : List ℕ) {s t : List ℕ} {r : ℕ} → n ≤ length s → Wrote s 0 (scan (leads least) n 0) t r → take r t ≡ leadersOf n least
 unfolding leadersOf
@@ -186,6 +186,13 @@ leaders-taken n least {s} {t} {r} h w =
 pub leaders-fit : (n : ℕ) (least : List ℕ) {s t : List ℕ} {r : ℕ} → Wrote s 0 (scan (leads least) n 0) t r → (r ≡ fileGroups n least) × (r ≤ n)
 unfolding leadersOf fileGroups
 leaders-fit n least w = (omega (arith, w .place), omega (arith, w .place, scan-length (leads least) n 0))
+
+pub leaders-room : (n : ℕ) (least : List ℕ) {s t : List ℕ} {r : ℕ} → n ≤ length s → Wrote s 0 (scan (leads least) n 0) t r → r ≤ length t
+leaders-room n least h w = omega (arith, leaders-fit n least w .1, wrote-length w)
+
+pub groups-length : (n : ℕ) (least : List ℕ) {g : ℕ} {ls : List ℕ} → g ≡ fileGroups n least → ls ≡ leadersOf n least → g ≡ length ls
+unfolding fileGroups
+groups-length n least e q = e ∙ sym (ap length q)
 
 pub nodes-le : (n : ℕ) (least : List ℕ) {m : ℕ} → m ≡ fileNodes n least → m ≤ n
 nodes-le n least e = omega (arith, nodes-few n least)

@@ -9,7 +9,7 @@ ghost use Rattle.layout.specs.Wrote.{Wrote};
 ghost use Rattle.layout.specs.Scan.{scan};
 ghost use Rattle.layout.specs.File.{Ahead, Linked, Partition, Rows, chain, fileNodes, fileOf, firstTwo, groupBytes, groupMark, groupsBytes, inGroup, later, leadersOf, leads, superedgeBytes, superedgeTotal, superedgesTo, u16s, writtenFile};
 ghost use Rattle.layout.specs.Words.{Leading, Marked, Placed, Rowed, laterWord, positionsOf};
-ghost use Rattle.writer.specs.Written.{answer};
+ghost use Rattle.writer.specs.Written.{Measured, answer};
 
 // Stands for no node: after the last member of a group, and at hidden nodes.
 pub const NONE: u16 = 65535;
@@ -344,6 +344,33 @@ fn write_file(
     put_mark(out, c, b"EN")
 }
 
+// What is known of a file before its first byte: document 01's m, g and s, the length, and the least members as a set of bits.
+pub struct Sizes {
+    pub nodes: usize,
+    pub groups: usize,
+    pub superedges: usize,
+    pub bytes: usize,
+    pub set: [u64; 8],
+}
+
+// A file measured, and the least members in a list.
+pub fn measure(n: usize, least: &[u16], edges: &[u64], leaders: &mut [u16]) -> Sizes
+    requires { ⌜ Partition n (now least) (now edges) × (length (now leaders) ≡ 512) ⌝ }
+    ensures { λ r. ⌜ Measured n (now (least .entry)) (now (edges .entry)) (now (leaders .exit)) r ⌝ }
+{
+    let g = collect_leaders(least, n, leaders);
+    let set = leader_set(least, n);
+    let m = count_visible(least, n);
+    let s = count_superedges(edges, &leaders[..g], &set);
+    Sizes {
+        nodes: m,
+        groups: g,
+        superedges: s,
+        bytes: 10 + 4 * g + 2 * m + 6 * s,
+        set,
+    }
+}
+
 // What a release returns: the result, then document 01's m, g and s, and the length.
 pub struct Written {
     pub result: u16,
@@ -359,12 +386,8 @@ pub fn write(n: usize, least: &[u16], edges: &[u64], out: &mut [u8]) -> Written
     ensures { λ r. ⌜ answer r (now (out .exit)) ≡ writtenFile n (now (least .entry)) (now (edges .entry)) (now (out .entry)) ⌝ }
 {
     let mut leaders = [0u16; 512];
-    let g = collect_leaders(least, n, &mut leaders);
-    let set = leader_set(least, n);
-    let m = count_visible(least, n);
-    let s = count_superedges(edges, &leaders[..g], &set);
-    let length = 10 + 4 * g + 2 * m + 6 * s;
-    if out.len() < length {
+    let measured = measure(n, least, edges, &mut leaders);
+    if out.len() < measured.bytes {
         return Written {
             result: 18,
             nodes: 0,
@@ -373,12 +396,15 @@ pub fn write(n: usize, least: &[u16], edges: &[u64], out: &mut [u8]) -> Written
             bytes: 0,
         };
     }
+    let m = measured.nodes;
+    let g = measured.groups;
+    let set = measured.set;
     write_file(n, m, least, edges, &leaders[..g], &set, out);
     Written {
         result: 0,
         nodes: m as u16,
         groups: g as u16,
-        superedges: s as u32,
-        bytes: length as u32,
+        superedges: measured.superedges as u32,
+        bytes: measured.bytes as u32,
     }
 }
