@@ -154,7 +154,7 @@ fn superedge_at(file: &[u8], at: usize) -> Read
 }
 
 // The record at a place. Its mark tells which.
-pub fn read_record(file: &[u8], at: usize) -> Read
+fn record_at(file: &[u8], at: usize) -> Read
     ensures { λ r. ⌜ r ≡ recordAt (now (file .entry)) at ⌝ }
 {
     if file.len() < 2 {
@@ -182,6 +182,35 @@ pub fn read_record(file: &[u8], at: usize) -> Read
         };
     }
     malformed(at)
+}
+
+// The lent file beside the next unread place.
+pub struct Reader<'a> {
+    pub file: &'a [u8],
+    pub at: usize,
+}
+
+// A reader at a place.
+fn start<'a>(file: &'a [u8], at: usize) -> Reader<'a>
+    ensures { λ r. ⌜ (r .file ≡ file .entry) × (r .at ≡ at) ⌝ }
+{
+    Reader { file, at }
+}
+
+impl<'a> Reader<'a> {
+    // The record at the reader's place.
+    fn record(self) -> Read
+        ensures { λ r. ⌜ r ≡ recordAt (now (self .entry .file)) (self .entry .at) ⌝ }
+    {
+        record_at(self.file, self.at)
+    }
+}
+
+// The record at a place, by a reader started there.
+pub fn read_record(file: &[u8], at: usize) -> Read
+    ensures { λ r. ⌜ r ≡ recordAt (now (file .entry)) at ⌝ }
+{
+    start(file, at).record()
 }
 
 // The number at a place, as an index.
