@@ -14,12 +14,11 @@ use Rattle.model.specs.TestLaws.{and-fst, and-snd, differ}
 use Rattle.reader.specs.declared.Counts.{Counts}
 use Rattle.reader.specs.declared.Record.{Record}
 use Rattle.reader.specs.declared.Record.the-variants.{Head, Group, Superedge, End, Malformed}
-use Rattle.reader.specs.declared.Read.{Read}
 use Rattle.reader.specs.declared.Groups.{Groups}
 use Rattle.reader.specs.declared.Groups.the-variants.{Whole, Broken}
 use Rattle.reader.specs.declared.Decoded.the-variants as answer
-use Rattle.reader.specs.Records.{itemIn, recordAt, sizeOf}
-use Rattle.reader.specs.Decoding.{Decodes, Drawn, Found, GroupsRead, SuperedgesRead, accepted, bodyFits, crossed, decoded, groupsFrom, inside, pairsFrom, placed, restFrom, sized, toldEdge, toldGroups, toldPairs}
+use Rattle.reader.specs.Records.{itemIn, sizeOf}
+use Rattle.reader.specs.Decoding.{AfterHead, Decodes, Drawn, Found, GroupsRead, SuperedgesRead, accepted, bodyFits, crossed, decoded, groupsFrom, inside, pairsFrom, placed, restFrom, sized, toldEdge, toldGroups, toldPairs}
 use Rattle.reader.specs.DrawingLaws.{added-then}
 use Rattle.reader.specs.DecodingLaws.{fits-at, item-is, next-is}
 
@@ -86,7 +85,7 @@ blank-bit k i j = rw (blank k i, zero-div (2 ^ j))
     blank (suc k) zero = refl
     blank (suc k) (suc i) = blank k i
 
-pub decode-refused : (s edges hidden : List ℕ) → false ≡ accepted s → length edges ≡ 4096 → length hidden ≡ 512 → Decodes s edges hidden answer.NoRelease
+decode-refused : (s edges hidden : List ℕ) → false ≡ accepted s → length edges ≡ 4096 → length hidden ≡ 512 → Decodes s edges hidden answer.NoRelease
 decode-refused s edges hidden e a b = record {
   result = sym (unfold decoded in rw (← e));
   rows = a;
@@ -95,51 +94,51 @@ decode-refused s edges hidden e a b = record {
   marks = λ t. differ t (sym e);
 }
 
-pub blank-rows : (t : List ℕ) → t ≡ replicate 4096 0 → length t ≡ 4096
-blank-rows t e = ap length e ∙ length-replicate {A = ℕ} 4096 0
+module _ (s : List ℕ) (at : ℕ) (head : Record) (edges₀ hidden₀ : List ℕ) (after : AfterHead s at head edges₀ hidden₀) where
+  pub blank-rows : length edges₀ ≡ 4096
+  blank-rows = ap length (after .blank) ∙ length-replicate {A = ℕ} 4096 0
 
-pub blank-size : (t : List ℕ) → t ≡ replicate 512 1 → length t ≡ 512
-blank-size t e = ap length e ∙ length-replicate {A = ℕ} 512 1
+  pub blank-size : length hidden₀ ≡ 512
+  blank-size = ap length (after .marked) ∙ length-replicate {A = ℕ} 512 1
 
-module _ (s : List ℕ) (r : Read) (read : r ≡ recordAt s 0) where
-  is-item : (i : Record) → r .item ≡ i → itemIn s ≡ i
-  is-item i e = sym (item-is s 0 r read) ∙ e
+  is-item : (i : Record) → head ≡ i → itemIn s ≡ i
+  is-item i e = sym (item-is s 0 (record { next = at; item = head }) (after .read)) ∙ e
 
-  pub no-head : ((n m g : ℕ) → r .item ≡ Head n m g → ⊥) → false ≡ accepted s
-  no-head h = by-kind (r .item) refl
+  pub no-head : ((n m g : ℕ) → head ≡ Head n m g → ⊥) → Decodes s edges₀ hidden₀ answer.NoRelease
+  no-head h = decode-refused s edges₀ hidden₀ (by-kind head refl) blank-rows blank-size
     where
-      by-kind : (i : Record) → r .item ≡ i → false ≡ accepted s
+      by-kind : (i : Record) → head ≡ i → false ≡ accepted s
       by-kind (Head n m g) e = absurd (h n m g e)
       by-kind (Group x y) e = sym (unfold accepted in rw (is-item (Group x y) e))
       by-kind (Superedge x y) e = sym (unfold accepted in rw (is-item (Superedge x y) e))
       by-kind End e = sym (unfold accepted in rw (is-item End e))
       by-kind Malformed e = sym (unfold accepted in rw (is-item Malformed e))
 
-  module _ (n m g : ℕ) (head : r .item ≡ Head n m g) where
+  module _ (n m g : ℕ) (is : head ≡ Head n m g) where
     by-head : accepted s ≡ (sized n m g && bodyFits s n m g)
-    by-head = unfold accepted in rw (is-item (Head n m g) head)
+    by-head = unfold accepted in rw (is-item (Head n m g) is)
 
     told : (8 ≤ length s) × (n ≡ u16At s 2) × (m ≡ u16At s 4) × (g ≡ u16At s 6)
-    told = fits-at s 0 r read (Head n m g) head
+    told = fits-at s 0 (record { next = at; item = head }) (after .read) (Head n m g) is
 
-    pub after-head : r .next ≡ 8
-    after-head = unfold sizeOf in (next-is s 0 r read ∙ ap (λ (x : Record). 0 + sizeOf x) head)
+    pub after-head : at ≡ 8
+    after-head = unfold sizeOf in (next-is s 0 (record { next = at; item = head }) (after .read) ∙ ap (λ (x : Record). 0 + sizeOf x) is)
 
-    pub wrong-size : false ≡ sized n m g → false ≡ accepted s
-    wrong-size e = sym (by-head ∙ rw (← e))
+    pub wrong-size : false ≡ sized n m g → Decodes s edges₀ hidden₀ answer.NoRelease
+    wrong-size e = decode-refused s edges₀ hidden₀ (sym (by-head ∙ rw (← e))) blank-rows blank-size
 
-    module _ (fits : true ≡ sized n m g) (edges₀ edges hidden₀ hidden : List ℕ) (b : Bool) (body : Drawn s n m g edges₀ edges hidden₀ hidden b) where
+    module _ (fits : true ≡ sized n m g) (edges hidden : List ℕ) (b : Bool) (body : Drawn s n m g edges₀ edges hidden₀ hidden b) where
       by-body : accepted s ≡ b
       by-body = by-head ∙ rw (← fits) (sym (body .result))
 
-      pub wrong-body : b ≡ false → false ≡ accepted s
-      wrong-body e = sym (by-body ∙ e)
+      pub wrong-body : b ≡ false → Decodes s edges hidden answer.NoRelease
+      wrong-body e = decode-refused s edges hidden (sym (by-body ∙ e)) (body .rows ∙ blank-rows) (body .size ∙ blank-size)
 
-      pub decode-graph : b ≡ true → edges₀ ≡ replicate 4096 0 → hidden₀ ≡ replicate 512 1 → Decodes s edges hidden (answer.Graph n)
-      decode-graph e f h = record {
+      pub decode-graph : b ≡ true → Decodes s edges hidden (answer.Graph n)
+      decode-graph e = record {
         result = sym (unfold decoded in rw (by-body, e, ← told .1));
-        rows = body .rows ∙ blank-rows edges₀ f;
-        size = body .size ∙ blank-size hidden₀ h;
+        rows = body .rows ∙ blank-rows;
+        size = body .size ∙ blank-size;
         bits = λ _ x y l. body .drawn e .bits x y l ∙ ap (λ (z : Bool). z || (inside (groupsFrom s 8 g) x y || crossed (groupsFrom s 8 g) (superedgesAt (length s) (restFrom s 8 g)) x y)) (empty x y) ∙ (unfold toldEdge toldGroups toldPairs in rw (← told .3));
         marks = λ _ p l. body .marks e .marks p ∙ ap₂ (λ (x : Bool) (y : ℕ). cond x 0 y) (groups p) (visible p l);
       }
@@ -148,7 +147,7 @@ module _ (s : List ℕ) (r : Read) (read : r ≡ recordAt s 0) where
           groups p = unfold toldGroups in rw (← told .3)
 
           empty : (x y : ℕ) → edgeBit edges₀ x y ≡ false
-          empty x y = unfold edgeBit in (ap (λ (t : List ℕ). bitAt (getD t (8 * x + y / 64) 0) (y % 64)) f ∙ blank-bit 4096 (8 * x + y / 64) (y % 64))
+          empty x y = unfold edgeBit in (ap (λ (t : List ℕ). bitAt (getD t (8 * x + y / 64) 0) (y % 64)) (after .blank) ∙ blank-bit 4096 (8 * x + y / 64) (y % 64))
 
           visible : (p : ℕ) → p < 512 → getD hidden₀ p 0 ≡ 1
-          visible p l = ap (λ (t : List ℕ). getD t p 0) h ∙ getD-replicate 512 p 1 0 l
+          visible p l = ap (λ (t : List ℕ). getD t p 0) (after .marked) ∙ getD-replicate 512 p 1 0 l

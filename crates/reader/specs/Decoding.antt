@@ -4,7 +4,7 @@ use mathlib.Core.Bool.{Bool, true, false, not, _&&_, _||_, cond}
 use mathlib.Core.List.{List, [], _∷_}
 use Prim.Native.Nat.{ℕ, zero, suc, _+_, _*_, _-_, _≤_, _<_}
 use lib.Dec.{eqb, ltb, leb}
-use lib.ListN.{length, getD, drop}
+use lib.ListN.{length, getD, drop, replicate}
 use Rattle.model.specs.Lists.{member}
 use Rattle.model.specs.Graph.{Graph, Proper, maxNodes}
 use Rattle.model.specs.Tables.{edgeBit}
@@ -21,7 +21,7 @@ use Rattle.reader.specs.declared.Groups.{Groups}
 use Rattle.reader.specs.declared.Groups.the-variants.{Whole, Broken}
 use Rattle.reader.specs.declared.Decoded.{Decoded}
 use Rattle.reader.specs.declared.Decoded.the-variants as answer
-use Rattle.reader.specs.Records.{itemIn, lessGroup, lessMember, spent}
+use Rattle.reader.specs.Records.{itemIn, lessGroup, lessMember, recordAt, spent}
 use Rattle.reader.specs.Drawing.{Added, Adding, GroupHere, inner, joined, membersAt}
 
 -- what is done with lessened counts, or without
@@ -223,6 +223,12 @@ pub record Decodes (s edges hidden : List ℕ) (r : Decoded) : Type 0 where
   pub size : length hidden ≡ 512
   pub bits : accepted s ≡ true → (a b : ℕ) → b < 512 → edgeBit edges a b ≡ toldEdge s a b
   pub marks : accepted s ≡ true → (p : ℕ) → p < 512 → getD hidden p 0 ≡ cond (placed (toldGroups s) p) 0 1
+
+-- the head was just read, and nothing is drawn: no edge bit is set, and every mark is 1
+pub record AfterHead (s : List ℕ) (at : ℕ) (head : Record) (edges hidden : List ℕ) : Type 0 where
+  pub read : record { next = at; item = head } ≡ recordAt s 0
+  pub blank : edges ≡ replicate 4096 0
+  pub marked : hidden ≡ replicate 512 1
 
 -- the graph that the arrays hold: by edge bits and marks
 unfoldable pub graphIn : ℕ → List ℕ → List ℕ → Graph

@@ -5,7 +5,7 @@ ghost use lib.ListN.{length, replicate};
 ghost use Rattle.model.specs.Reading.{u16At};
 ghost use Rattle.model.specs.Graph.{rowWords};
 ghost use Rattle.reader.specs.Drawing.{Added, oneBit, oneEdge, fan, across, joined, inner, membersAt, GroupHere};
-ghost use Rattle.reader.specs.Decoding.{numbersAt, MembersRead, GroupTaken, GroupsRead, groupsFrom, Found, follows, SuperedgesRead, sized, Drawn, Decodes};
+ghost use Rattle.reader.specs.Decoding.{numbersAt, MembersRead, GroupTaken, GroupsRead, groupsFrom, Found, follows, SuperedgesRead, sized, Drawn, Decodes, AfterHead};
 ghost use Rattle.reader.specs.Records.{lessMember, lessGroup, spent, markAt, malformedAt, headAt, groupAt, superedgeAt, recordAt};
 
 // What the head still promises: members and groups not yet read.
@@ -203,6 +203,16 @@ impl<'a> Reader<'a> {
         ensures { λ r. ⌜ r ≡ recordAt (now (self .entry .file)) (self .entry .at) ⌝ }
     {
         record_at(self.file, self.at)
+    }
+
+    // The same file at another place.
+    fn moved(self, at: usize) -> Reader<'a>
+        ensures { λ r. ⌜ (r .file ≡ self .entry .file) × (r .at ≡ at) ⌝ }
+    {
+        Reader {
+            file: self.file,
+            at,
+        }
     }
 }
 
@@ -497,15 +507,12 @@ fn draw(
     read_superedges(file, next, n, g, left, &starts, edges)
 }
 
-// A release file read into the lent arrays: no edge bit is set before, and every mark is 1.
-pub fn decode(file: &[u8], edges: &mut [u64], hidden: &mut [u16]) -> Decoded
-    requires { ⌜ (now edges ≡ replicate 4096 0) × (now hidden ≡ replicate 512 1) ⌝ }
+// The graph of a file whose head was just read, drawn from what follows the head.
+fn graph_at(file: &[u8], at: usize, head: Record, edges: &mut [u64], hidden: &mut [u16]) -> Decoded
+    requires { ⌜ AfterHead (now file) at head (now edges) (now hidden) ⌝ }
     ensures { λ r. ⌜ Decodes (now (file .entry)) (now (edges .exit)) (now (hidden .exit)) r ⌝ }
 {
-    let read = read_record(file, 0);
-    let from = read.next;
-    let item = read.item;
-    let Record::Head { n, m, g } = item else {
+    let Record::Head { n, m, g } = head else {
         return Decoded::NoRelease;
     };
     let nodes = n as usize;
@@ -514,8 +521,28 @@ pub fn decode(file: &[u8], edges: &mut [u64], hidden: &mut [u16]) -> Decoded
     if !head_fits(nodes, visible, groups) {
         return Decoded::NoRelease;
     }
-    if !draw(file, from, nodes, visible, groups, edges, hidden) {
+    if !draw(file, at, nodes, visible, groups, edges, hidden) {
         return Decoded::NoRelease;
     }
     Decoded::Graph { n: nodes }
+}
+
+impl<'a> Reader<'a> {
+    // The graph of the file whose head was just read.
+    fn graph(self, head: Record, edges: &mut [u64], hidden: &mut [u16]) -> Decoded
+        requires { ⌜ AfterHead (now (self .file)) (self .at) head (now edges) (now hidden) ⌝ }
+        ensures { λ r. ⌜ Decodes (now (self .entry .file)) (now (edges .exit)) (now (hidden .exit)) r ⌝ }
+    {
+        graph_at(self.file, self.at, head, edges, hidden)
+    }
+}
+
+// A release file read into the lent arrays: no edge bit is set before, and every mark is 1.
+pub fn decode(file: &[u8], edges: &mut [u64], hidden: &mut [u16]) -> Decoded
+    requires { ⌜ (now edges ≡ replicate 4096 0) × (now hidden ≡ replicate 512 1) ⌝ }
+    ensures { λ r. ⌜ Decodes (now (file .entry)) (now (edges .exit)) (now (hidden .exit)) r ⌝ }
+{
+    let reader = start(file, 0);
+    let read = reader.record();
+    reader.moved(read.next).graph(read.item, edges, hidden)
 }
