@@ -9,7 +9,7 @@ use lib.Seq.{drop-at, drop-drop}
 use borrow.Author.Tests.{eq-eqb, ne-eqb, lt-ltb, le-ltb, le-leb}
 use Rattle.model.specs.Lists.{_∈_, concat}
 use Rattle.model.specs.Grouping.{Kind, adjacent, clique, independent, isClique, kindOf, singleton}
-use Rattle.model.specs.Release.{endRecord, groupRecord, headRecord, kindByte, release, superedgeRecord, superedges, superedgesFrom, u16}
+use Rattle.model.specs.Release.{endRecord, groupRecord, headRecord, kindByte, superedgeRecord, superedges, superedgesFrom, u16}
 use Rattle.model.specs.Reading.{u16At, u16s}
 use Rattle.model.specs.TestLaws.{and-true}
 use Rattle.model.specs.ReleaseLaws.{length-group-record}
@@ -20,7 +20,7 @@ use Rattle.reader.specs.declared.Record.the-variants.{Head, Group, Super
 use Rattle.reader.specs.declared.Grouped.the-variants.{Taken}
 use Rattle.reader.specs.declared.Groups.the-variants.{Whole}
 use Rattle.reader.specs.Records.{groupItem, headItem, isMark, itemIn, lessGroup, lessMember, spent, superedgeItem, whole}
-use Rattle.reader.specs.Decoding.{accepted, follows, groupTaken, groupsRead, keyOf, membersRead, numbersAt, superedgesFit}
+use Rattle.reader.specs.Decoding.{follows, groupTaken, groupsRead, keyOf, membersRead, numbersAt, superedgesFit}
 use Rattle.reader.specs.GroupLaws.{read-none, read-taken}
 use Rattle.reader.specs.ToldLaws.{Ordered}
 

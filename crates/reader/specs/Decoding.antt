@@ -8,7 +8,6 @@ use lib.ListN.{length, getD, drop, replicate}
 use Rattle.model.specs.Lists.{member}
 use Rattle.model.specs.Graph.{Graph, Proper, maxNodes}
 use Rattle.model.specs.Tables.{edgeBit}
-use Rattle.model.specs.Release.{release}
 use Rattle.model.specs.Reading.{afterGroups, groupsAt, superedgesAt, u16At, u16s}
 use Rattle.reader.specs.declared.Counts.{Counts}
 use Rattle.reader.specs.declared.Lessened.{Lessened}
