@@ -6,6 +6,7 @@ mod buckets;
 mod faults;
 mod graphs;
 mod lent;
+mod program;
 
 use buckets::Buckets;
 use calls::Counts;
@@ -144,6 +145,7 @@ fn main() {
     match words.first().map(String::as_str) {
         None => measure(),
         Some("faults") => faults::run(number(1).unwrap_or(1), number(2).unwrap_or(60)),
-        Some(_) => println!("bench, or bench faults SEED SECONDS"),
+        Some("program") => program::run("target/bin/tegmulos", number(1).unwrap_or(1), number(2).unwrap_or(60)),
+        Some(_) => println!("bench, bench faults SEED SECONDS, or bench program SEED SECONDS"),
     }
 }
