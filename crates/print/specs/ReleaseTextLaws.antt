@@ -7,7 +7,7 @@ use native.Mathlib.Omega.{arith}
 use lib.ListN.{length, drop}
 use Rattle.model.specs.Graph.{Graph, emptyGraph}
 use Rattle.model.specs.Lists.{concat}
-use Rattle.model.specs.Program.{accepted, changeLines, groupLine, inputOf, openLine, printed, program, refusedAt, refusedLine, releaseLines, superedgeLine}
+use Rattle.model.specs.Program.{accepted, changeLines, groupLine, openLine, printed, releaseLines, superedgeLine}
 use Rattle.model.specs.Reading.{u16At}
 use Rattle.model.specs.ReadingLaws.{body, count-back, groups-after, next, superedges-back, u16s-back}
 use Rattle.model.specs.Release.{encode, endRecord, groupRecord, headRecord, release, superedgeRecord, superedges, u16, visible, visibleEdge, visibleGroups}
@@ -53,11 +53,7 @@ pub release-text : (g : Graph) → fileText (release g) ≡ releaseLines g
 unfolding release releaseLines visibleGroups
 release-text g = encode-text (g .nodeCount) (visible g) (visibleEdge g) (visibleGroups g)
 
--- the output for an accepted and for a refused input
-pub accepted-text : (bytes : List ℕ) (n : ℕ) (cs : List Update) → inputOf bytes ≡ accepted n cs → changeLines 1 (answers (emptyGraph n) cs) ++ fileText (release (batchGraph (emptyGraph n) cs)) ≡ program bytes
-unfolding program printed
-accepted-text bytes n cs h = rw (h, release-text (batchGraph (emptyGraph n) cs))
-
-pub refused-text : (bytes : List ℕ) (k : ℕ) → inputOf bytes ≡ refusedAt k → refusedLine k ≡ program bytes
-unfolding program printed
-refused-text bytes k h = rw h
+-- what is printed of an accepted input
+pub accepted-text : (n : ℕ) (cs : List Update) → changeLines 1 (answers (emptyGraph n) cs) ++ fileText (release (batchGraph (emptyGraph n) cs)) ≡ printed (accepted n cs)
+unfolding printed
+accepted-text n cs = rw (release-text (batchGraph (emptyGraph n) cs))

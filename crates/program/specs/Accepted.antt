@@ -1,0 +1,36 @@
+-- An accepted input: a batch on a new graph of n nodes, the answers to it, and the release of the graph after it.
+use mathlib.Core.Path.{_≡_}
+use mathlib.Core.List.{List}
+use Prim.Native.Nat.{ℕ, _*_, _%_, _≤_}
+use lib.IntN.{ℤ}
+use lib.ListN.{length}
+use Rattle.model.specs.Calls.{onto}
+use Rattle.model.specs.Graph.{Graph, emptyGraph, maxNodes, maxUpdates}
+use Rattle.model.specs.Program.{maxBytes}
+use Rattle.model.specs.Release.{release}
+use Rattle.model.specs.Tables.{Tables}
+use Rattle.model.specs.Updates.{answers, batchGraph, inThrees}
+use Rattle.index.specs.Index.{Sized}
+
+-- the graph after the batch xs
+abbrev pub graphAfter : ℕ → List ℕ → Graph
+graphAfter n xs = batchGraph (emptyGraph n) (inThrees xs)
+
+-- n and the batch are within their limits
+pub record Small (n : ℕ) (xs : List ℕ) : Type 0 where
+  pub nodes : n ≤ maxNodes
+  pub threes : length xs % 3 ≡ 0
+  pub few : length xs ≤ 3 * maxUpdates
+
+-- and the tables, the answer buffer and the release buffer are long enough
+pub record Lent (n : ℕ) (t : Tables) (xs : List ℕ) (out : List ℤ) (file : List ℕ) : Type 0 where
+  pub small : Small n xs
+  pub sized : Sized n t
+  pub answerRoom : maxUpdates ≤ length out
+  pub fileRoom : maxBytes ≤ length file
+
+-- the answers and the file stand in their buffers, and k is the file's length
+pub record Told (n : ℕ) (xs : List ℕ) (out out′ : List ℤ) (file file′ : List ℕ) (k : ℕ) : Type 0 where
+  pub answered : out′ ≡ onto (answers (emptyGraph n) (inThrees xs)) out
+  pub written : file′ ≡ onto (release (graphAfter n xs)) file
+  pub bytes : k ≡ length (release (graphAfter n xs))

@@ -1,0 +1,123 @@
+-- The three calls on an accepted input are done, and what is printed of it.
+use mathlib.Core.Path.{_≡_, refl, sym, ap, ap₂, _∙_}
+use mathlib.Core.Bool.{false}
+use mathlib.Core.List.{List, [], _∷_, _++_}
+use Prim.Native.Nat.{ℕ, suc, _*_, _/_, _%_, _≤_}
+use native.Mathlib.Omega.{arith}
+use lib.Dec.{eqb, ltb}
+use lib.IntN.{ℤ}
+use lib.ListN.{length, take, drop}
+use lib.Seq.{length-take-le, take-append-seam}
+use borrow.Author.Tests.{eq-eqb, le-ltb}
+use Rattle.model.specs.Calls.{Applied, Opened, Released, applyCall, onto, openCall, openReasons, releaseCall, released}
+use Rattle.model.specs.DemandLaws.{release-written}
+use Rattle.model.specs.Graph.{emptyGraph, maxNodes, maxUpdates, nodeNumbers, rowWords}
+use Rattle.model.specs.History.{Outcome, batch, opening, outcome, plainAfter, plainOutcome, plainReasons, tablesAfter}
+use Rattle.model.specs.HistoryLaws.{Kept, call-told, lengthsFor, opening-kept, size-right}
+use Rattle.model.specs.Program.{accepted, changeLines, maxBytes, printed}
+use Rattle.model.specs.ProgramLaws.{fits}
+use Rattle.model.specs.Refusals.{firstOf, lengths, wrongSize}
+use Rattle.model.specs.Release.{release}
+use Rattle.model.specs.Tables.{Tables}
+use Rattle.model.specs.UpdateLaws.{length-answers, proper-batch, proper-empty}
+use Rattle.model.specs.Updates.{answers, inThrees, updateCount, wrongBatch}
+use Rattle.rows.specs.Rows.{lent}
+use Rattle.index.specs.Index.{Sized, applied, opened}
+use Rattle.print.specs.Lines.{fileText}
+use Rattle.print.specs.ReleaseTextLaws.{accepted-text}
+use Rattle.writer.specs.Written.{answer}
+use Rattle.writer.specs.declared.Written.{Written}
+use Rattle.program.specs.Accepted.{Lent, Small, Told, graphAfter}
+
+-- three numbers for each update
+length-threes : (xs : List ℕ) → length (inThrees xs) ≡ length xs / 3
+unfolding inThrees
+length-threes [] = refl
+length-threes (k ∷ []) = refl
+length-threes (k ∷ (u ∷ [])) = refl
+length-threes (k ∷ (u ∷ (v ∷ rest))) = omega (arith, length-threes rest)
+
+few-updates : {n : ℕ} (xs : List ℕ) → Small n xs → length (inThrees xs) ≤ maxUpdates
+few-updates xs h = omega (arith, length-threes xs, h .few)
+
+module _ {n : ℕ} {t : Tables} {xs : List ℕ} {out : List ℤ} {file : List ℕ} (h : Lent n t xs out file) where
+  sizes : lengths t ≡ lengthsFor n
+  unfolding lengths
+  sizes = λ i. record { edges = h .sized .edges i; nodes = h .sized .nodes i; keys = h .sized .keys i }
+
+  right : wrongSize n (lengths t) ≡ false
+  right = ap (wrongSize n) sizes ∙ size-right n (h .small .nodes)
+
+  whole : wrongBatch xs ≡ false
+  unfolding wrongBatch updateCount
+  whole = rw (eq-eqb (length xs % 3) 0 (h .small .threes), le-ltb maxUpdates (length xs / 3) (omega (arith, h .small .few)))
+
+  open-done : openCall n t .result ≡ 0
+  unfolding openCall openReasons firstOf
+  open-done = rw right
+
+  no-reason : firstOf (plainReasons (lengths t) (batch n xs out)) ≡ 0
+  unfolding plainReasons firstOf updateCount
+  no-reason = rw (right, whole, le-ltb (length out) (length xs / 3) (omega (arith, h .small .few, h .answerRoom)))
+
+  applied-told : Kept (lengths t) (graphAfter n xs) (applyCall n (openCall n t .tables) xs out .tables) × (applyCall n (openCall n t .tables) xs out .answers ≡ onto (answers (emptyGraph n) (inThrees xs)) out)
+  unfolding tablesAfter outcome plainAfter plainOutcome
+  applied-told =
+      let k = call-told (lengths t) (emptyGraph n) (tablesAfter t (opening n)) (opening-kept t n open-done) (batch n xs out) in
+      let e = eq-eqb (firstOf (plainReasons (lengths t) (batch n xs out))) 0 no-reason in
+      (rw e at (k .0), ap (λ (o : Outcome). o .answers) (rw e at (k .1)))
+
+  pub told : {r₁ : ℕ} {t₁ : Tables} {r₂ : ℕ} {t₂ : Tables} {out₂ : List ℤ} {w : Written} {file₂ : List ℕ} → opened r₁ t₁ ≡ openCall n t → applied r₂ t₂ out₂ ≡ applyCall n t₁ xs out → answer w file₂ ≡ releaseCall n t₂ file → Told n xs out out₂ file file₂ (w .bytes)
+  unfolding released
+  told {r₁} {t₁} {r₂} {t₂} {out₂} {w} {file₂} a b c = record {
+    answered = ap (λ (o : Applied). o .answers) done ∙ applied-told .1;
+    written = ap (λ (o : Released). o .out) file-is;
+    bytes = ap (λ (o : Released). o .bytes) file-is;
+  }
+    where
+      done : applied r₂ t₂ out₂ ≡ applyCall n (openCall n t .tables) xs out
+      done = b ∙ ap (λ (s : Tables). applyCall n s xs out) (ap (λ (o : Opened). o .tables) a)
+
+      kept : Kept (lengths t) (graphAfter n xs) t₂
+      kept = rw (sym (ap (λ (o : Applied). o .tables) done)) at (applied-told .0)
+
+      count : n ≡ graphAfter n xs .nodeCount
+      count = sym (proper-batch (inThrees xs) (emptyGraph n) (proper-empty n (h .small .nodes)) .1 ∙ unfold emptyGraph in refl)
+
+      file-is : answer w file₂ ≡ released (graphAfter n xs) file
+      file-is =
+          c
+          ∙ ap (λ (m : ℕ). releaseCall m t₂ file) count
+          ∙ release-written (lengths t) (graphAfter n xs) t₂ kept file (omega (arith, fits n (inThrees xs) (h .small .nodes) (few-updates xs (h .small)), h .fileRoom))
+
+-- tables for 512 nodes, of which a graph of n nodes is lent the front
+pub lent-parts : {n : ℕ} {xs : List ℕ} (edges nodes keys : List ℕ) {out : List ℤ} {file : List ℕ} → Small n xs
+    → rowWords * maxNodes ≤ length edges → nodeNumbers * maxNodes ≤ length nodes → 2 * maxNodes ≤ length keys → maxUpdates ≤ length out → maxBytes ≤ length file
+    → Lent n (lent (take (rowWords * n) edges) (take (nodeNumbers * n) nodes) (take (2 * n) keys)) xs out file
+lent-parts {n} edges nodes keys small a b c answers-fit file-fits = record {
+  small = small;
+  sized = record {
+    small = small .nodes;
+    edges = length-take-le (rowWords * n) edges (omega (arith, small .nodes));
+    nodes = length-take-le (nodeNumbers * n) nodes (omega (arith, small .nodes));
+    keys = length-take-le (2 * n) keys (omega (arith, small .nodes));
+  };
+  answerRoom = answers-fit;
+  fileRoom = file-fits;
+}
+
+-- the file is within the buffer
+pub told-fits : {n : ℕ} {xs : List ℕ} {out out′ : List ℤ} {file file′ : List ℕ} {k : ℕ} → Small n xs → Told n xs out out′ file file′ k → k ≤ maxBytes
+told-fits {n} {xs} s h = omega (arith, h .bytes, fits n (inThrees xs) (s .nodes) (few-updates xs s))
+
+-- what is printed of the answers and the file
+pub told-text : {n : ℕ} {xs : List ℕ} {out out′ : List ℤ} {file file′ : List ℕ} {k : ℕ} → Told n xs out out′ file file′ k → changeLines 1 (take (length xs / 3) out′) ++ fileText (take k file′) ≡ printed (accepted n (inThrees xs))
+told-text {n} {xs} {out} {out′} {file} {file′} {k} h = ap₂ (λ (a : List ℤ) (f : List ℕ). changeLines 1 a ++ fileText f) told-answers told-file ∙ accepted-text n (inThrees xs)
+  where
+    told-answers : take (length xs / 3) out′ ≡ answers (emptyGraph n) (inThrees xs)
+    told-answers =
+        let e : length xs / 3 ≡ length (answers (emptyGraph n) (inThrees xs)) = sym (length-answers (inThrees xs) (emptyGraph n) ∙ length-threes xs) in
+        rw (h .answered, e) (take-append-seam (answers (emptyGraph n) (inThrees xs)) _)
+
+    told-file : take k file′ ≡ release (graphAfter n xs)
+    told-file = rw (h .written, h .bytes) (take-append-seam (release (graphAfter n xs)) _)

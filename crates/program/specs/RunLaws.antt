@@ -1,0 +1,63 @@
+-- What the parser tells of an input, and the program's output for it.
+use mathlib.Core.Path.{_≡_, sym, ap, _∙_}
+use mathlib.Core.List.{List, _++_}
+use Prim.Native.Nat.{ℕ, _+_, _*_, _≤_}
+use native.Mathlib.Omega.{arith}
+use lib.ListN.{length, take, drop}
+use lib.Seq.{length-take-le, sets-eq}
+use Rattle.model.specs.Calls.{onto}
+use Rattle.model.specs.Graph.{maxUpdates}
+use Rattle.model.specs.Program.{Input, accepted, inputOf, printed, program, refusedAt, refusedLine}
+use Rattle.model.specs.ProgramLaws.{input-small}
+use Rattle.model.specs.Updates.{inThrees}
+use Rattle.layout.specs.Wrote.{Wrote}
+use Rattle.print.specs.LengthLaws.{program-short}
+use Rattle.print.specs.Lines.{maxText}
+use Rattle.text.specs.Grammar.{Told, inputIn, used}
+use Rattle.text.specs.declared.Parsed.{Parsed}
+use Rattle.text.specs.declared.Parsed.the-variants.{Accepted, Refused}
+use Rattle.program.specs.Accepted.{Small}
+
+module _ (bytes : List ℕ) {before after : List ℕ} {r : Parsed} (h : Told (inputOf bytes) before after r) where
+  input-is : {i : Input} → inputIn r after ≡ i → printed i ≡ program bytes
+  unfolding program
+  input-is e = ap printed (sym e ∙ h .input)
+
+  -- refused
+  pub refused-is : (line : ℕ) → r ≡ Refused line → refusedLine line ≡ program bytes
+  unfolding printed inputIn
+  refused-is line e = input-is (ap (λ (p : Parsed). inputIn p after) e)
+
+  -- accepted: the changes stand in the first numbers of the batch
+  accepted-input : (n count : ℕ) → r ≡ Accepted n count → inputIn r after ≡ accepted n (inThrees (take (3 * count) after))
+  unfolding inputIn
+  accepted-input n count e = ap (λ (p : Parsed). inputIn p after) e
+
+  pub accepted-is : (n count : ℕ) → r ≡ Accepted n count → printed (accepted n (inThrees (take (3 * count) after))) ≡ program bytes
+  accepted-is n count e = input-is (accepted-input n count e)
+
+  pub accepted-few : (n count : ℕ) → r ≡ Accepted n count → count ≤ maxUpdates
+  unfolding used
+  accepted-few n count e = rw (ap used e) at (h .few)
+
+  pub accepted-small : (n count : ℕ) → r ≡ Accepted n count → 3 * maxUpdates ≤ length after → Small n (take (3 * count) after)
+  accepted-small n count e room =
+      let few = accepted-few n count e in
+      let size = length-take-le (3 * count) after (omega arith) in
+      record {
+        nodes = input-small bytes n (inThrees (take (3 * count) after)) (sym (h .input) ∙ accepted-input n count e) .0;
+        threes = omega (arith, size);
+        few = omega (arith, size);
+      }
+
+-- the output fits, and stands at the start of the buffer
+module _ (bytes : List ℕ) {xs : List ℕ} (e : xs ≡ program bytes) where
+  pub run-short : length xs ≤ maxText
+  run-short = omega (arith, ap length e, program-short bytes)
+
+  pub run-bytes : {s t : List ℕ} {k : ℕ} → maxText ≤ length s → Wrote s 0 xs t k → (t ≡ onto (program bytes) s) × (k ≡ length (program bytes))
+  run-bytes {s} {t} {k} h w =
+      let none : 0 + length xs ≡ length xs = omega arith in (
+        w .bytes ∙ sets-eq xs s 0 (omega (arith, run-short)) ∙ ap (λ (i : ℕ). xs ++ drop i s) none ∙ ap (λ (l : List ℕ). onto l s) e,
+        w .place ∙ none ∙ ap length e,
+      )

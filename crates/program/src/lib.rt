@@ -1,0 +1,80 @@
+// The program: the bytes of its input to the bytes of its output.
+use rows::Graph;
+use text::Parsed;
+ghost use mathlib.Core.Path.{_≡_};
+ghost use Prim.Native.Nat.{_≤_};
+ghost use lib.ListN.{length};
+ghost use Rattle.model.specs.Calls.{onto};
+ghost use Rattle.model.specs.Program.{accepted, printed, program};
+ghost use Rattle.model.specs.Updates.{inThrees};
+ghost use Rattle.layout.specs.Wrote.{Wrote};
+ghost use Rattle.rows.specs.Rows.{lent};
+ghost use Rattle.program.specs.Accepted.{Lent, Small, Told};
+
+// The release buffer, which holds every release that 4,096 changes can lead to.
+const FILE_BYTES: usize = 65536;
+
+// No output is longer.
+pub const OUTPUT_BYTES: usize = 131072;
+
+// A batch applied to a new graph of n nodes, and the graph's release: how many bytes the file has.
+fn release_after(
+    n: usize,
+    edges: &mut [u64],
+    nodes: &mut [u16],
+    keys: &mut [u32],
+    batch: &[u16],
+    answers: &mut [i16],
+    file: &mut [u8],
+) -> usize
+    requires { ⌜ Lent n (lent (now edges) (now nodes) (now keys)) (now batch) (now answers) (now file) ⌝ }
+    ensures { λ r. ⌜ Told n (now (batch .entry)) (now (answers .entry)) (now (answers .exit)) (now (file .entry)) (now (file .exit)) r ⌝ }
+{
+    index::open(n, edges, nodes, keys);
+    index::apply(n, edges, nodes, keys, batch, answers);
+    let written = release::release(n, edges, nodes, keys, file);
+    written.bytes as usize
+}
+
+// What is printed for n and a batch of changes.
+fn print_accepted(n: usize, batch: &[u16], out: &mut [u8]) -> usize
+    requires { ⌜ Small n (now batch) ⌝ }
+    requires { ⌜ length (printed (accepted n (inThrees (now batch)))) ≤ length (now out) ⌝ }
+    ensures { λ r. ⌜ Wrote (now (out .entry)) 0 (printed (accepted n (inThrees (now (batch .entry))))) (now (out .exit)) r ⌝ }
+{
+    let mut edges = [0u64; Graph::NODES * Graph::ROW_WORDS];
+    let mut nodes = [0u16; Graph::NODES * Graph::NODE_NUMBERS];
+    let mut keys = [0u32; Graph::NODES * 2];
+    let mut answers = [0i16; Graph::UPDATES];
+    let mut file = [0u8; FILE_BYTES];
+    let words = Graph::ROW_WORDS * n;
+    let numbers = Graph::NODE_NUMBERS * n;
+    let sums = 2 * n;
+    let bytes = release_after(
+        n,
+        &mut edges[..words],
+        &mut nodes[..numbers],
+        &mut keys[..sums],
+        batch,
+        &mut answers,
+        &mut file,
+    );
+    let count = batch.len() / 3;
+    print::output(out, &answers[..count], &file[..bytes])
+}
+
+// The program's output for an input: how many bytes it has at the start of the buffer, which keeps its others.
+pub fn run(input: &[u8], out: &mut [u8; OUTPUT_BYTES]) -> usize
+    ensures bytes { λ _. ⌜ now (out .exit) ≡ onto (program (now (input .entry))) (now (out .entry)) ⌝ }
+    ensures count { λ r. ⌜ r ≡ length (program (now (input .entry))) ⌝ }
+{
+    let mut batch = [0u16; 3 * Graph::UPDATES];
+    let parsed = text::parse(input, &mut batch);
+    match parsed {
+        Parsed::Refused { line } => print::refused_line(out, 0, line),
+        Parsed::Accepted { n, count } => {
+            let end = 3 * count;
+            print_accepted(n, &batch[..end], out)
+        }
+    }
+}

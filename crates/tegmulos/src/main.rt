@@ -1,0 +1,8 @@
+// Prints the program's output for standard input. Of a longer input it reads the byte that has it refused.
+fn main() {
+    let mut input = [0u8; 65537];
+    let n = io::read_full(0, &mut input);
+    let mut out = [0u8; program::OUTPUT_BYTES];
+    let k = program::run(&input[..n], &mut out);
+    io::write_all(1, &out[..k]);
+}
