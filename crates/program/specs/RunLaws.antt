@@ -1,14 +1,19 @@
 -- What the parser tells of an input, and the program's output for it.
 use mathlib.Core.Path.{_≡_, sym, ap, _∙_}
+use mathlib.Core.Bool.{true, false}
 use mathlib.Core.List.{List, _++_}
-use Prim.Native.Nat.{ℕ, _+_, _*_, _≤_}
+use mathlib.Core.Logic.{_⊎_, inl, inr}
+use Prim.Native.Nat.{ℕ, _+_, _*_, _≤_, _<_}
 use native.Mathlib.Omega.{arith}
-use lib.ListN.{length, take, drop}
-use lib.Seq.{length-take-le, sets-eq}
+use lib.Dec.{ltb}
+use lib.ListN.{length, take, drop, length-take}
+use lib.Seq.{length-take-le, sets-eq, take-all}
+use borrow.Author.Tests.{ltb-false, ltb-true, lt-ltb}
 use Rattle.model.specs.Calls.{onto}
 use Rattle.model.specs.Graph.{maxUpdates}
-use Rattle.model.specs.Program.{Input, accepted, inputOf, printed, program, refusedAt, refusedLine}
+use Rattle.model.specs.Program.{Input, accepted, inputOf, maxBytes, printed, program, refusedAt, refusedLine}
 use Rattle.model.specs.ProgramLaws.{input-small}
+use Rattle.model.specs.TestLaws.{decide}
 use Rattle.model.specs.Updates.{inThrees}
 use Rattle.layout.specs.Wrote.{Wrote}
 use Rattle.print.specs.LengthLaws.{program-short}
@@ -61,3 +66,12 @@ module _ (bytes : List ℕ) {xs : List ℕ} (e : xs ≡ program bytes) where
         w .bytes ∙ sets-eq xs s 0 (omega (arith, run-short)) ∙ ap (λ (i : ℕ). xs ++ drop i s) none ∙ ap (λ (l : List ℕ). onto l s) e,
         w .place ∙ none ∙ ap length e,
       )
+
+-- the byte past the longest input has it refused, and those after it are not looked at
+pub front-tells : (k : ℕ) (bytes : List ℕ) → maxBytes < k → program (take k bytes) ≡ program bytes
+unfolding program inputOf
+front-tells k bytes h = step (decide (ltb maxBytes (length bytes)))
+  where
+    step : (ltb maxBytes (length bytes) ≡ true) ⊎ (ltb maxBytes (length bytes) ≡ false) → program (take k bytes) ≡ program bytes
+    step (inl t) = rw (t, lt-ltb maxBytes (length (take k bytes)) (omega (arith, length-take k bytes, ltb-true maxBytes (length bytes) t)))
+    step (inr t) = ap program (take-all k bytes (omega (arith, ltb-false maxBytes (length bytes) t)))

@@ -2,8 +2,9 @@
 use rows::Graph;
 use text::Parsed;
 ghost use mathlib.Core.Path.{_≡_};
-ghost use Prim.Native.Nat.{_≤_};
-ghost use lib.ListN.{length};
+ghost use mathlib.Core.List.{List};
+ghost use Prim.Native.Nat.{ℕ, _≤_};
+ghost use lib.ListN.{length, take};
 ghost use Rattle.model.specs.Calls.{onto};
 ghost use Rattle.model.specs.Program.{accepted, printed, program};
 ghost use Rattle.model.specs.Updates.{inThrees};
@@ -11,11 +12,22 @@ ghost use Rattle.layout.specs.Wrote.{Wrote};
 ghost use Rattle.rows.specs.Rows.{lent};
 ghost use Rattle.program.specs.Accepted.{Lent, Small, Told};
 
+// What the program reads of its input: a byte more than is accepted.
+pub const INPUT_BYTES: usize = text::INPUT_BYTES + 1;
+
 // The release buffer, which holds every release that 4,096 changes can lead to.
 const FILE_BYTES: usize = 65536;
 
 // No output is longer.
 pub const OUTPUT_BYTES: usize = 131072;
+
+// A buffer for the input: what follows the bytes that it holds changes nothing in the output.
+pub fn input_buffer() -> [u8; INPUT_BYTES]
+    ensures size { λ r. ⌜ length r ≡ 65537 ⌝ }
+    ensures enough { λ r. ⌜ ((input : List ℕ) → program (take (length r) input) ≡ program input) ⌝ }
+{
+    [0; INPUT_BYTES]
+}
 
 // A batch applied to a new graph of n nodes, and the graph's release: how many bytes the file has.
 fn release_after(

@@ -1,6 +1,6 @@
-// Prints the program's output for standard input. Of a longer input it reads the byte that has it refused.
+// Prints the program's output for standard input.
 fn main() {
-    let mut input = [0u8; 65537];
+    let mut input = program::input_buffer();
     let n = io::read_full(0, &mut input);
     let mut out = [0u8; program::OUTPUT_BYTES];
     let k = program::run(&input[..n], &mut out);

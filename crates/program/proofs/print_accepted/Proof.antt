@@ -1,102 +1,80 @@
+-- `program::print_accepted` meets its contract.
 use mathlib.Core.Path.{sym}
 use Prim.Native.Nat.{ℕ, _*_}
 use native.Mathlib.Omega.{arith}
 use lib.ListN.{length-replicate, replicate}
 use lib.Seq.{length-take-le}
-use Rattle.program.specs.AcceptedLaws.{lent-parts, told-fits, told-text}
 use borrow.Author.Needs.{needs}
+use Rattle.program.specs.AcceptedLaws.{lent-parts, told-fits, told-text}
 use Rattle.program.proofs.print_accepted.Statement.{statement}
 use Rattle.program.proofs.print_accepted.Tie as tie
-use Rattle.program.proofs.print_accepted.Reads as reads
-use Rattle.program.proofs.print_accepted.Lts as lts
-use Rattle.print.proofs.output.Reads as output-reads
-use Rattle.program.proofs.release_after.Reads as release-after-reads
 
--- src/lib.rt:50:17
 mul-words : tie.Need-mul-words
 mul-words c = search needs
 
--- src/lib.rt:51:19
 mul-numbers : tie.Need-mul-numbers
 mul-numbers c = search needs
 
--- src/lib.rt:52:16
 mul-sums : tie.Need-mul-sums
 mul-sums c = search needs
 
--- src/lib.rt:55:9
 array-borrow-prefix-edges : tie.Need-array-borrow-prefix-edges
 array-borrow-prefix-edges c = search needs
 
--- src/lib.rt:55:9
 slice-aggregate-release-after : tie.Need-slice-aggregate-release-after
 slice-aggregate-release-after c =
     sym (length-take-le (8 * c .before .before .before .args .n) (replicate 4096 0) (omega (arith, length-replicate {A = ℕ} 4096 0, c .before .before .before .pre .0 .nodes)))
 
--- src/lib.rt:56:9
 array-borrow-prefix-nodes : tie.Need-array-borrow-prefix-nodes
 array-borrow-prefix-nodes c = search needs
 
--- src/lib.rt:56:9
 slice-aggregate-release-after-2 : tie.Need-slice-aggregate-release-after-2
 slice-aggregate-release-after-2 c =
     sym (length-take-le (4 * c .before .before .before .before .args .n) (replicate 2048 0) (omega (arith, length-replicate {A = ℕ} 2048 0, c .before .before .before .before .pre .0 .nodes)))
 
--- src/lib.rt:57:9
 array-borrow-prefix-keys : tie.Need-array-borrow-prefix-keys
 array-borrow-prefix-keys c = search needs
 
--- src/lib.rt:57:9
 slice-aggregate-release-after-3 : tie.Need-slice-aggregate-release-after-3
 slice-aggregate-release-after-3 c =
     sym (length-take-le (2 * c .before .before .before .before .before .args .n) (replicate 1024 0) (omega (arith, length-replicate {A = ℕ} 1024 0, c .before .before .before .before .before .pre .0 .nodes)))
 
--- src/lib.rt:59:9
 slice-aggregate-release-after-4 : tie.Need-slice-aggregate-release-after-4
 slice-aggregate-release-after-4 c = search needs
 
--- src/lib.rt:60:9
 slice-aggregate-release-after-5 : tie.Need-slice-aggregate-release-after-5
 slice-aggregate-release-after-5 c = search needs
 
--- src/lib.rt:53:9
 release-after-requires : tie.Need-release-after-requires
 release-after-requires c κs =
     lent-parts (replicate 4096 0) (replicate 2048 0) (replicate 1024 0) (c .before .before .before .before .before .before .before .pre .0) (omega (arith, length-replicate {A = ℕ} 4096 0)) (omega (arith, length-replicate {A = ℕ} 2048 0)) (omega (arith, length-replicate {A = ℕ} 1024 0)) (omega arith) (omega (arith, length-replicate {A = ℕ} 65536 0))
 
--- src/lib.rt:63:24
 array-share-prefix-answers : tie.Need-array-share-prefix-answers
 array-share-prefix-answers c = search needs
 
--- src/lib.rt:63:24
 slice-aggregate-output : tie.Need-slice-aggregate-output
 slice-aggregate-output c =
     let r = c .before .before .before .before .before .before .before .release-after in
     sym (length-take-le _ (r .last .1 .1 .1 .1 .1 .0) (search needs))
 
--- src/lib.rt:63:43
 array-share-prefix-file : tie.Need-array-share-prefix-file
 array-share-prefix-file c =
     let r = c .before .before .before .before .before .before .before in
     omega (arith, told-fits (r .before .before .before .before .before .before .before .before .pre .0) (r .release-after .ensures))
 
--- src/lib.rt:63:43
 slice-aggregate-output-2 : tie.Need-slice-aggregate-output-2
 slice-aggregate-output-2 c =
     let r = c .before .before .before .before .before .before .before .before in
     sym (length-take-le (r .release-after .result) (r .release-after .last .1 .1 .1 .1 .1 .1 .0) (omega (arith, told-fits (r .before .before .before .before .before .before .before .before .pre .0) (r .release-after .ensures))))
 
--- src/lib.rt:63:5
 output-requires : tie.Need-output-requires
 output-requires c κs =
     let r = c .before .before .before .before .before .before .before .before in
     rw (told-text (r .release-after .ensures)) (r .before .before .before .before .before .before .before .before .pre .1)
 
--- src/lib.rt:40:1
 same-length : tie.Need-same-length
 same-length c = search needs
 
--- src/lib.rt:40:1
 returns : tie.Need-returns
 returns c =
     let r = c .before .before .before .before .before .before .before .before .before .before .before in

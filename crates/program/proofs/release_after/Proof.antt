@@ -1,50 +1,36 @@
+-- `program::release_after` meets its contract.
 use borrow.Author.Needs.{needs}
 use Rattle.program.specs.AcceptedLaws.{told}
 use Rattle.program.proofs.release_after.Statement.{statement}
 use Rattle.program.proofs.release_after.Tie as tie
-use Rattle.program.proofs.release_after.Reads as reads
-use Rattle.program.proofs.release_after.Lts as lts
-use Rattle.index.proofs.apply.Reads as apply-reads
-use Rattle.index.proofs.open.Reads as open-reads
-use Rattle.release.proofs.release.Reads as release-reads
 
--- src/lib.rt:33:5
 open-requires : tie.Need-open-requires
 open-requires c κs = search needs
 
--- src/lib.rt:34:5
 apply-requires : tie.Need-apply-requires
 apply-requires c κs = search needs
 
--- src/lib.rt:35:9
 release-requires : tie.Need-release-requires
 release-requires c κs = search needs
 
--- src/lib.rt:36:5
 cast-result : tie.Need-cast-result
 cast-result c = search needs
 
--- src/lib.rt:21:1
 same-length : tie.Need-same-length
 same-length c = search needs
 
--- src/lib.rt:21:1
 same-length-2 : tie.Need-same-length-2
 same-length-2 c = search needs
 
--- src/lib.rt:21:1
 same-length-3 : tie.Need-same-length-3
 same-length-3 c = search needs
 
--- src/lib.rt:21:1
 same-length-4 : tie.Need-same-length-4
 same-length-4 c = search needs
 
--- src/lib.rt:21:1
 same-length-5 : tie.Need-same-length-5
 same-length-5 c = search needs
 
--- src/lib.rt:21:1
 returns : tie.Need-returns
 returns c =
     let r = c .before .before .before in

@@ -1,3 +1,4 @@
+-- `tegmulos::main` meets its contract.
 use mathlib.Core.Path.{ap, sym}
 use native.Mathlib.Omega.{arith}
 use lib.ListN.{length, length-append}
@@ -5,6 +6,9 @@ use lib.Seq.{length-take-le}
 use borrow.Author.Needs.{needs}
 use Rattle.tegmulos.proofs.main.Statement.{statement}
 use Rattle.tegmulos.proofs.main.Tie as tie
+
+input-buffer-requires : tie.Need-input-buffer-requires
+input-buffer-requires c κs = search needs
 
 slice-aggregate-read-full : tie.Need-slice-aggregate-read-full
 slice-aggregate-read-full c = search needs
@@ -37,6 +41,7 @@ pub main-spec : {M : Type 1} → statement M
 main-spec =
     tie.close
     (tie.spec
+    input-buffer-requires
     slice-aggregate-read-full
     read-full-requires
     array-share-prefix-input
