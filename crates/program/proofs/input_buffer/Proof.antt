@@ -7,7 +7,7 @@ use Rattle.program.proofs.input_buffer.Statement.{statement}
 use Rattle.program.proofs.input_buffer.Tie as tie
 
 returns : tie.Need-returns
-returns c = (length-replicate {A = ℕ} 65537 0, λ input. front-tells (length (replicate {A = ℕ} 65537 0)) input (omega (arith, length-replicate {A = ℕ} 65537 0)))
+returns c = (omega (arith, length-replicate {A = ℕ} 65537 0), λ input. front-tells (length (replicate {A = ℕ} 65537 0)) input (omega (arith, length-replicate {A = ℕ} 65537 0)))
 
 pub input-buffer-spec : {M : Type 1} → statement M
 input-buffer-spec = tie.close (tie.spec returns)
