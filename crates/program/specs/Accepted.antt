@@ -30,7 +30,7 @@ pub record Lent (n : ℕ) (t : Tables) (xs : List ℕ) (out : List ℤ) (file : 
   pub fileRoom : maxBytes ≤ length file
 
 -- the answers and the file stand in their buffers, and k is the file's length
-pub record Told (n : ℕ) (xs : List ℕ) (out out′ : List ℤ) (file file′ : List ℕ) (k : ℕ) : Type 0 where
+pub record Done (n : ℕ) (xs : List ℕ) (out out′ : List ℤ) (file file′ : List ℕ) (k : ℕ) : Type 0 where
   pub answered : out′ ≡ onto (answers (emptyGraph n) (inThrees xs)) out
   pub written : file′ ≡ onto (release (graphAfter n xs)) file
   pub bytes : k ≡ length (release (graphAfter n xs))

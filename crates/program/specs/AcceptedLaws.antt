@@ -2,11 +2,10 @@
 use mathlib.Core.Path.{_≡_, refl, sym, ap, ap₂, _∙_}
 use mathlib.Core.Bool.{false}
 use mathlib.Core.List.{List, [], _∷_, _++_}
-use Prim.Native.Nat.{ℕ, suc, _*_, _/_, _%_, _≤_}
+use Prim.Native.Nat.{ℕ, _*_, _/_, _%_, _≤_}
 use native.Mathlib.Omega.{arith}
-use lib.Dec.{eqb, ltb}
 use lib.IntN.{ℤ}
-use lib.ListN.{length, take, drop}
+use lib.ListN.{length, take}
 use lib.Seq.{length-take-le, take-append-seam}
 use borrow.Author.Tests.{eq-eqb, le-ltb}
 use Rattle.model.specs.Calls.{Applied, Opened, Released, applyCall, onto, openCall, openReasons, releaseCall, released}
@@ -22,12 +21,12 @@ use Rattle.model.specs.Tables.{Tables}
 use Rattle.model.specs.UpdateLaws.{length-answers, proper-batch, proper-empty}
 use Rattle.model.specs.Updates.{answers, inThrees, updateCount, wrongBatch}
 use Rattle.rows.specs.Rows.{lent}
-use Rattle.index.specs.Index.{Sized, applied, opened}
+use Rattle.index.specs.Index.{applied, opened}
 use Rattle.print.specs.Lines.{fileText}
 use Rattle.print.specs.ReleaseTextLaws.{accepted-text}
 use Rattle.writer.specs.Written.{answer}
 use Rattle.writer.specs.declared.Written.{Written}
-use Rattle.program.specs.Accepted.{Lent, Small, Told, graphAfter}
+use Rattle.program.specs.Accepted.{Done, Lent, Small, graphAfter}
 
 -- three numbers for each update
 length-threes : (xs : List ℕ) → length (inThrees xs) ≡ length xs / 3
@@ -67,19 +66,20 @@ module _ {n : ℕ} {t : Tables} {xs : List ℕ} {out : List ℤ} {file : List �
       let e = eq-eqb (firstOf (plainReasons (lengths t) (batch n xs out))) 0 no-reason in
       (rw e at (k .0), ap (λ (o : Outcome). o .answers) (rw e at (k .1)))
 
-  pub told : {r₁ : ℕ} {t₁ : Tables} {r₂ : ℕ} {t₂ : Tables} {out₂ : List ℤ} {w : Written} {file₂ : List ℕ} → opened r₁ t₁ ≡ openCall n t → applied r₂ t₂ out₂ ≡ applyCall n t₁ xs out → answer w file₂ ≡ releaseCall n t₂ file → Told n xs out out₂ file file₂ (w .bytes)
+  -- opened, applied, released
+  pub done : {r₁ : ℕ} {t₁ : Tables} {r₂ : ℕ} {t₂ : Tables} {out₂ : List ℤ} {w : Written} {file₂ : List ℕ} → opened r₁ t₁ ≡ openCall n t → applied r₂ t₂ out₂ ≡ applyCall n t₁ xs out → answer w file₂ ≡ releaseCall n t₂ file → Done n xs out out₂ file file₂ (w .bytes)
   unfolding released
-  told {r₁} {t₁} {r₂} {t₂} {out₂} {w} {file₂} a b c = record {
-    answered = ap (λ (o : Applied). o .answers) done ∙ applied-told .1;
+  done {r₁} {t₁} {r₂} {t₂} {out₂} {w} {file₂} a b c = record {
+    answered = ap (λ (o : Applied). o .answers) applied-is ∙ applied-told .1;
     written = ap (λ (o : Released). o .out) file-is;
     bytes = ap (λ (o : Released). o .bytes) file-is;
   }
     where
-      done : applied r₂ t₂ out₂ ≡ applyCall n (openCall n t .tables) xs out
-      done = b ∙ ap (λ (s : Tables). applyCall n s xs out) (ap (λ (o : Opened). o .tables) a)
+      applied-is : applied r₂ t₂ out₂ ≡ applyCall n (openCall n t .tables) xs out
+      applied-is = b ∙ ap (λ (s : Tables). applyCall n s xs out) (ap (λ (o : Opened). o .tables) a)
 
       kept : Kept (lengths t) (graphAfter n xs) t₂
-      kept = rw (sym (ap (λ (o : Applied). o .tables) done)) at (applied-told .0)
+      kept = rw (sym (ap (λ (o : Applied). o .tables) applied-is)) at (applied-told .0)
 
       count : n ≡ graphAfter n xs .nodeCount
       count = sym (proper-batch (inThrees xs) (emptyGraph n) (proper-empty n (h .small .nodes)) .1 ∙ unfold emptyGraph in refl)
@@ -107,17 +107,17 @@ lent-parts {n} edges nodes keys small a b c answers-fit file-fits = record {
 }
 
 -- the file is within the buffer
-pub told-fits : {n : ℕ} {xs : List ℕ} {out out′ : List ℤ} {file file′ : List ℕ} {k : ℕ} → Small n xs → Told n xs out out′ file file′ k → k ≤ maxBytes
-told-fits {n} {xs} s h = omega (arith, h .bytes, fits n (inThrees xs) (s .nodes) (few-updates xs s))
+pub done-fits : {n : ℕ} {xs : List ℕ} {out out′ : List ℤ} {file file′ : List ℕ} {k : ℕ} → Small n xs → Done n xs out out′ file file′ k → k ≤ maxBytes
+done-fits {n} {xs} s h = omega (arith, h .bytes, fits n (inThrees xs) (s .nodes) (few-updates xs s))
 
 -- what is printed of the answers and the file
-pub told-text : {n : ℕ} {xs : List ℕ} {out out′ : List ℤ} {file file′ : List ℕ} {k : ℕ} → Told n xs out out′ file file′ k → changeLines 1 (take (length xs / 3) out′) ++ fileText (take k file′) ≡ printed (accepted n (inThrees xs))
-told-text {n} {xs} {out} {out′} {file} {file′} {k} h = ap₂ (λ (a : List ℤ) (f : List ℕ). changeLines 1 a ++ fileText f) told-answers told-file ∙ accepted-text n (inThrees xs)
+pub done-text : {n : ℕ} {xs : List ℕ} {out out′ : List ℤ} {file file′ : List ℕ} {k : ℕ} → Done n xs out out′ file file′ k → changeLines 1 (take (length xs / 3) out′) ++ fileText (take k file′) ≡ printed (accepted n (inThrees xs))
+done-text {n} {xs} {out} {out′} {file} {file′} {k} h = ap₂ (λ (a : List ℤ) (f : List ℕ). changeLines 1 a ++ fileText f) the-answers the-file ∙ accepted-text n (inThrees xs)
   where
-    told-answers : take (length xs / 3) out′ ≡ answers (emptyGraph n) (inThrees xs)
-    told-answers =
+    the-answers : take (length xs / 3) out′ ≡ answers (emptyGraph n) (inThrees xs)
+    the-answers =
         let e : length xs / 3 ≡ length (answers (emptyGraph n) (inThrees xs)) = sym (length-answers (inThrees xs) (emptyGraph n) ∙ length-threes xs) in
         rw (h .answered, e) (take-append-seam (answers (emptyGraph n) (inThrees xs)) _)
 
-    told-file : take k file′ ≡ release (graphAfter n xs)
-    told-file = rw (h .written, h .bytes) (take-append-seam (release (graphAfter n xs)) _)
+    the-file : take k file′ ≡ release (graphAfter n xs)
+    the-file = rw (h .written, h .bytes) (take-append-seam (release (graphAfter n xs)) _)

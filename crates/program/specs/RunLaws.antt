@@ -11,7 +11,7 @@ use lib.Seq.{length-take-le, sets-eq, take-all}
 use borrow.Author.Tests.{ltb-false, ltb-true, lt-ltb}
 use Rattle.model.specs.Calls.{onto}
 use Rattle.model.specs.Graph.{maxUpdates}
-use Rattle.model.specs.Program.{Input, accepted, inputOf, maxBytes, printed, program, refusedAt, refusedLine}
+use Rattle.model.specs.Program.{Input, accepted, inputOf, maxBytes, printed, program, refusedLine}
 use Rattle.model.specs.ProgramLaws.{input-small}
 use Rattle.model.specs.TestLaws.{decide}
 use Rattle.model.specs.Updates.{inThrees}

@@ -3,14 +3,14 @@ use rows::Graph;
 use text::Parsed;
 ghost use mathlib.Core.Path.{_≡_};
 ghost use mathlib.Core.List.{List};
-ghost use Prim.Native.Nat.{ℕ, _≤_};
+ghost use Prim.Native.Nat.{ℕ, _+_, _≤_};
 ghost use lib.ListN.{length, take};
 ghost use Rattle.model.specs.Calls.{onto};
-ghost use Rattle.model.specs.Program.{accepted, printed, program};
+ghost use Rattle.model.specs.Program.{accepted, maxBytes, printed, program};
 ghost use Rattle.model.specs.Updates.{inThrees};
 ghost use Rattle.layout.specs.Wrote.{Wrote};
 ghost use Rattle.rows.specs.Rows.{lent};
-ghost use Rattle.program.specs.Accepted.{Lent, Small, Told};
+ghost use Rattle.program.specs.Accepted.{Done, Lent, Small};
 
 // What the program reads of its input: a byte more than is accepted.
 pub const INPUT_BYTES: usize = text::INPUT_BYTES + 1;
@@ -23,7 +23,7 @@ pub const OUTPUT_BYTES: usize = 131072;
 
 // A buffer for the input: what follows the bytes that it holds changes nothing in the output.
 pub fn input_buffer() -> [u8; INPUT_BYTES]
-    ensures size { λ r. ⌜ length r ≡ 65537 ⌝ }
+    ensures size { λ r. ⌜ length r ≡ maxBytes + 1 ⌝ }
     ensures enough { λ r. ⌜ ((input : List ℕ) → program (take (length r) input) ≡ program input) ⌝ }
 {
     [0; INPUT_BYTES]
@@ -40,7 +40,7 @@ fn release_after(
     file: &mut [u8],
 ) -> usize
     requires { ⌜ Lent n (lent (now edges) (now nodes) (now keys)) (now batch) (now answers) (now file) ⌝ }
-    ensures { λ r. ⌜ Told n (now (batch .entry)) (now (answers .entry)) (now (answers .exit)) (now (file .entry)) (now (file .exit)) r ⌝ }
+    ensures { λ r. ⌜ Done n (now (batch .entry)) (now (answers .entry)) (now (answers .exit)) (now (file .entry)) (now (file .exit)) r ⌝ }
 {
     index::open(n, edges, nodes, keys);
     index::apply(n, edges, nodes, keys, batch, answers);

@@ -5,7 +5,7 @@ use native.Mathlib.Omega.{arith}
 use lib.ListN.{length-replicate, replicate}
 use lib.Seq.{length-take-le}
 use borrow.Author.Needs.{needs}
-use Rattle.program.specs.AcceptedLaws.{lent-parts, told-fits, told-text}
+use Rattle.program.specs.AcceptedLaws.{done-fits, done-text, lent-parts}
 use Rattle.program.proofs.print_accepted.Statement.{statement}
 use Rattle.program.proofs.print_accepted.Tie as tie
 
@@ -60,17 +60,17 @@ slice-aggregate-output c =
 array-share-prefix-file : tie.Need-array-share-prefix-file
 array-share-prefix-file c =
     let r = c .before .before .before .before .before .before .before in
-    omega (arith, told-fits (r .before .before .before .before .before .before .before .before .pre .0) (r .release-after .ensures))
+    omega (arith, done-fits (r .before .before .before .before .before .before .before .before .pre .0) (r .release-after .ensures))
 
 slice-aggregate-output-2 : tie.Need-slice-aggregate-output-2
 slice-aggregate-output-2 c =
     let r = c .before .before .before .before .before .before .before .before in
-    sym (length-take-le (r .release-after .result) (r .release-after .last .1 .1 .1 .1 .1 .1 .0) (omega (arith, told-fits (r .before .before .before .before .before .before .before .before .pre .0) (r .release-after .ensures))))
+    sym (length-take-le (r .release-after .result) (r .release-after .last .1 .1 .1 .1 .1 .1 .0) (omega (arith, done-fits (r .before .before .before .before .before .before .before .before .pre .0) (r .release-after .ensures))))
 
 output-requires : tie.Need-output-requires
 output-requires c κs =
     let r = c .before .before .before .before .before .before .before .before in
-    rw (told-text (r .release-after .ensures)) (r .before .before .before .before .before .before .before .before .pre .1)
+    rw (done-text (r .release-after .ensures)) (r .before .before .before .before .before .before .before .before .pre .1)
 
 same-length : tie.Need-same-length
 same-length c = search needs
@@ -78,7 +78,7 @@ same-length c = search needs
 returns : tie.Need-returns
 returns c =
     let r = c .before .before .before .before .before .before .before .before .before .before .before in
-    rw (told-text (r .release-after .ensures)) at (c .before .before .output .ensures)
+    rw (done-text (r .release-after .ensures)) at (c .before .before .output .ensures)
 
 pub print-accepted-spec : {M : Type 1} → statement M
 print-accepted-spec =

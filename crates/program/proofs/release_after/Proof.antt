@@ -1,6 +1,6 @@
 -- `program::release_after` meets its contract.
 use borrow.Author.Needs.{needs}
-use Rattle.program.specs.AcceptedLaws.{told}
+use Rattle.program.specs.AcceptedLaws.{done}
 use Rattle.program.proofs.release_after.Statement.{statement}
 use Rattle.program.proofs.release_after.Tie as tie
 
@@ -36,7 +36,7 @@ returns c =
     let r = c .before .before .before in
     let a = r .before .before .before .before .before .before .before .before .before .before .before .before in
     let o = a .before .before .before .before .before .before .before .before .before .before .before in
-    told (o .before .before .before .before .before .before .before .before .before .pre) (o .«open» .ensures) (a .apply .ensures) (r .release .ensures)
+    done (o .before .before .before .before .before .before .before .before .before .pre) (o .«open» .ensures) (a .apply .ensures) (r .release .ensures)
 
 pub release-after-spec : {M : Type 1} → statement M
 release-after-spec =
