@@ -1,20 +1,20 @@
 -- The calls on tables are those of the model.
 use mathlib.Core.Path.{_≡_, refl, sym, ap, ap₂, _∙_}
 use mathlib.Core.Bool.{Bool, true, false, not, cond, _||_, or-false}
-use mathlib.Core.List.{List, [], _∷_, _++_}
+use mathlib.Core.List.{List, [], _∷_}
 use mathlib.Core.Logic.{_≢_, _⊎_, inl, inr}
 use Prim.Native.Nat.{ℕ, _+_, _%_, _≤_, _<_}
 use native.Mathlib.Omega.{arith}
 use lib.Dec.{eqb, ltb}
 use lib.IntN.{ℤ}
-use lib.ListN.{length, drop}
-use lib.Seq.{sets, sets-eq}
+use lib.ListN.{length}
+use lib.Seq.{sets}
 use borrow.Author.Tests.{not-true, not-false, eq-eqb, ne-eqb, lt-ltb, le-ltb, ltb-false}
 use Rattle.model.specs.Graph.{emptyGraph}
 use Rattle.model.specs.Tables.{Tables, tablesOf, graphOf, holds, edgeBit, nodeNumber, groupIn}
 use Rattle.model.specs.Refusals.{Reasons, firstOf, Lengths, lengths, wrongSize}
 use Rattle.model.specs.Updates.{updateCount, wrongBatch}
-use Rattle.model.specs.Calls.{judged, onto, Opened, openReasons, openCall, applyReasons, applyRefused, applyCall, neighboursReasons, listRefused, neighboursCall, tiedReasons, tiedRefused, tiedCall, groupReasons, groupRefused, groupCall}
+use Rattle.model.specs.Calls.{judged, Opened, openReasons, openCall, applyReasons, applyRefused, applyCall, neighboursReasons, listRefused, neighboursCall, tiedReasons, tiedRefused, tiedCall, groupReasons, groupRefused, groupCall}
 use Rattle.model.specs.TestLaws.{or-none}
 use Rattle.model.specs.UpdateLaws.{first-none}
 use Rattle.model.specs.TableLaws.{held-tables, held-proper}
@@ -27,6 +27,7 @@ use Rattle.index.specs.BatchLaws.{whole-three}
 use Rattle.index.specs.Query.{ledBy, kindBy}
 use Rattle.index.specs.QueryLaws.{row-neighbours, l-below, m-below, least-is, leader-told, led-group, kind-told}
 use Rattle.layout.specs.Scan.{scan}
+use Rattle.layout.specs.WroteLaws.{sets-onto}
 use Rattle.model.specs.Grouping.{kindOf}
 use Rattle.model.specs.Queries.{neighbours, kindNumber}
 
@@ -163,14 +164,11 @@ module _ (n : ℕ) (t : Tables) (p : ℕ) (out : List ℕ) (r : ℕ) (e : r ≡ 
       pub neighbours-done : k ≤ length out → {out₁ : List ℕ} → out₁ ≡ sets out 0 (scan (edgeBit (t .edges) p) n 0) → listed 0 k out₁ ≡ neighboursCall n t p out
       unfolding neighboursCall neighboursReasons
       neighbours-done l {out₁} w =
-          ap₂ (listed 0) told (w ∙ ap (sets out 0) (row-neighbours n p t h) ∙ whole (neighbours (graphOf n t) p) (omega (arith, told)))
+          ap₂ (listed 0) told (w ∙ ap (sets out 0) (row-neighbours n p t h) ∙ sets-onto (neighbours (graphOf n t) p) out (omega (arith, told)))
           ∙ call-done (neighboursReasons n t p out) (listRefused out) _ none
         where
           none : firstOf (neighboursReasons n t p out) ≡ 0
           none = table-rest n t r e z ((not (ltb p n), 14) ∷ (ltb (length out) (length (neighbours (graphOf n t) p)), 18) ∷ []) ∙ unfold firstOf in rw (lt-ltb p n h, le-ltb (length out) (length (neighbours (graphOf n t) p)) (omega (arith, told)))
-
-          whole : (xs : List ℕ) → length xs ≤ length out → sets out 0 xs ≡ onto xs out
-          whole xs q = let f : 0 + length xs ≡ length xs = omega arith in sets-eq xs out 0 (omega arith) ∙ ap (λ (j : ℕ). xs ++ drop j out) f
 
 -- tied
 module _ (n : ℕ) (t : Tables) (p q r : ℕ) (e : r ≡ firstOf (tableReasons n t [])) where

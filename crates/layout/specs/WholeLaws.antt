@@ -5,7 +5,7 @@ use mathlib.Core.List.{List, [], _∷_, _++_, map}
 use mathlib.Core.Logic.{_⊎_, inl, inr}
 use Prim.Native.Nat.{ℕ, suc, zero, _+_, _*_, _≤_, _<_}
 use native.Mathlib.Omega.{arith}
-use lib.ListN.{length, getD, take, drop, length-append, length-map}
+use lib.ListN.{length, getD, take, length-append, length-map}
 use lib.Seq.{sets-eq, take-append-seam}
 use borrow.Author.Tests.{lt-ltb, le-ltb}
 use Rattle.model.specs.Lists.{concat}
@@ -14,7 +14,7 @@ use Rattle.model.specs.Release.{endRecord, headRecord, superedgeRecord, u16}
 use Rattle.model.specs.Calls.{onto, releaseRefused}
 use Rattle.model.specs.TestLaws.{decide}
 use Rattle.layout.specs.Wrote.{Wrote}
-use Rattle.layout.specs.WroteLaws.{wrote-length, wrote-then}
+use Rattle.layout.specs.WroteLaws.{sets-onto, wrote-length, wrote-then}
 use Rattle.layout.specs.Scan.{flat, scan}
 use Rattle.layout.specs.ScanLaws.{flat-end, flat-step, scan-below, scan-end, scan-length, scan-no, scan-yes, upward}
 use Rattle.layout.specs.File.{Linked, Partition, Rows, belongs, chain, fileGroups, fileLength, fileNodes, fileOf, fileSuperedges, groupBytes, groupsBytes, inGroup, later, leadersOf, leads, membersOf, superedgeBytes, superedgeTotal, superedgesTo, visibleOf, writtenFile}
@@ -173,8 +173,7 @@ module _ (n : ℕ) (least edges : List ℕ) {k : ℕ} (ek : k ≡ fileLength n l
   unfolding writtenFile
   done eg em es out {t} p h w =
       let l : fileLength n least edges ≤ length out = omega arith in
-      let e : 0 + length (fileOf n least edges) ≡ length (fileOf n least edges) = omega arith in
-      let b : t ≡ onto (fileOf n least edges) out = w .bytes ∙ sets-eq (fileOf n least edges) out 0 (omega (arith, length-file n least edges p)) ∙ ap (λ (x : ℕ). fileOf n least edges ++ drop x out) e in
+      let b : t ≡ onto (fileOf n least edges) out = w .bytes ∙ sets-onto (fileOf n least edges) out (omega (arith, length-file n least edges p)) in
       rw (le-ltb (length out) (fileLength n least edges) l) (rw (← eg, ← em, ← es, ← ek, b) refl)
 
 pub leaders-taken : (n : ℕ) (least : List ℕ) {s t : List ℕ} {r : ℕ} → n ≤ length s → Wrote s 0 (scan (leads least) n 0) t r → take r t ≡ leadersOf n least

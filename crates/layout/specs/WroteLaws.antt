@@ -4,8 +4,9 @@ use mathlib.Core.List.{List, [], _∷_, _++_}
 use Prim.Native.Nat.{ℕ, suc, _+_, _≤_, _<_}
 use native.Mathlib.Nat.{add-zero}
 use native.Mathlib.Omega.{arith}
-use lib.ListN.{length, set, length-append}
-use lib.Seq.{sets, length-sets, set-comm}
+use lib.ListN.{length, set, drop, length-append}
+use lib.Seq.{sets, length-sets, set-comm, sets-eq}
+use Rattle.model.specs.Calls.{onto}
 use Rattle.layout.specs.Wrote.{Left, Wrote}
 
 pub sets-append : (bs cs s : List ℕ) (at : ℕ) → sets s at (bs ++ cs) ≡ sets (sets s at bs) (at + length bs) cs
@@ -13,6 +14,12 @@ sets-append [] cs s at = rw (add-zero at)
 sets-append (b ∷ bs) cs s at =
     let e : at + length (b ∷ bs) ≡ suc at + length bs = omega arith in
     rw e (sets-append bs cs (set s at b) (suc at))
+
+-- written at the start, bytes stand before what stood behind them
+pub sets-onto : (xs s : List ℕ) → length xs ≤ length s → sets s 0 xs ≡ onto xs s
+sets-onto xs s h =
+    let e : 0 + length xs ≡ length xs = omega arith in
+    sets-eq xs s 0 (omega arith) ∙ ap (λ (i : ℕ). xs ++ drop i s) e
 
 pub wrote-length : {s : List ℕ} {at : ℕ} {bs t : List ℕ} {next : ℕ} → Wrote s at bs t next → length t ≡ length s
 wrote-length {s} {at} {bs} w = ap length (w .bytes) ∙ length-sets s at bs

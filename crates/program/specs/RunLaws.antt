@@ -1,13 +1,13 @@
 -- What the parser tells of an input, and the program's output for it.
 use mathlib.Core.Path.{_≡_, sym, ap, _∙_}
 use mathlib.Core.Bool.{true, false}
-use mathlib.Core.List.{List, _++_}
+use mathlib.Core.List.{List}
 use mathlib.Core.Logic.{_⊎_, inl, inr}
 use Prim.Native.Nat.{ℕ, _+_, _*_, _≤_, _<_}
 use native.Mathlib.Omega.{arith}
 use lib.Dec.{ltb}
-use lib.ListN.{length, take, drop, length-take}
-use lib.Seq.{length-take-le, sets-eq, take-all}
+use lib.ListN.{length, take, length-take}
+use lib.Seq.{length-take-le, take-all}
 use borrow.Author.Tests.{ltb-false, ltb-true, lt-ltb}
 use Rattle.model.specs.Calls.{onto}
 use Rattle.model.specs.Graph.{maxUpdates}
@@ -16,6 +16,7 @@ use Rattle.model.specs.ProgramLaws.{input-small}
 use Rattle.model.specs.TestLaws.{decide}
 use Rattle.model.specs.Updates.{inThrees}
 use Rattle.layout.specs.Wrote.{Wrote}
+use Rattle.layout.specs.WroteLaws.{sets-onto}
 use Rattle.print.specs.LengthLaws.{program-short}
 use Rattle.print.specs.Lines.{maxText}
 use Rattle.text.specs.Grammar.{Told, inputIn, used}
@@ -63,7 +64,7 @@ module _ (bytes : List ℕ) {xs : List ℕ} (e : xs ≡ program bytes) where
   pub run-bytes : {s t : List ℕ} {k : ℕ} → maxText ≤ length s → Wrote s 0 xs t k → (t ≡ onto (program bytes) s) × (k ≡ length (program bytes))
   run-bytes {s} {t} {k} h w =
       let none : 0 + length xs ≡ length xs = omega arith in (
-        w .bytes ∙ sets-eq xs s 0 (omega (arith, run-short)) ∙ ap (λ (i : ℕ). xs ++ drop i s) none ∙ ap (λ (l : List ℕ). onto l s) e,
+        w .bytes ∙ sets-onto xs s (omega (arith, run-short)) ∙ ap (λ (l : List ℕ). onto l s) e,
         w .place ∙ none ∙ ap length e,
       )
 

@@ -1,13 +1,13 @@
 -- Reading a release back, and asking it, are the model's calls.
 use mathlib.Core.Path.{_≡_, refl, sym, ap, ap₂, subst, _∙_}
 use mathlib.Core.Bool.{Bool, true, false, cond, not, _&&_}
-use mathlib.Core.List.{List, [], _∷_, _++_}
+use mathlib.Core.List.{List, [], _∷_}
 use mathlib.Core.Logic.{_≢_, _⊎_, inl, inr}
 use Prim.Native.Nat.{ℕ, _+_, _*_, _/_, _%_, _≤_, _<_}
 use native.Mathlib.Omega.{arith}
 use lib.Dec.{eqb, ltb}
-use lib.ListN.{length, getD, take, drop}
-use lib.Seq.{sets, sets-eq, length-take-le}
+use lib.ListN.{length, getD, take}
+use lib.Seq.{sets, length-take-le}
 use borrow.Author.Tests.{ltb-true, ltb-false, lt-ltb, le-ltb, eq-eqb, ne-eqb, not-true, not-false, not-true}
 use Rattle.model.specs.Lists.{filter, nodes}
 use Rattle.model.specs.Graph.{Graph, Proper, rowWords, maxNodes}
@@ -20,6 +20,7 @@ use Rattle.model.specs.Calls.{openRefused, readReasons, readCall, listRefused, 
 use Rattle.model.specs.TestLaws.{decide}
 use Rattle.model.specs.ListLaws.{filter-cong, nodes-out}
 use Rattle.layout.specs.Scan.{scan}
+use Rattle.layout.specs.WroteLaws.{sets-onto}
 use Rattle.reader.specs.declared.Decoded.{Decoded}
 use Rattle.reader.specs.declared.Decoded.the-variants as answer
 use Rattle.reader.specs.Decoding.{graphIn, HoldsGraph}
@@ -110,10 +111,7 @@ module _ (n p : ℕ) (edges out : List ℕ) (small : n ≤ maxNodes) (h : p < n)
   unfolding rowTold
   row-done l w =
       rw (le-ltb (length out) (length (scan (edgeBit edges p) n 0)) (omega (arith, number)))
-      (ap₂ (listed 0) number (w ∙ ap (sets out 0) (prefix-scan n p edges small h) ∙ whole (scan (edgeBit edges p) n 0) (omega (arith, number))))
-    where
-      whole : (xs : List ℕ) → length xs ≤ length out → sets out 0 xs ≡ onto xs out
-      whole xs q = let f : 0 + length xs ≡ length xs = omega arith in sets-eq xs out 0 (omega arith) ∙ ap (λ (i : ℕ). xs ++ drop i out) f
+      (ap₂ (listed 0) number (w ∙ ap (sets out 0) (prefix-scan n p edges small h) ∙ sets-onto (scan (edgeBit edges p) n 0) out (omega (arith, number))))
 
 pub judged-holds : {s edges hidden : List ℕ} {r : Decoded} → Judged s edges hidden r → (m : ℕ) → r ≡ answer.Graph m → (n : ℕ) → m ≡ n → HoldsGraph n edges hidden
 judged-holds {s} {edges} {hidden} j m e n d = subst (λ (k : ℕ). HoldsGraph k edges hidden) d (j .holds m e)
