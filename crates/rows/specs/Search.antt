@@ -30,6 +30,14 @@ unfoldable pub firstFrom : (ℕ → Bool) → ℕ → ℕ → ℕ
 firstFrom P q zero = q
 firstFrom P q (suc k) = cond (P q) q (firstFrom P (suc q) k)
 
+-- none passes from one number up to another
+abbrev pub Passed : (ℕ → Bool) → ℕ → ℕ → Type 0
+Passed P from to = (k : ℕ) → from ≤ k → k < to → P k ≡ false
+
+-- a search up to m has got as far as r
+abbrev pub Skipped : (ℕ → Bool) → ℕ → ℕ → ℕ → Type 0
+Skipped P from m r = (from ≤ r) × (r ≤ m) × Passed P from r
+
 -- q, neither u nor w, is the least of its group, and u is similar to it
 unfoldable pub joins : ℕ → List ℕ → List ℕ → ℕ → ℕ → ℕ → Bool
 joins n edges table u w q = not (eqb q u) && (not (eqb q w) && (eqb (nodeNumber table q 0) q && similar (nodes n) (edgesIn n edges) u q))

@@ -6,18 +6,18 @@ use mathlib.Core.Logic.{_⊎_, inl, inr}
 use Prim.Native.Nat.{ℕ, zero, suc, _+_, _*_, _-_, _/_, _%_, _^_, _≤_, _<_}
 use native.Mathlib.Omega.{arith}
 use lib.Bits.{bitXor}
-use lib.Dec.{eqb}
+use lib.Dec.{eqb, ltb}
 use lib.ListN.{length, getD, take, drop, length-take, length-drop}
 use lib.Seq.{getD-drop, getD-take}
-use borrow.Author.Tests.{eqb-true, eqb-false, eq-eqb, ne-eqb, not-false, not-true}
+use borrow.Author.Tests.{eqb-true, eqb-false, eq-eqb, ltb-false, ltb-true, ne-eqb, not-false, not-true}
 use Rattle.model.specs.Lists.{nodes}
 use Rattle.model.specs.Graph.{Graph, Proper}
 use Rattle.model.specs.Grouping.{falseTwins, similar, trueTwins}
 use Rattle.model.specs.Tables.{edgesOf, graphOf, keyPair, keysOf, nodeNumber, rowOf, tablesOf}
-use Rattle.model.specs.TestLaws.{and-fst, and-snd, and-true, decide, differ, iff-eq, or-left, or-right}
+use Rattle.model.specs.TestLaws.{and-fst, and-snd, and-true, decide, differ, iff-eq, or-left, or-none, or-right}
 use Rattle.model.specs.TwinLaws.{similar-N, similar-N+, similar-cases}
 use Rattle.model.specs.TableLaws.{length-edges, length-keys, read-back}
-use Rattle.rows.specs.Search.{Ready, edgesIn, firstFrom, graphIn, joins, keyAgrees, keysAgree, mayJoin, meets, ownBit, ownBits, rowIn, tried}
+use Rattle.rows.specs.Search.{Passed, Ready, Skipped, edgesIn, firstFrom, graphIn, joins, keyAgrees, keysAgree, mayJoin, meets, ownBit, ownBits, rowIn, tried}
 use Rattle.rows.specs.TwinRowLaws.{false-key, false-meet, keys-apart, meet-false, meet-true, true-key, true-meet}
 
 -- the first that passes
@@ -48,6 +48,38 @@ pub first-cong : (P Q : ℕ → Bool) (k q : ℕ) → ((j : ℕ) → j < q + k �
 unfolding firstFrom
 first-cong P Q zero q h = refl
 first-cong P Q (suc k) q h = rw (h q (omega arith), first-cong P Q k (suc q) (λ j l. h j (omega arith)))
+
+-- a search that gets on
+module _ (P : ℕ → Bool) where
+  pub pass-none : (q : ℕ) → Passed P q q
+  pass-none q k a b = absurd (omega arith)
+
+  pass-on : (from q r : ℕ) → Passed P from q → Passed P q r → Passed P from r
+  pass-on from q r h g k a b = step (decide (ltb k q))
+    where
+      step : (ltb k q ≡ true) ⊎ (ltb k q ≡ false) → P k ≡ false
+      step (inl e) = h k a (ltb-true k q e)
+      step (inr e) = g k (ltb-false k q e) b
+
+  pub pass-one : (from q : ℕ) → Passed P from q → P q ≡ false → Passed P from (q + 1)
+  pass-one from q h e = pass-on from q (q + 1) h (λ k a b. let f : k ≡ q = omega arith in ap P f ∙ e)
+
+  pub skip-none : (from m : ℕ) → from ≤ m → Skipped P from m from
+  skip-none from m l = (omega arith, l, pass-none from)
+
+  pub skip-block : (from m q r : ℕ) → Skipped P from m q → q ≤ r → r ≤ m → Passed P q r → Skipped P from m r
+  skip-block from m q r s a b h = (omega arith, b, pass-on from q r (s .2) h)
+
+  pub skip-one : (from m q : ℕ) → Skipped P from m q → q < m → P q ≡ false → Skipped P from m (q + 1)
+  skip-one from m q s l e = (omega arith, omega arith, pass-one from q (s .2) e)
+
+pub block-more : (keys : List ℕ) (u from q : ℕ) (agree a b : Bool) → (agree ≡ false → Passed (keysAgree keys u) from q) → a ≡ keyAgrees keys 0 u q → b ≡ keyAgrees keys 1 u q
+    → ((agree || a) || b) ≡ false → Passed (keysAgree keys u) from (q + 1)
+unfolding keysAgree
+block-more keys u from q agree a b h e f no-hit =
+    let before = or-none (agree || a) b no-hit in
+    let first = or-none agree a (before .0) in
+    pass-one (keysAgree keys u) from q (h (first .0)) (rw (sym e ∙ first .1, sym f ∙ before .1))
 
 -- words compared one by one
 module _ (c : Bool) (u q : ℕ) (row other : List ℕ) where
@@ -237,20 +269,24 @@ pub tried-not : (edges table keys : List ℕ) (u w : ℕ) (row : List ℕ) (q : 
 unfolding tried
 tried-not edges table keys u w row q r e t = rw (sym e ∙ t)
 
--- at the group whose row was lent as a part
-module _ (edges table keys : List ℕ) (u w : ℕ) (row : List ℕ) (start q : ℕ) (same : q ≡ start) (agrees : Bool) (agrees-is : agrees ≡ keyAgrees keys 0 u start) where
-  pub tried-differs : (i own : ℕ) → i < 8 → own ≡ ownBits (not agrees) u q i → (bitXor (getD row i 0) (getD (take (8 * start + 8 - 8 * start) (drop (8 * start) edges)) i 0) ≡ own → ⊥) → tried edges table keys u w row q ≡ false
-  unfolding tried
-  tried-differs i own l e d =
-      rw (same, ← agrees-is, meets-not (not agrees) u start row (rowIn edges start) 8 i l (λ h. d (rw row-part (h ∙ ap (λ (x : ℕ). ownBits (not agrees) u x i) (sym same) ∙ sym e))))
-      (and-false (mayJoin table keys u w start))
+-- up to the next node whose keys agree, nobody is a twin
+pub tried-skipped : (edges table keys : List ℕ) (u w : ℕ) (row : List ℕ) (from m q : ℕ) → ((k : ℕ) → k < from → tried edges table keys u w row k ≡ false) → Skipped (keysAgree keys u) from m q
+    → (k : ℕ) → k < q → tried edges table keys u w row k ≡ false
+unfolding tried mayJoin
+tried-skipped edges table keys u w row from m q h s k l = step (decide (ltb k from))
+  where
+    step : (ltb k from ≡ true) ⊎ (ltb k from ≡ false) → tried edges table keys u w row k ≡ false
+    step (inl e) = h k (ltb-true k from e)
+    step (inr e) = rw (s .2 k (ltb-false k from e) l)
 
-  pub tried-agrees : (r : Bool) → r ≡ mayJoin table keys u w start → r ≡ true
-      → ((k : ℕ) → k < 8 → bitXor (getD row k 0) (getD (take (8 * start + 8 - 8 * start) (drop (8 * start) edges)) k 0) ≡ ownBits (not agrees) u start k)
+-- at the group whose row was lent as a part
+module _ (edges table keys : List ℕ) (u w : ℕ) (row : List ℕ) (q : ℕ) (agrees : Bool) (agrees-is : agrees ≡ keyAgrees keys 0 u q) where
+  pub tried-differs : (i own : ℕ) → i < 8 → own ≡ ownBits (not agrees) u q i → (bitXor (getD row i 0) (getD (take (8 * q + 8 - 8 * q) (drop (8 * q) edges)) i 0) ≡ own → ⊥) → tried edges table keys u w row q ≡ false
+  unfolding tried
+  tried-differs i own l e d = rw (← agrees-is, meets-not (not agrees) u q row (rowIn edges q) 8 i l (λ h. d (rw row-part (h ∙ sym e)))) (and-false (mayJoin table keys u w q))
+
+  pub tried-agrees : (r : Bool) → r ≡ mayJoin table keys u w q → r ≡ true
+      → ((k : ℕ) → k < 8 → bitXor (getD row k 0) (getD (take (8 * q + 8 - 8 * q) (drop (8 * q) edges)) k 0) ≡ ownBits (not agrees) u q k)
       → tried edges table keys u w row q ≡ true
   unfolding tried
-  tried-agrees r e t h =
-      rw (same, ← agrees-is) (and-true (sym e ∙ t) (meets-all (not agrees) u start row (rowIn edges start) 8 (λ k l. rw row-part at (h k l))))
-
-pub word-met : (c : Bool) (u q start i own x : ℕ) → q ≡ start → own ≡ ownBits c u q i → x ≡ own → x ≡ ownBits c u start i
-word-met c u q start i own x same e f = f ∙ e ∙ ap (λ (y : ℕ). ownBits c u y i) same
+  tried-agrees r e t h = rw (← agrees-is) (and-true (sym e ∙ t) (meets-all (not agrees) u q row (rowIn edges q) 8 (λ k l. rw row-part at (h k l))))

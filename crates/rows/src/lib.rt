@@ -1,6 +1,6 @@
 // Leaves over the edge table and the keys: one bit, one key, one row.
 ghost use mathlib.Core.Path.{_≡_};
-ghost use mathlib.Core.Bool.{not};
+ghost use mathlib.Core.Bool.{false, not};
 ghost use Prim.Native.Nat.{ℕ, _+_, _*_, _/_, _%_, _^_, _≤_, _<_};
 ghost use lib.Count.{trailingZeros};
 ghost use lib.ListN.{length};
@@ -8,7 +8,7 @@ ghost use Rattle.model.specs.Graph.{rowWords, nodeNumbers};
 ghost use Rattle.model.specs.Grouping.{cube};
 ghost use Rattle.model.specs.Tables.{edgeBit};
 ghost use Rattle.model.specs.Refusals.{lengths, wrongSize};
-ghost use Rattle.rows.specs.Search.{Ready, firstFrom, joins, keyAgrees, keysAgree, mayJoin, meets, ownBit, ownBits, rowIn, tried};
+ghost use Rattle.rows.specs.Search.{Passed, Ready, Skipped, firstFrom, joins, keyAgrees, keysAgree, mayJoin, meets, ownBit, ownBits, rowIn, tried};
 ghost use Rattle.rows.specs.Rows.{Flipped, Changed, movedKey, KeysMoved, KeysChanged, lent};
 
 // A graph by value: how many nodes it has. Its tables are lent.
@@ -231,6 +231,52 @@ pub fn lowest(x: u64) -> usize
     u64::trailing_zeros(x) as usize
 }
 
+// How many nodes are passed over at once.
+const BLOCK: usize = 16;
+
+// Whether the keys of u agree with those of a node in the block from `from` on. The loop is not left early, so that it compares
+// many keys at a time.
+fn block_agrees(keys: &[u32], u: usize, from: usize) -> bool
+    requires { ⌜ (u < 512) × (from + 16 ≤ 512) × (2 * u + 2 ≤ length (now keys)) × (2 * (from + 16) ≤ length (now keys)) ⌝ }
+    ensures { λ r. ⌜ (r ≡ false → Passed (keysAgree (now (keys .entry)) u) from (from + 16)) ⌝ }
+{
+    let mut agree = false;
+    for q in from..from + BLOCK {
+        agree = agree | key_agrees(keys, 0, u, q) | key_agrees(keys, 1, u, q);
+    }
+    agree
+}
+
+// The nodes from `from` on, block by block, up to one where keys agree or to less than a block before m.
+fn skip_blocks(keys: &[u32], m: usize, u: usize, from: usize) -> usize
+    requires { ⌜ (m ≤ 512) × (u < 512) × (from ≤ m) × (2 * m ≤ length (now keys)) × (2 * u + 2 ≤ length (now keys)) ⌝ }
+    ensures { λ r. ⌜ Skipped (keysAgree (now (keys .entry)) u) from m r ⌝ }
+{
+    let mut q = from;
+    while q + BLOCK <= m {
+        if block_agrees(keys, u, q) {
+            return q;
+        }
+        q += BLOCK;
+    }
+    q
+}
+
+// The next node from `from` on whose keys agree with u's; m if there is none.
+fn next_agreeing(keys: &[u32], m: usize, u: usize, from: usize) -> usize
+    requires { ⌜ (m ≤ 512) × (u < 512) × (from ≤ m) × (2 * m ≤ length (now keys)) × (2 * u + 2 ≤ length (now keys)) ⌝ }
+    ensures { λ r. ⌜ Skipped (keysAgree (now (keys .entry)) u) from m r ⌝ }
+{
+    let mut q = skip_blocks(keys, m, u, from);
+    while q < m {
+        if keys_agree(keys, u, q) {
+            return q;
+        }
+        q += 1;
+    }
+    q
+}
+
 // The least q below m that may join and whose row agrees with u's, as an open or as a closed one; m if there is none.
 fn find_twin(
     edges: &[u64],
@@ -244,8 +290,13 @@ fn find_twin(
     requires { ⌜ (m ≤ 512) × (u < 512) × (rowWords * m ≤ length (now edges)) × (nodeNumbers * m ≤ length (now nodes)) × (2 * m ≤ length (now keys)) × (2 * u + 2 ≤ length (now keys)) × (length (now row) ≡ rowWords) ⌝ }
     ensures { λ r. ⌜ r ≡ firstFrom (tried (now (edges .entry)) (now (nodes .entry)) (now (keys .entry)) u w (now (row .entry))) 0 m ⌝ }
 {
-    let mut q = 0;
-    'groups: while q < m {
+    let mut from = 0;
+    'groups: while from < m {
+        let q = next_agreeing(keys, m, u, from);
+        if q == m {
+            return m;
+        }
+        from = q + 1;
         if may_join(nodes, keys, u, w, q) {
             let closed = !key_agrees(keys, 0, u, q);
             let a = Graph::ROW_WORDS * q;
@@ -253,14 +304,12 @@ fn find_twin(
             let mut i = 0;
             while i < 8 {
                 if row[i] ^ other[i] != own_bits(closed, u, q, i) {
-                    q += 1;
                     continue 'groups;
                 }
                 i += 1;
             }
             return q;
         }
-        q += 1;
     }
     m
 }
