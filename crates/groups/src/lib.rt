@@ -83,13 +83,18 @@ fn rename(nodes: &mut [u16], n: usize, x: usize, y: usize)
     }
 }
 
-// The last member before u of the group that g leads: the greatest below u, else the greatest of all.
+// The last member before u of the group that g leads: the greatest below u, else the greatest of all. The group is walked only
+// where u stands between its members.
 fn last_before(nodes: &[u16], n: usize, u: usize, g: usize) -> usize
     requires { ⌜ Sound n (now nodes) × (u < n) × (g < n) × (g ≢ u) × (nodeNumber (now nodes) g 0 ≡ g) ⌝ }
     ensures { λ r. ⌜ Before u g r (now (nodes .entry)) ⌝ }
 {
+    let last = number(nodes, g, PREVIOUS);
     if u < g {
-        return number(nodes, g, PREVIOUS);
+        return last;
+    }
+    if last < u {
+        return last;
     }
     let mut a = g;
     let mut b = next_greater(nodes, n, g);

@@ -34,8 +34,18 @@ module _ {n : ℕ} {R : ℕ → ℕ → Type 0} (k : Parts n R) {t : List ℕ} (
         under = λ p hp. a .least p hp .near p (k .own hp);
         fellow = λ p hp. sym (one-least (a .next p hp .mem));
         skips = λ p r hp hr e i. skip i hr (a .next p hp .near r (shares p r hp hr e)) (way n p (nodeNumber t p 1)) (way n p r);
+        behind = λ p hp. sym (one-least (a .prev p hp .mem));
+        last = λ g r hg hr l e.
+            let z = shares g r hg hr e in
+            let b = a .prev g hg in
+            greatest l hr (a .least g hg .near _ (b .mem)) (a .least g hg .near r z) (b .near r z) (way n (nodeNumber t g 2) g) (way n r g);
       }
     where
+      greatest : {g l r b : ℕ} → l ≡ g → r < n → l ≤ b → l ≤ r → up n b g ≤ up n r g → Way n b g (up n b g) → Way n r g (up n r g) → r ≤ b
+      greatest e hr hb lr h (round i d) (round j f) = omega arith
+      greatest e hr hb lr h (over i d) w = absurd (omega arith)
+      greatest e hr hb lr h (round i d) (over j f) = absurd (omega arith)
+
       skip : {p r b : ℕ} → p < r → r < n → up n p b ≤ up n p r → Way n p b (up n p b) → Way n p r (up n p r) → (p < b) × (b ≤ r)
       skip i hr h (over j e) (over j′ e′) = (omega arith, omega arith)
       skip i hr h (round j e) (over j′ e′) = absurd (omega arith)

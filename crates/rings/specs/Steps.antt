@@ -18,6 +18,8 @@ pub record Sound (n : ℕ) (t : List ℕ) : Type 0 where
   pub under : (p : ℕ) → p < n → nodeNumber t p 0 ≤ p
   pub fellow : (p : ℕ) → p < n → nodeNumber t (nodeNumber t p 1) 0 ≡ nodeNumber t p 0
   pub skips : (p r : ℕ) → p < n → r < n → nodeNumber t r 0 ≡ nodeNumber t p 0 → p < r → (p < nodeNumber t p 1) × (nodeNumber t p 1 ≤ r)
+  pub behind : (p : ℕ) → p < n → nodeNumber t (nodeNumber t p 2) 0 ≡ nodeNumber t p 0
+  pub last : (g r : ℕ) → g < n → r < n → nodeNumber t g 0 ≡ g → nodeNumber t r 0 ≡ nodeNumber t g 0 → r ≤ nodeNumber t g 2
 
 -- the next greater member of p's group, n if there is none
 unfoldable pub rising : ℕ → List ℕ → ℕ → ℕ

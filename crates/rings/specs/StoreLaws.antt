@@ -163,6 +163,9 @@ module _ {n u g : ℕ} {t : List ℕ} (s : Sound n t) (hu : u < n) where
   pub wraps : {a : ℕ} → u < g → a ≡ nodeNumber t g 2 → Before u g a t
   wraps h e = wrapped e (λ r i f. omega (arith, s .under r (omega arith)))
 
+  pub ends : {a : ℕ} → g < n → nodeNumber t g 0 ≡ g → a ≡ nodeNumber t g 2 → a < u → Before u g a t
+  ends hg e f h = lower h (rw f (s .behind g hg ∙ e)) (λ r i j l. omega (arith, s .last g r hg (omega arith) e (l ∙ sym e)))
+
 pub before-below : {n u g a : ℕ} {t : List ℕ} → Sound n t → u < n → g < n → Before u g a t → a < n
 before-below s hu hg (lower h e f) = omega arith
 before-below {g = g} s hu hg (wrapped e f) = omega (arith, s .prev g hg)
