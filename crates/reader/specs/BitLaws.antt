@@ -1,20 +1,23 @@
--- One bit set in an edge table.
+-- Bits set in an edge table.
 use mathlib.Core.Path.{_≡_, refl, sym, ap, ap₂, _∙_}
-use mathlib.Core.Bool.{Bool, true, false, _&&_, _||_, or-false}
+use mathlib.Core.Bool.{Bool, true, false, not, xor, _&&_, _||_, or-false}
 use mathlib.Core.List.{List}
 use mathlib.Core.Logic.{_⊎_, inl, inr}
 use Prim.Native.Nat.{ℕ, zero, suc, _+_, _*_, _/_, _%_, _^_, _≤_, _<_}
 use Prim.Native.Nat.{max}
+use native.Mathlib.Nat.{zero-div}
 use native.Mathlib.Omega.{arith}
-use lib.Bits.{bitOr, or-step, or-shr}
+use lib.Bits.{bitOr, bitXor, or-step, or-shr}
 use lib.Dec.{eqb}
-use lib.ListN.{length, getD, set, length-set}
+use lib.ListN.{length, getD, set, replicate, length-set}
 use lib.Seq.{getD-set-same, getD-set-other}
 use borrow.Author.Tests.{eqb-true, eqb-false, eq-eqb}
 use Rattle.model.specs.Tables.{bitAt, edgeBit}
 use Rattle.model.specs.TestLaws.{decide, iff-eq}
-use Rattle.rows.specs.BitLaws.{bit-pow}
-use Rattle.reader.specs.Drawing.{Added, oneBit}
+use Rattle.rows.specs.Search.{ownBit}
+use Rattle.rows.specs.BitLaws.{bit-pow, bit-xor}
+use Rattle.rows.specs.TwinRowLaws.{own-bit}
+use Rattle.reader.specs.Drawing.{Added, fanTo, fanWord, oneBit}
 
 max-bits : (x y : ℕ) → x < 2 → y < 2 → eqb (max x y) 1 ≡ (eqb x 1 || eqb y 1)
 max-bits zero zero hx hy = refl
@@ -53,3 +56,53 @@ bit-set t p q i m small fits e f = record { size = length-set t i (bitOr (getD t
         none (inl y) (inl z) = absurd (eqb-false (8 * a + b / 64) i x (ap₂ (λ (u v : ℕ). 8 * u + v / 64) (eqb-true a p y) (eqb-true b q z) ∙ sym e))
         none (inl y) (inr z) = rw (y, z)
         none (inr y) z = rw y
+
+-- lent arrays, before anything is set
+pub blank-bit : (k i j : ℕ) → bitAt (getD (replicate k 0) i 0) j ≡ false
+unfolding bitAt
+blank-bit k i j = rw (blank k i, zero-div (2 ^ j))
+  where
+    blank : (k i : ℕ) → _≡_ {A = ℕ} (getD (replicate k 0) i 0) 0
+    blank zero i = refl
+    blank (suc k) zero = refl
+    blank (suc k) (suc i) = blank k i
+
+-- each bit of a word without others
+bit-without : (x y k : ℕ) → bitAt (bitXor (bitOr x y) y) k ≡ (bitAt x k && not (bitAt y k))
+unfolding xor
+bit-without x y k = bit-xor (bitOr x y) y k ∙ ap (λ (b : Bool). xor b (bitAt y k)) (bit-or x y k) ∙ each (bitAt x k) (bitAt y k)
+  where
+    each : (a b : Bool) → xor (a || b) b ≡ (a && not b)
+    each true true = refl
+    each true false = refl
+    each false true = refl
+    each false false = refl
+
+-- the word of a set that the code has found, without the node's own bit
+pub word-drawn : (t st : List ℕ) (p w x y : ℕ) → w < 8 → 8 * p + 8 ≤ length t → y ≡ ownBit p w → x ≡ bitXor (bitOr (getD st w 0) y) y
+    → Added (fanWord p st w) t (set t (8 * p + w) (bitOr (getD t (8 * p + w) 0) x))
+unfolding edgeBit fanWord fanTo
+word-drawn t st p w x y small fits e f = record { size = length-set t (8 * p + w) (bitOr (getD t (8 * p + w) 0) x); bits = λ a b l. at a b l (decide (eqb (8 * a + b / 64) (8 * p + w))) }
+  where
+    at : (a b : ℕ) → b < 512 → (eqb (8 * a + b / 64) (8 * p + w) ≡ true) ⊎ (eqb (8 * a + b / 64) (8 * p + w) ≡ false)
+        → bitAt (getD (set t (8 * p + w) (bitOr (getD t (8 * p + w) 0) x)) (8 * a + b / 64) 0) (b % 64)
+        ≡ (bitAt (getD t (8 * a + b / 64) 0) (b % 64) || (eqb (b / 64) w && (eqb a p && (bitAt (getD st (8 * 0 + b / 64) 0) (b % 64) && not (eqb a b)))))
+    at a b l (inl h) =
+        let d : 8 * a + b / 64 ≡ 8 * p + w = eqb-true (8 * a + b / 64) (8 * p + w) h in
+        let i : a ≡ p = omega arith in
+        let j : b / 64 ≡ w = omega arith in
+        let g : 8 * 0 + b / 64 ≡ w = omega arith in
+        let own : bitAt y (b % 64) ≡ eqb a b = ap (λ (z : ℕ). bitAt z (b % 64)) e ∙ own-bit p w (b % 64) (omega arith) ∙ ap₂ eqb (sym i) (let k : 64 * w + b % 64 ≡ b = omega arith in k) in
+        let word : bitAt x (b % 64) ≡ (bitAt (getD st w 0) (b % 64) && not (eqb a b)) = ap (λ (z : ℕ). bitAt z (b % 64)) f ∙ bit-without (getD st w 0) y (b % 64) ∙ ap (λ (z : Bool). bitAt (getD st w 0) (b % 64) && not z) own in
+        rw (d, getD-set-same t (8 * p + w) (bitOr (getD t (8 * p + w) 0) x) 0 (omega arith), bit-or, word, eq-eqb (b / 64) w j, eq-eqb a p i, g)
+    at a b l (inr h) =
+        let d : 8 * a + b / 64 ≡ 8 * p + w → ⊥ = eqb-false (8 * a + b / 64) (8 * p + w) h in
+        rw (getD-set-other t (8 * p + w) (8 * a + b / 64) (bitOr (getD t (8 * p + w) 0) x) 0 d) (sym (ap (λ (z : Bool). bitAt (getD t (8 * a + b / 64) 0) (b % 64) || z) (none (decide (eqb (b / 64) w)) (decide (eqb a p))) ∙ or-false (bitAt (getD t (8 * a + b / 64) 0) (b % 64))))
+      where
+        rest : Bool
+        rest = bitAt (getD st (8 * 0 + b / 64) 0) (b % 64) && not (eqb a b)
+
+        none : (eqb (b / 64) w ≡ true) ⊎ (eqb (b / 64) w ≡ false) → (eqb a p ≡ true) ⊎ (eqb a p ≡ false) → (eqb (b / 64) w && (eqb a p && rest)) ≡ false
+        none (inl i) (inl j) = absurd (eqb-false (8 * a + b / 64) (8 * p + w) h (ap₂ (λ (u v : ℕ). 8 * u + v) (eqb-true a p j) (eqb-true (b / 64) w i)))
+        none (inl i) (inr j) = rw (i, j)
+        none (inr i) j = rw i

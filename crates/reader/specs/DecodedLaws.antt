@@ -3,7 +3,6 @@ use mathlib.Core.Path.{_≡_, refl, sym, ap, ap₂, subst, _∙_}
 use mathlib.Core.Bool.{Bool, true, false, _&&_, _||_, cond}
 use mathlib.Core.List.{List}
 use Prim.Native.Nat.{ℕ, zero, suc, _+_, _*_, _-_, _/_, _%_, _^_, _≤_, _<_}
-use native.Mathlib.Nat.{zero-div}
 use native.Mathlib.Omega.{arith}
 use lib.Dec.{leb}
 use lib.ListN.{length, getD, replicate, length-replicate, getD-replicate}
@@ -19,6 +18,7 @@ use Rattle.reader.specs.declared.Groups.the-variants.{Whole, Broken}
 use Rattle.reader.specs.declared.Decoded.the-variants as answer
 use Rattle.reader.specs.Records.{itemIn, sizeOf}
 use Rattle.reader.specs.Decoding.{AfterHead, Decodes, Drawn, Found, GroupsRead, SuperedgesRead, accepted, bodyFits, crossed, decoded, groupsFrom, inside, pairsFrom, placed, restFrom, sized, toldEdge, toldGroups, toldPairs}
+use Rattle.reader.specs.BitLaws.{blank-bit}
 use Rattle.reader.specs.DrawingLaws.{added-then}
 use Rattle.reader.specs.DecodingLaws.{fits-at, item-is, next-is}
 
@@ -74,16 +74,6 @@ module _ (s : List ℕ) (from n m g : ℕ) (starts₀ starts edges₀ edges hidd
       where
         pairs : pairsFrom s next (length s) ≡ superedgesAt (length s) (restFrom s 8 g)
         pairs = unfold pairsFrom in ap (superedgesAt (length s)) (groups .held next left is .rest)
-
--- the lent arrays, before anything is read
-blank-bit : (k i j : ℕ) → bitAt (getD (replicate k 0) i 0) j ≡ false
-unfolding bitAt
-blank-bit k i j = rw (blank k i, zero-div (2 ^ j))
-  where
-    blank : (k i : ℕ) → _≡_ {A = ℕ} (getD (replicate k 0) i 0) 0
-    blank zero i = refl
-    blank (suc k) zero = refl
-    blank (suc k) (suc i) = blank k i
 
 decode-refused : (s edges hidden : List ℕ) → false ≡ accepted s → length edges ≡ 4096 → length hidden ≡ 512 → Decodes s edges hidden answer.NoRelease
 decode-refused s edges hidden e a b = record {

@@ -2,8 +2,8 @@
 use mathlib.Core.Path.{_≡_}
 use mathlib.Core.Bool.{Bool, not, _&&_, _||_}
 use mathlib.Core.List.{List}
-use Prim.Native.Nat.{ℕ, _+_, _*_, _-_, _≤_, _<_}
-use lib.Dec.{eqb}
+use Prim.Native.Nat.{ℕ, _+_, _*_, _-_, _/_, _≤_, _<_}
+use lib.Dec.{eqb, ltb}
 use lib.ListN.{length, drop}
 use Rattle.model.specs.Lists.{member}
 use Rattle.model.specs.Tables.{edgeBit}
@@ -26,6 +26,24 @@ oneBit p q a b = eqb a p && eqb b q
 -- an edge from p to q, none from a node to itself
 unfoldable pub oneEdge : ℕ → ℕ → ℕ → ℕ → Bool
 oneEdge p q a b = eqb a p && (eqb b q && not (eqb a b))
+
+-- the same both ways
+unfoldable pub onePair : ℕ → ℕ → ℕ → ℕ → Bool
+onePair p q a b = oneEdge p q a b || oneEdge q p a b
+
+-- a set of nodes, as one row
+unfoldable pub oneRow : List ℕ → ℕ → ℕ → Bool
+oneRow ls a b = eqb a 0 && member b ls
+
+-- edges from p to each of a set; those of word w; those of the words from w on
+unfoldable pub fanTo : ℕ → List ℕ → ℕ → ℕ → Bool
+fanTo p set a b = eqb a p && (edgeBit set 0 b && not (eqb a b))
+
+unfoldable pub fanWord : ℕ → List ℕ → ℕ → ℕ → ℕ → Bool
+fanWord p set w a b = eqb (b / 64) w && fanTo p set a b
+
+unfoldable pub fanFrom : ℕ → List ℕ → ℕ → ℕ → ℕ → Bool
+fanFrom p set w a b = not (ltb (b / 64) w) && fanTo p set a b
 
 -- edges from p, and from each of ms, to each of ls
 unfoldable pub fan : ℕ → List ℕ → ℕ → ℕ → Bool

@@ -1,20 +1,28 @@
 -- Laws of edges put in one after the other.
-use mathlib.Core.Path.{_≡_, refl, sym, ap, _∙_}
-use mathlib.Core.Bool.{Bool, true, false, not, _&&_, _||_, or-false}
+use mathlib.Core.Path.{_≡_, refl, sym, ap, ap₂, _∙_}
+use mathlib.Core.Bool.{Bool, true, false, not, _&&_, _||_, and-false, or-false}
 use mathlib.Core.List.{List, [], _∷_}
 use mathlib.Core.Logic.{_⊎_, inl, inr}
-use Prim.Native.Nat.{ℕ, suc, _+_, _*_, _-_, _≤_, _<_}
+use Prim.Native.Nat.{ℕ, suc, _+_, _*_, _-_, _/_, _%_, _≤_, _<_}
 use native.Mathlib.Omega.{arith}
-use lib.Dec.{eqb}
-use lib.ListN.{drop}
+use lib.Dec.{eqb, ltb}
+use lib.ListN.{drop, length, replicate}
 use lib.Seq.{drop-drop}
-use borrow.Author.Tests.{eqb-true, eq-eqb, ne-eqb}
+use borrow.Author.Tests.{eqb-false, eqb-true, eq-eqb, le-ltb, lt-ltb, ltb-false, ltb-true, ne-eqb}
 use Rattle.model.specs.Lists.{any, member}
 use Rattle.model.specs.Tables.{edgeBit}
 use Rattle.model.specs.Reading.{u16At, u16s}
 use Rattle.model.specs.TestLaws.{decide}
-use Rattle.reader.specs.Drawing.{Added, Adding, GroupHere, across, countAt, fan, inner, joined, membersAt, oneBit, oneEdge, restAt}
+use Rattle.reader.specs.Drawing.{Added, Adding, GroupHere, across, countAt, fan, fanFrom, fanTo, fanWord, inner, joined, membersAt, oneBit, oneEdge, onePair, oneRow, restAt}
+use Rattle.reader.specs.BitLaws.{blank-bit}
 use Rattle.reader.specs.RecordLaws.{u16-drop}
+
+split : (u v w : Bool) → ((u || v) && w) ≡ ((u && w) || (v && w))
+split true true true = refl
+split true false true = refl
+split true true false = refl
+split true false false = refl
+split false v w = refl
 
 or-assoc : (a b c : Bool) → ((a || b) || c) ≡ (a || (b || c))
 or-assoc true b c = refl
@@ -46,11 +54,14 @@ adding-step {f = f} {more = more} {now = now} x y e = record {
       ∙ x .bits a b l;
 }
 
-pub adding-done : {all rest : ℕ → ℕ → Bool} {t now : List ℕ} → Adding all rest t now → ((a b : ℕ) → rest a b ≡ false) → Added all t now
-adding-done {rest = rest} {now = now} x e = record {
+adding-under : {all rest : ℕ → ℕ → Bool} {t now : List ℕ} → Adding all rest t now → ((a b : ℕ) → b < 512 → rest a b ≡ false) → Added all t now
+adding-under {rest = rest} {now = now} x e = record {
   size = x .size;
-  bits = λ a b l. sym (ap (λ (z : Bool). edgeBit now a b || z) (e a b) ∙ or-false (edgeBit now a b)) ∙ x .bits a b l;
+  bits = λ a b l. sym (ap (λ (z : Bool). edgeBit now a b || z) (e a b l) ∙ or-false (edgeBit now a b)) ∙ x .bits a b l;
 }
+
+pub adding-done : {all rest : ℕ → ℕ → Bool} {t now : List ℕ} → Adding all rest t now → ((a b : ℕ) → rest a b ≡ false) → Added all t now
+adding-done x e = adding-under x (λ a b l. e a b)
 
 -- an edge is one bit, or none where the two nodes are one
 pub edge-loop : (p q : ℕ) (t : List ℕ) → p ≡ q → Added (oneEdge p q) t t
@@ -71,6 +82,37 @@ edge-bit {p} {q} d h = added-as (λ a b. step a b (decide (eqb a p)) (decide (eq
     step a b (inl x) (inr y) = rw (x, y)
     step a b (inr x) y = rw x
 
+pub pair-by : (p q : ℕ) {r t u : List ℕ} → Added (oneEdge p q) r t → Added (oneEdge q p) t u → Added (onePair p q) r u
+unfolding onePair
+pair-by p q x y = added-then x y (λ a b. refl)
+
+-- edges to a set, word by word
+module _ (p : ℕ) (set : List ℕ) where
+  pub words-start : (t : List ℕ) → Adding (fanTo p set) (fanFrom p set 0) t t
+  unfolding fanFrom
+  words-start t = adding-start (fanTo p set) (λ a b. not (ltb (b / 64) 0) && fanTo p set a b) t (λ a b. rw (le-ltb (b / 64) 0 (omega arith)))
+
+  pub words-step : (w : ℕ) {t now after : List ℕ} → Adding (fanTo p set) (fanFrom p set w) t now → Added (fanWord p set w) now after → Adding (fanTo p set) (fanFrom p set (w + 1)) t after
+  unfolding fanFrom fanWord
+  words-step w x y = adding-step x y (λ a b. ap (λ (z : Bool). z && fanTo p set a b) (next (b / 64) (decide (ltb (b / 64) w)) (decide (eqb (b / 64) w))) ∙ split (eqb (b / 64) w) (not (ltb (b / 64) (w + 1))) (fanTo p set a b))
+    where
+      next : (v : ℕ) → (ltb v w ≡ true) ⊎ (ltb v w ≡ false) → (eqb v w ≡ true) ⊎ (eqb v w ≡ false) → not (ltb v w) ≡ (eqb v w || not (ltb v (w + 1)))
+      next v (inl h) d = rw (h, ne-eqb v w (let l = ltb-true v w h in λ e. omega arith), lt-ltb v (w + 1) (let l = ltb-true v w h in omega arith))
+      next v (inr h) (inl d) = rw (h, d)
+      next v (inr h) (inr d) = rw (h, d, le-ltb v (w + 1) (let l = ltb-false v w h in omega (arith, eqb-false v w d)))
+
+  pub words-done : (w : ℕ) {t now : List ℕ} → 8 ≤ w → Adding (fanTo p set) (fanFrom p set w) t now → Added (fanTo p set) t now
+  unfolding fanFrom
+  words-done w h x = adding-under x (λ a b l. rw (lt-ltb (b / 64) w (omega arith)))
+
+  -- a set that holds the members of a list
+  pub fan-by : (ls : List ℕ) {t after : List ℕ} → Added (oneRow ls) (replicate 8 0) set → Added (fanTo p set) t after → Added (fan p ls) t after
+  unfolding edgeBit oneRow fanTo fan
+  fan-by ls {t} x y = record {
+    size = y .size;
+    bits = λ a b l. y .bits a b l ∙ ap (λ (z : Bool). edgeBit t a b || (eqb a p && (z && not (eqb a b)))) (x .bits 0 b l ∙ ap (λ (z : Bool). z || member b ls) (blank-bit 8 (8 * 0 + b / 64) (b % 64)));
+  }
+
 -- the rest of a list of numbers in a file
 module _ (s : List ℕ) (at count : ℕ) where
   pub rest-step : (k : ℕ) → k < count → restAt s at count k ≡ u16At s (at + 2 * k) ∷ restAt s at count (k + 1)
@@ -89,40 +131,23 @@ module _ (s : List ℕ) (at count : ℕ) where
   unfolding restAt
   rest-start = let e : at + 2 * 0 ≡ at = omega arith in let f : count - 0 ≡ count = omega arith in rw (e, f)
 
-  -- a fan: one edge more
-  pub fan-step : (p k q : ℕ) {all : ℕ → ℕ → Bool} {t now after : List ℕ} → k < count → q ≡ u16At s (at + 2 * k) → Adding all (fan p (restAt s at count k)) t now → Added (oneEdge p q) now after → Adding all (fan p (restAt s at count (k + 1))) t after
-  unfolding fan member any oneEdge
-  fan-step p k q h e x y = adding-step x y (λ a b. rw (rest-step k h, ← e) (split (eqb a p) (eqb b q) (any (restAt s at count (k + 1)) (eqb b)) (not (eqb a b))))
+  -- a set: one member more
+  pub set-step : (k q : ℕ) {all : ℕ → ℕ → Bool} {t now after : List ℕ} → k < count → q ≡ u16At s (at + 2 * k) → Adding all (oneRow (restAt s at count k)) t now → Added (oneBit 0 q) now after → Adding all (oneRow (restAt s at count (k + 1))) t after
+  unfolding oneRow member any oneBit
+  set-step k q h e x y = adding-step x y (λ a b. rw (rest-step k h, ← e) (each (eqb a 0) (eqb b q) (any (restAt s at count (k + 1)) (eqb b))))
     where
-      split : (u v w z : Bool) → (u && ((v || w) && z)) ≡ ((u && (v && z)) || (u && (w && z)))
-      split true true w true = refl
-      split true true w false = sym (low w)
-        where
-          low : (w : Bool) → (w && false) ≡ false
-          low true = refl
-          low false = refl
-      split true false w z = refl
-      split false v w z = refl
+      each : (u v w : Bool) → (u && (v || w)) ≡ ((u && v) || (u && w))
+      each true v w = refl
+      each false v w = refl
 
-  pub fan-done : (p k : ℕ) {all : ℕ → ℕ → Bool} {t now : List ℕ} → count ≤ k → Adding all (fan p (restAt s at count k)) t now → Added all t now
-  unfolding fan member any
-  fan-done p k h x = adding-done x (λ a b. rw (rest-end k h) (low (eqb a p)))
-    where
-      low : (w : Bool) → (w && false) ≡ false
-      low true = refl
-      low false = refl
+  pub set-done : (k : ℕ) {all : ℕ → ℕ → Bool} {t now : List ℕ} → count ≤ k → Adding all (oneRow (restAt s at count k)) t now → Added all t now
+  unfolding oneRow member any
+  set-done k h x = adding-done x (λ a b. rw (rest-end k h) (and-false (eqb a 0)))
 
   -- all edges from one list to another: one fan more
   pub across-step : (ls : List ℕ) (k q : ℕ) {all : ℕ → ℕ → Bool} {t now after : List ℕ} → k < count → q ≡ u16At s (at + 2 * k) → Adding all (across (restAt s at count k) ls) t now → Added (fan q ls) now after → Adding all (across (restAt s at count (k + 1)) ls) t after
   unfolding fan across member any
   across-step ls k q h e x y = adding-step x y (λ a b. rw (rest-step k h, ← e) (split (eqb a q) (any (restAt s at count (k + 1)) (eqb a)) (any ls (eqb b) && not (eqb a b))))
-    where
-      split : (u v w : Bool) → ((u || v) && w) ≡ ((u && w) || (v && w))
-      split true true true = refl
-      split true false true = refl
-      split true true false = refl
-      split true false false = refl
-      split false v w = refl
 
   pub across-done : (ls : List ℕ) (k : ℕ) {all : ℕ → ℕ → Bool} {t now : List ℕ} → count ≤ k → Adding all (across (restAt s at count k) ls) t now → Added all t now
   unfolding across member any
@@ -136,8 +161,8 @@ members-start s at count e = rw e (rest-start s (at + 4) (countAt s at))
 pub here-most : (n : ℕ) (s : List ℕ) (at : ℕ) → n ≤ 512 → GroupHere n s at → GroupHere 512 s at
 here-most n s at l h = record { room = h .room; small = λ k i. omega (arith, h .small k i) }
 
-pub fan-start : (s : List ℕ) (at count p : ℕ) (t : List ℕ) → count ≡ countAt s at → Adding (fan p (membersAt s at)) (fan p (restAt s (at + 4) count 0)) t t
-fan-start s at count p t e = adding-start (fan p (membersAt s at)) (fan p (restAt s (at + 4) count 0)) t (λ a b. ap (λ (l : List ℕ). fan p l a b) (members-start s at count e))
+pub set-start : (s : List ℕ) (at count : ℕ) (t : List ℕ) → count ≡ countAt s at → Adding (oneRow (membersAt s at)) (oneRow (restAt s (at + 4) count 0)) t t
+set-start s at count t e = adding-start (oneRow (membersAt s at)) (oneRow (restAt s (at + 4) count 0)) t (λ a b. ap (λ (l : List ℕ). oneRow l a b) (members-start s at count e))
 
 pub across-start : (s : List ℕ) (at count : ℕ) (ls t : List ℕ) → count ≡ countAt s at → Adding (across (membersAt s at) ls) (across (restAt s (at + 4) count 0) ls) t t
 across-start s at count ls t e = adding-start (across (membersAt s at) ls) (across (restAt s (at + 4) count 0) ls) t (λ a b. ap (λ (l : List ℕ). across l ls a b) (members-start s at count e))
@@ -145,6 +170,31 @@ across-start s at count ls t e = adding-start (across (membersAt s at) ls) (acro
 pub joined-by : (ms ls : List ℕ) {r t u : List ℕ} → Added (across ms ls) r t → Added (across ls ms) t u → Added (joined ms ls) r u
 unfolding joined
 joined-by ms ls x y = added-then x y (λ a b. refl)
+
+-- between two groups of one member each
+pub one : {r : Bool} (x : ℕ) → r ≡ eqb x 1 → r ≡ true → x ≡ 1
+one x e t = eqb-true x 1 (sym e ∙ t)
+
+pub one-room : {n : ℕ} {s : List ℕ} {at : ℕ} → GroupHere n s at → countAt s at ≡ 1 → at + 4 + 2 ≤ length s
+one-room h e = omega (arith, h .room)
+
+pub one-small : {n : ℕ} {s : List ℕ} {at : ℕ} → GroupHere n s at → countAt s at ≡ 1 → u16At s (at + 4) < n
+one-small {n} {s} {at} h e = let f : at + 4 + 2 * 0 ≡ at + 4 = omega arith in rw f at (h .small 0 (omega arith))
+
+single : (s : List ℕ) (at : ℕ) → countAt s at ≡ 1 → membersAt s at ≡ u16At s (at + 4) ∷ []
+single s at e =
+    sym (members-start s at 1 (sym e))
+    ∙ rest-step s (at + 4) 1 0 (omega arith)
+    ∙ ap₂ (λ (x : ℕ) (l : List ℕ). x ∷ l) (let f : at + 4 + 2 * 0 ≡ at + 4 = omega arith in ap (u16At s) f) (rest-end s (at + 4) 1 1 (omega arith))
+
+across-one : (p q a b : ℕ) → across (p ∷ []) (q ∷ []) a b ≡ oneEdge p q a b
+unfolding across member any oneEdge
+across-one p q a b = rw (or-false (eqb a p), or-false (eqb b q))
+
+pub joined-pair : (s : List ℕ) (first second p q : ℕ) {t u : List ℕ} → countAt s first ≡ 1 → countAt s second ≡ 1 → p ≡ u16At s (first + 4) → q ≡ u16At s (second + 4)
+    → Added (onePair p q) t u → Added (joined (membersAt s first) (membersAt s second)) t u
+unfolding joined onePair
+joined-pair s first second p q c d e f x = added-as (λ a b. sym (rw (single s first c, single s second d, ← e, ← f, across-one p q a b, across-one q p a b))) x
 
 pub inner-yes : (ms : List ℕ) {t u : List ℕ} (q : Bool) → q ≡ true → Added (across ms ms) t u → Added (inner q ms) t u
 unfolding inner

@@ -1,10 +1,12 @@
 // A release file read record by record into local arrays.
 ghost use mathlib.Core.Path.{_≡_};
 ghost use Prim.Native.Nat.{_+_, _*_, _≤_, _<_};
+ghost use lib.Bits.{bitOr, bitXor};
+ghost use lib.Dec.{eqb};
 ghost use lib.ListN.{length, replicate};
 ghost use Rattle.model.specs.Reading.{u16At};
 ghost use Rattle.model.specs.Graph.{rowWords};
-ghost use Rattle.reader.specs.Drawing.{Added, oneBit, oneEdge, fan, across, joined, inner, membersAt, GroupHere};
+ghost use Rattle.reader.specs.Drawing.{Added, oneBit, oneEdge, onePair, oneRow, fanTo, fanWord, across, joined, inner, countAt, membersAt, GroupHere};
 ghost use Rattle.reader.specs.Decoding.{numbersAt, MembersRead, GroupTaken, GroupsRead, groupsFrom, Found, follows, SuperedgesRead, sized, Drawn, Decodes, AfterHead};
 ghost use Rattle.reader.specs.Records.{lessMember, lessGroup, spent, markAt, malformedAt, headAt, groupAt, superedgeAt, recordAt};
 
@@ -251,15 +253,43 @@ fn draw_edge(edges: &mut [u64], p: usize, q: usize)
     set_bit(edges, p, q);
 }
 
-// Edges from p to each member of the group at a place.
-fn draw_fan(edges: &mut [u64], p: usize, file: &[u8], group: usize)
-    requires { ⌜ (p < 512) × (4096 ≤ length (now edges)) × GroupHere 512 (now file) group ⌝ }
-    ensures { λ _. ⌜ Added (fan p (membersAt (now (file .entry)) group)) (now (edges .entry)) (now (edges .exit)) ⌝ }
+// The members of the group at a place, as a set of bits.
+fn member_set(file: &[u8], group: usize) -> [u64; 8]
+    requires { ⌜ GroupHere 512 (now file) group ⌝ }
+    ensures { λ r. ⌜ Added (oneRow (membersAt (now (file .entry)) group)) (replicate 8 0) r ⌝ }
 {
+    let mut set = [0u64; 8];
     let count = node_at(file, group + 2);
     let at = group + 4;
     for k in 0..count {
-        draw_edge(edges, p, node_at(file, at + 2 * k));
+        set_bit(&mut set, 0, node_at(file, at + 2 * k));
+    }
+    set
+}
+
+// A word without some of its bits.
+fn without(x: u64, bits: u64) -> u64
+    ensures { λ r. ⌜ r ≡ bitXor (bitOr x bits) bits ⌝ }
+{
+    (x | bits) ^ bits
+}
+
+// Word w of a set put into p's row, p itself left out.
+fn draw_word(edges: &mut [u64], p: usize, set: &[u64; 8], w: usize)
+    requires { ⌜ (p < 512) × (4096 ≤ length (now edges)) × (w < 8) ⌝ }
+    ensures { λ _. ⌜ Added (fanWord p (now (set .entry)) w) (now (edges .entry)) (now (edges .exit)) ⌝ }
+{
+    let i = rows::Graph::ROW_WORDS * p + w;
+    edges[i] = edges[i] | without(set[w], rows::own_bit(p, w));
+}
+
+// Edges from p to each node of a set.
+fn draw_fan(edges: &mut [u64], p: usize, set: &[u64; 8])
+    requires { ⌜ (p < 512) × (4096 ≤ length (now edges)) ⌝ }
+    ensures { λ _. ⌜ Added (fanTo p (now (set .entry))) (now (edges .entry)) (now (edges .exit)) ⌝ }
+{
+    for w in 0..8 {
+        draw_word(edges, p, set, w);
     }
 }
 
@@ -268,11 +298,29 @@ fn draw_across(edges: &mut [u64], file: &[u8], first: usize, second: usize)
     requires { ⌜ (4096 ≤ length (now edges)) × GroupHere 512 (now file) first × GroupHere 512 (now file) second ⌝ }
     ensures { λ _. ⌜ Added (across (membersAt (now (file .entry)) first) (membersAt (now (file .entry)) second)) (now (edges .entry)) (now (edges .exit)) ⌝ }
 {
+    let set = member_set(file, second);
     let count = node_at(file, first + 2);
     let at = first + 4;
     for k in 0..count {
-        draw_fan(edges, node_at(file, at + 2 * k), file, second);
+        draw_fan(edges, node_at(file, at + 2 * k), &set);
     }
+}
+
+// Whether the group at a place has one member.
+fn is_single(file: &[u8], group: usize) -> bool
+    requires { ⌜ group + 4 ≤ length (now file) ⌝ }
+    ensures { λ r. ⌜ r ≡ eqb (countAt (now (file .entry)) group) 1 ⌝ }
+{
+    node_at(file, group + 2) == 1
+}
+
+// The edge between p and q, both ways.
+fn draw_pair(edges: &mut [u64], p: usize, q: usize)
+    requires { ⌜ (p < 512) × (q < 512) × (4096 ≤ length (now edges)) ⌝ }
+    ensures { λ _. ⌜ Added (onePair p q) (now (edges .entry)) (now (edges .exit)) ⌝ }
+{
+    draw_edge(edges, p, q);
+    draw_edge(edges, q, p);
 }
 
 // All edges between the members of two groups, both ways.
@@ -280,6 +328,12 @@ fn draw_superedge(edges: &mut [u64], file: &[u8], first: usize, second: usize)
     requires { ⌜ (4096 ≤ length (now edges)) × GroupHere 512 (now file) first × GroupHere 512 (now file) second ⌝ }
     ensures { λ _. ⌜ Added (joined (membersAt (now (file .entry)) first) (membersAt (now (file .entry)) second)) (now (edges .entry)) (now (edges .exit)) ⌝ }
 {
+    if is_single(file, first) {
+        if is_single(file, second) {
+            draw_pair(edges, node_at(file, first + 4), node_at(file, second + 4));
+            return;
+        }
+    }
     draw_across(edges, file, first, second);
     draw_across(edges, file, second, first);
 }

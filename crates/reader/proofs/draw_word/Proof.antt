@@ -1,0 +1,59 @@
+-- `reader::draw_word` meets its contract.
+use native.Mathlib.Omega.{arith}
+use borrow.Author.Needs.{needs}
+use Rattle.reader.specs.BitLaws.{word-drawn}
+use Rattle.reader.proofs.draw_word.Statement.{statement}
+use Rattle.reader.proofs.draw_word.Tie as tie
+
+mul-i : tie.Need-mul-i
+mul-i c = search needs
+
+add-i : tie.Need-add-i
+add-i c = search needs
+
+mul-edges : tie.Need-mul-edges
+mul-edges c = search needs
+
+slice-read-edges : tie.Need-slice-read-edges
+slice-read-edges c = search needs
+
+mul-without : tie.Need-mul-without
+mul-without c = search needs
+
+element-copy-out-without : tie.Need-element-copy-out-without
+element-copy-out-without c = search needs
+
+own-bit-requires : tie.Need-own-bit-requires
+own-bit-requires c κs = search needs
+
+without-requires : tie.Need-without-requires
+without-requires c κs = search needs
+
+mul-edges-2 : tie.Need-mul-edges-2
+mul-edges-2 c = search needs
+
+slice-write-edges : tie.Need-slice-write-edges
+slice-write-edges c = search needs
+
+same-length : tie.Need-same-length
+same-length c = search needs
+
+returns : tie.Need-returns
+returns c = word-drawn _ _ _ _ _ _ (omega arith) (omega arith) (c .before .own-bit .ensures) (c .without .ensures)
+
+pub draw-word-spec : {M : Type 1} → statement M
+draw-word-spec =
+    tie.close
+    (tie.spec
+    mul-i
+    add-i
+    mul-edges
+    slice-read-edges
+    mul-without
+    element-copy-out-without
+    own-bit-requires
+    without-requires
+    mul-edges-2
+    slice-write-edges
+    same-length
+    returns)
