@@ -1,4 +1,4 @@
--- The test of rows with many bits: symmetry by blocks of 64 rows and 64 columns, keys by sums over four bits at a time.
+-- The test of rows with many bits: symmetry by blocks of 64 rows and 64 columns, keys by sums over eight bits at a time.
 use mathlib.Core.Path.{_≡_}
 use mathlib.Core.Bool.{Bool, cond, _||_, Bool·beq}
 use mathlib.Core.List.{List}
@@ -62,6 +62,15 @@ fourCubes b v = v % 2 * cube (4 * b) + v / 2 % 2 * cube (4 * b + 1) + v / 4 % 2 
 pub record Filled (m : ℕ) (sums : List ℕ) : Type 0 where
   pub size : length sums ≡ 2048
   pub entries : (e : ℕ) → e < m → getD sums e 0 ≡ fourCubes (e / 16) (e % 16)
+
+-- the cubes of eight nodes, four by four
+unfoldable pub eightCubes : ℕ → ℕ → ℕ
+eightCubes b v = fourCubes (2 * b) (v % 16) + fourCubes (2 * b + 1) (v / 16)
+
+-- the first m sums of eight cubes
+pub record Widened (m : ℕ) (sums : List ℕ) : Type 0 where
+  pub size : length sums ≡ 16384
+  pub entries : (e : ℕ) → e < m → getD sums e 0 ≡ eightCubes (e / 256) (e % 256)
 
 -- the cubes of the nodes whose bits stand in the first m places of word w
 unfoldable pub wordCubes : ℕ → ℕ → ℕ → ℕ

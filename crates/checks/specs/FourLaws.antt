@@ -1,4 +1,4 @@
--- Laws of sums of cubes over the bits of a row, four bits at a time.
+-- Laws of sums of cubes over the bits of a row, four and eight bits at a time.
 use mathlib.Core.Path.{_≡_, refl, sym, ap, ap₂, _∙_, subst}
 use mathlib.Core.Bool.{Bool, true, false, cond, _&&_}
 use mathlib.Core.List.{List, [], _∷_}
@@ -15,9 +15,9 @@ use Rattle.model.specs.Tables.{bitAt, edgeBit}
 use Rattle.model.specs.TestLaws.{decide}
 use Rattle.model.specs.ListLaws.{from-out}
 use Rattle.rows.specs.Search.{edgesIn}
-use Rattle.rows.specs.KeyLaws.{cubes-cong}
+use Rattle.rows.specs.KeyLaws.{cube-le, cubes-cong}
 use Rattle.checks.specs.SumLaws.{no-cubes}
-use Rattle.checks.specs.Dense.{Filled, fourCubes, rowCubes, wordCubes}
+use Rattle.checks.specs.Dense.{Filled, Widened, eightCubes, fourCubes, rowCubes, wordCubes}
 use Rattle.checks.specs.BlockLaws.{stored, stored-size, word-bit}
 
 -- a digit chooses a cube
@@ -88,12 +88,60 @@ filled-more {b} {v} {sums} {x} {c} {d} {e} {f} h hb hv ec ed ee ef ex =
     fits : 16 * b + v < length sums
     fits = omega (arith, h .size)
 
+-- two sums do not pass 32 bits
+digit-le : (d x : ℕ) → d < 2 → d * x ≤ x
+digit-le zero x h = omega arith
+digit-le (suc zero) x h = omega arith
+digit-le (suc (suc d)) x h = absurd (omega arith)
+
+pub four-le : {sums : List ℕ} (e : ℕ) → Filled 2048 sums → e < 2048 → getD sums e 0 ≤ 536870912
+four-le {sums} e h l =
+    let b = e / 16 in
+    let v = e % 16 in
+    omega (arith, h .entries e l, digit-le (v % 2) (cube (4 * b)) (omega arith), digit-le (v / 2 % 2) (cube (4 * b + 1)) (omega arith), digit-le (v / 4 % 2) (cube (4 * b + 2)) (omega arith), digit-le (v / 8 % 2) (cube (4 * b + 3)) (omega arith), cube-le (4 * b + 1) (omega arith), cube-le (4 * b + 1 + 1) (omega arith), cube-le (4 * b + 2 + 1) (omega arith), cube-le (4 * b + 3 + 1) (omega arith))
+
+-- the table of wider sums
+pub widened-none : (sums : List ℕ) → length sums ≡ 16384 → Widened 0 sums
+widened-none sums e = record { size = e; entries = λ k l. absurd (omega arith) }
+
+pub widened-start : {m k : ℕ} {sums : List ℕ} → Widened m sums → k ≡ m → Widened k sums
+widened-start {m} {k} {sums} h e = subst (λ i. Widened i sums) (sym e) h
+
+pub widened-more : {j l : ℕ} {fours sums : List ℕ} → Widened (16 * j + l) sums → Filled 2048 fours → j < 1024 → l < 16
+    → Widened (16 * j + (l + 1)) (set sums (16 * j + l) (getD fours (32 * (j / 16) + l) 0 + getD fours (32 * (j / 16) + 16 + j % 16) 0))
+unfolding eightCubes
+widened-more {j} {l} {fours} {sums} h f hj hl =
+    let s : 16 * j + l + 1 ≡ 16 * j + (l + 1) = omega arith in
+    widened-start
+    (record {
+      size = stored-size sums (16 * j + l) x fits (h .size);
+      entries = stored sums (16 * j + l) x fits (λ k y. y ≡ fourCubes (2 * (k / 256)) (k % 256 % 16) + fourCubes (2 * (k / 256) + 1) (k % 256 / 16)) (h .entries) here;
+    })
+    (sym s)
+  where
+    x : ℕ
+    x = getD fours (32 * (j / 16) + l) 0 + getD fours (32 * (j / 16) + 16 + j % 16) 0
+
+    fits : 16 * j + l < length sums
+    fits = omega (arith, h .size)
+
+    here : x ≡ fourCubes (2 * ((16 * j + l) / 256)) ((16 * j + l) % 256 % 16) + fourCubes (2 * ((16 * j + l) / 256) + 1) ((16 * j + l) % 256 / 16)
+    here =
+        let b : (16 * j + l) / 256 ≡ j / 16 = omega arith in
+        let v : (16 * j + l) % 256 % 16 ≡ l = omega arith in
+        let u : (16 * j + l) % 256 / 16 ≡ j % 16 = omega arith in
+        let b₀ : (32 * (j / 16) + l) / 16 ≡ 2 * (j / 16) = omega arith in
+        let v₀ : (32 * (j / 16) + l) % 16 ≡ l = omega arith in
+        let b₁ : (32 * (j / 16) + 16 + j % 16) / 16 ≡ 2 * (j / 16) + 1 = omega arith in
+        let v₁ : (32 * (j / 16) + 16 + j % 16) % 16 ≡ j % 16 = omega arith in
+        rw (b, v, u) (ap₂ _+_ (rw (b₀, v₀) at (f .entries (32 * (j / 16) + l) (omega arith))) (rw (b₁, v₁) at (f .entries (32 * (j / 16) + 16 + j % 16) (omega arith))))
+
 -- an entry is a number of 32 bits
-pub entry-at : {sums : List ℕ} (w i v r : ℕ) → Filled 2048 sums → w < 8 → i < 16 → v < 16 → r ≡ getD sums (16 * (16 * w + i) + v) 0 → r ≡ fourCubes (16 * w + i) v
+pub entry-at : {sums : List ℕ} (w i v r : ℕ) → Widened 16384 sums → w < 8 → i < 8 → v < 256 → r ≡ getD sums (256 * (8 * w + i) + v) 0 → r ≡ eightCubes (8 * w + i) v
 entry-at {sums} w i v r h hw hi hv e =
-    let x : (16 * (16 * w + i) + v) / 16 ≡ 16 * w + i = omega arith in
-    let y : (16 * (16 * w + i) + v) % 16 ≡ v = omega arith in
-    e ∙ (rw (x, y) at (h .entries (16 * (16 * w + i) + v) (omega arith)))
+    let x : (256 * (8 * w + i) + v) / 256 ≡ 8 * w + i = omega arith in
+    let y : (256 * (8 * w + i) + v) % 256 ≡ v = omega arith in
+    e ∙ (rw (x, y) at (h .entries (256 * (8 * w + i) + v) (omega arith)))
 
 -- the words of a row, one after the other
 pub words-none : (w x : ℕ) → 0 ≡ wordCubes w x 0
@@ -108,11 +156,38 @@ pub row-more : (edges : List ℕ) (p w t r : ℕ) → t ≡ rowCubes edges p w �
 unfolding rowCubes
 row-more edges p w t r e f = let s : w + 1 ≡ suc w = omega arith in rw (s, e, f)
 
-pub word-more : (w x i t r : ℕ) → t ≡ wordCubes w x (4 * i) → r ≡ fourCubes (16 * w + i) (x / 2 ^ (4 * i) % 16) → t + r ≡ wordCubes w x (4 * (i + 1))
-word-more w x i t r e f = ap₂ _+_ e f ∙ four-more w x i
+-- eight bits of a word more
+pub word-more : (w x i t r : ℕ) → t ≡ wordCubes w x (8 * i) → r ≡ eightCubes (8 * w + i) (x / 2 ^ (8 * i) % 256) → t + r ≡ wordCubes w x (8 * (i + 1))
+unfolding eightCubes
+word-more w x i t r e f =
+    let m : 8 * i ≡ 4 * (2 * i) = omega arith in
+    let m′ : 4 * (2 * i + 1 + 1) ≡ 8 * (i + 1) = omega arith in
+    let lower : fourCubes (2 * (8 * w + i)) (v % 16) ≡ fourCubes (16 * w + 2 * i) (x / 2 ^ (4 * (2 * i)) % 16) = ap₂ fours (omega arith) low in
+    let upper : fourCubes (2 * (8 * w + i) + 1) (v / 16) ≡ fourCubes (16 * w + (2 * i + 1)) (x / 2 ^ (4 * (2 * i + 1)) % 16) = ap₂ fours (omega arith) high in
+    let first : t + fourCubes (2 * (8 * w + i)) (v % 16) ≡ wordCubes w x (4 * (2 * i + 1)) = ap₂ _+_ (e ∙ ap (wordCubes w x) m) lower ∙ four-more w x (2 * i) in
+    ap (λ (y : ℕ). t + y) f
+    ∙ sum t (fourCubes (2 * (8 * w + i)) (v % 16)) (fourCubes (2 * (8 * w + i) + 1) (v / 16))
+    ∙ ap₂ _+_ first upper
+    ∙ four-more w x (2 * i + 1)
+    ∙ ap (wordCubes w x) m′
+  where
+    v : ℕ
+    v = x / 2 ^ (8 * i) % 256
 
-pub word-done : (w x i t : ℕ) → t ≡ wordCubes w x (4 * i) → i ≡ 16 → t ≡ wordCubes w x 64
-word-done w x i t e f = e ∙ ap (λ (k : ℕ). wordCubes w x (4 * k)) f
+    fours : ℕ → ℕ → ℕ
+    fours b y = fourCubes b y
+
+    sum : (a b c : ℕ) → a + (b + c) ≡ a + b + c
+    sum a b c = omega arith
+
+    low : v % 16 ≡ x / 2 ^ (4 * (2 * i)) % 16
+    low = let m : 8 * i ≡ 4 * (2 * i) = omega arith in let z : x / 2 ^ (8 * i) ≡ x / 2 ^ (4 * (2 * i)) = ap (λ (k : ℕ). x / 2 ^ k) m in omega arith
+
+    high : v / 16 ≡ x / 2 ^ (4 * (2 * i + 1)) % 16
+    high = let m : 8 * i + 4 ≡ 4 * (2 * i + 1) = omega arith in let z : x / 2 ^ (8 * i) / 16 ≡ x / 2 ^ (4 * (2 * i + 1)) = shr-shr x (8 * i) 4 ∙ ap (λ (k : ℕ). x / 2 ^ k) m in omega arith
+
+pub word-done : (w x i t : ℕ) → t ≡ wordCubes w x (8 * i) → i ≡ 8 → t ≡ wordCubes w x 64
+word-done w x i t e f = e ∙ ap (λ (k : ℕ). wordCubes w x (8 * k)) f
 
 pub row-done : (edges : List ℕ) (p w t : ℕ) → t ≡ rowCubes edges p w → w ≡ 8 → t ≡ rowCubes edges p 8
 row-done edges p w t e f = e ∙ ap (rowCubes edges p) f

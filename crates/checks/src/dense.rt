@@ -1,4 +1,4 @@
-// Rows with many bits: symmetry by blocks of 64 rows and 64 columns, keys by sums over four bits at a time.
+// Rows with many bits: symmetry by blocks of 64 rows and 64 columns, keys by sums over eight bits at a time.
 ghost use mathlib.Core.Path.{_≡_};
 ghost use mathlib.Core.Bool.{true, cond, _&&_, _||_};
 ghost use Prim.Native.Nat.{ℕ, _+_, _*_, _/_, _%_, _^_, _≤_, _<_};
@@ -15,9 +15,10 @@ ghost use Rattle.checks.specs.Dense.{
   RowSwapped,
   Staging,
   Transposed,
+  Widened,
   blockEven,
+  eightCubes,
   even,
-  fourCubes,
   rowCubes,
   wordCubes,
 };
@@ -165,7 +166,7 @@ fn fill_four(sums: &mut [u32], b: usize)
 }
 
 // The sums of the cubes of any of four nodes, for all nodes.
-pub fn fill(sums: &mut [u32])
+fn fill_fours(sums: &mut [u32])
     requires { ⌜ length (now sums) ≡ 2048 ⌝ }
     ensures { λ _. ⌜ Filled 2048 (now (sums .exit)) ⌝ }
 {
@@ -174,36 +175,67 @@ pub fn fill(sums: &mut [u32])
     }
 }
 
+// Sixteen sums for eight nodes: one choice among the last four of them, and each choice among the first four.
+fn widen_row(fours: &[u32], sums: &mut [u32], j: usize)
+    requires { ⌜ (j < 1024) × Filled 2048 (now fours) × Widened (16 * j) (now sums) ⌝ }
+    ensures { λ _. ⌜ Widened (16 * (j + 1)) (now (sums .exit)) ⌝ }
+{
+    let a = 32 * (j / 16);
+    let x = fours[a + 16 + j % 16];
+    for l in 0..16 {
+        sums[16 * j + l] = fours[a + l] + x;
+    }
+}
+
+fn widen(fours: &[u32], sums: &mut [u32])
+    requires { ⌜ Filled 2048 (now fours) × (length (now sums) ≡ 16384) ⌝ }
+    ensures { λ _. ⌜ Widened 16384 (now (sums .exit)) ⌝ }
+{
+    for j in 0..1024 {
+        widen_row(fours, sums, j);
+    }
+}
+
+// The sums of the cubes of any of eight nodes, for all nodes.
+pub fn fill(sums: &mut [u32])
+    requires { ⌜ length (now sums) ≡ 16384 ⌝ }
+    ensures { λ _. ⌜ Widened 16384 (now (sums .exit)) ⌝ }
+{
+    let mut fours = [0u32; 2048];
+    fill_fours(&mut fours);
+    widen(&fours, sums);
+}
+
 fn wide_key(x: u32) -> u64
     ensures { λ r. ⌜ r ≡ x ⌝ }
 {
     x as u64
 }
 
-// The sum for the four bits of x from bit 4 * i on, in word w.
-fn four_sum(sums: &[u32], w: usize, x: u64, i: usize) -> u64
-    requires { ⌜ (w < 8) × (i < 16) × Filled 2048 (now sums) ⌝ }
-    ensures { λ r. ⌜ (r ≡ fourCubes (16 * w + i) (x / 2 ^ (4 * i) % 16)) × (r < 2 ^ 32) ⌝ }
+// The sum for the eight bits of x from bit 8 * i on, in word w.
+fn eight_sum(sums: &[u32], w: usize, x: u64, i: usize) -> u64
+    requires { ⌜ (w < 8) × (i < 8) × Widened 16384 (now sums) ⌝ }
+    ensures { λ r. ⌜ (r ≡ eightCubes (8 * w + i) (x / 2 ^ (8 * i) % 256)) × (r < 2 ^ 32) ⌝ }
 {
-    let v = ((x >> (4 * i)) % 16) as usize;
-    wide_key(sums[16 * (16 * w + i) + v])
+    let v = ((x >> (8 * i)) % 256) as usize;
+    wide_key(sums[256 * (8 * w + i) + v])
 }
 
 // The cubes of the nodes whose bits stand in word w.
 fn word_sum(sums: &[u32], w: usize, x: u64) -> u64
-    requires { ⌜ (w < 8) × Filled 2048 (now sums) ⌝ }
-    ensures { λ r. ⌜ (r ≡ wordCubes w x 64) × (r ≤ 68719476736) ⌝ }
+    requires { ⌜ (w < 8) × Widened 16384 (now sums) ⌝ }
+    ensures { λ r. ⌜ (r ≡ wordCubes w x 64) × (r ≤ 34359738368) ⌝ }
 {
     let mut total = 0;
-    for i in 0..16 {
-        total += four_sum(sums, w, x, i);
+    for i in 0..8 {
+        total += eight_sum(sums, w, x, i);
     }
     total
 }
 
 // The cubes of the nodes whose bits stand in p's row.
 pub fn row_sum(edges: &[u64], sums: &[u32], p: usize) -> u64
-    requires { ⌜ (p < maxNodes) × (rowWords * p + rowWords ≤ length (now edges)) × Filled 2048 (now sums) ⌝ }
+    requires { ⌜ (p < maxNodes) × (rowWords * p + rowWords ≤ length (now edges)) × Widened 16384 (now sums) ⌝ }
     ensures { λ r. ⌜ r ≡ rowCubes (now (edges .entry)) p 8 ⌝ }
 {
     let a = Graph::ROW_WORDS * p;
@@ -223,7 +255,7 @@ pub fn low_half(x: u64) -> u32
 
 // Whether p's row holds, given that every bit has its mirror.
 fn row_holds(edges: &[u64], keys: &[u32], sums: &[u32], n: usize, p: usize) -> bool
-    requires { ⌜ (n ≤ maxNodes) × (length (now edges) ≡ rowWords * n) × (length (now keys) ≡ 2 * n) × (p < n) × Filled 2048 (now sums) × (even (now edges) ≡ true) ⌝ }
+    requires { ⌜ (n ≤ maxNodes) × (length (now edges) ≡ rowWords * n) × (length (now keys) ≡ 2 * n) × (p < n) × Widened 16384 (now sums) × (even (now edges) ≡ true) ⌝ }
     ensures { λ r. ⌜ r ≡ (rowHolds n (now (edges .entry)) p && keysHold n (now (edges .entry)) (now (keys .entry)) p) ⌝ }
 {
     if rows::edge(edges, p, p) {
@@ -240,7 +272,7 @@ pub fn rows_hold(edges: &[u64], keys: &[u32], n: usize) -> bool
     if !is_even(edges, n) {
         return false;
     }
-    let mut sums = [0u32; 2048];
+    let mut sums = [0u32; 16384];
     fill(&mut sums);
     for p in 0..n {
         if !row_holds(edges, keys, &sums, n, p) {

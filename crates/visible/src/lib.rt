@@ -105,12 +105,12 @@ fn sum_sparse(edges: &[u64], keys: &mut [u32], n: usize)
     }
 }
 
-// The same four bits at a time, by a table.
+// The same eight bits at a time, by a table.
 fn sum_dense(edges: &[u64], keys: &mut [u32], n: usize)
     requires { ⌜ Within n (now edges) × (length (now keys) ≡ 2 * n) ⌝ }
     ensures { λ _. ⌜ now (keys .exit) ≡ keysOf (graphIn n (now (edges .entry))) ⌝ }
 {
-    let mut sums = [0u32; 2048];
+    let mut sums = [0u32; 16384];
     checks::dense::fill(&mut sums);
     for p in 0..n {
         put_keys(

@@ -8,7 +8,7 @@ use Rattle.checks.proofs.dense.row_sum.Statement.{statement}
 use Rattle.checks.proofs.dense.row_sum.Tie as tie
 
 abbrev Inv-loop : tie.InvT-loop
-Inv-loop edges sums p a total₀ w₀ total w = (w ≤ 8) × (total ≤ 68719476736 * w) × (total ≡ rowCubes edges p w)
+Inv-loop edges sums p a total₀ w₀ total w = (w ≤ 8) × (total ≤ 34359738368 * w) × (total ≡ rowCubes edges p w)
 
 abbrev μ-loop : tie.MeasureT-loop
 μ-loop edges sums p a total₀ w₀ total w = 8 - w

@@ -1,10 +1,10 @@
--- The entry for these four bits.
+-- The entry for these eight bits.
 use native.Mathlib.Omega.{arith}
 use Prim.Native.Nat.{_+_, _*_, _/_, _%_, _^_}
 use borrow.Author.Needs.{needs}
 use Rattle.checks.specs.FourLaws.{entry-at}
-use Rattle.checks.proofs.dense.four_sum.Statement.{statement}
-use Rattle.checks.proofs.dense.four_sum.Tie as tie
+use Rattle.checks.proofs.dense.eight_sum.Statement.{statement}
+use Rattle.checks.proofs.dense.eight_sum.Tie as tie
 
 -- src/dense.rt:179:21
 mul-v : tie.Need-mul-v
@@ -47,10 +47,10 @@ returns : tie.Need-returns
 returns c =
     let s = c .before .before in
     let pre = s .before .pre in
-    (entry-at _ _ _ _ (pre .2) (pre .0) (pre .1) (omega arith) (c .wide-key .ensures), omega (arith, c .wide-key .ensures, c .before .shared-slice-known2 .given (16 * (16 * s .before .args .w + s .before .args .i) + s .before .args .x / 2 ^ (4 * s .before .args .i) % 16)))
+    (entry-at _ _ _ _ (pre .2) (pre .0) (pre .1) (omega arith) (c .wide-key .ensures), omega (arith, c .wide-key .ensures, c .before .shared-slice-known2 .given (256 * (8 * s .before .args .w + s .before .args .i) + s .before .args .x / 2 ^ (8 * s .before .args .i) % 256)))
 
-pub four-sum-spec : {M : Type 1} → statement M
-four-sum-spec =
+pub eight-sum-spec : {M : Type 1} → statement M
+eight-sum-spec =
     tie.close
     (tie.spec
     mul-v

@@ -3,8 +3,8 @@ use Prim.Native.Nat.{_*_, _-_, _≤_}
 use native.Mathlib.Omega.{arith}
 use Rattle.checks.specs.Dense.{Filled}
 use Rattle.checks.specs.FourLaws.{filled-none, filled-start}
-use Rattle.checks.proofs.dense.fill.Statement.{statement}
-use Rattle.checks.proofs.dense.fill.Tie as tie
+use Rattle.checks.proofs.dense.fill_fours.Statement.{statement}
+use Rattle.checks.proofs.dense.fill_fours.Tie as tie
 
 abbrev Inv-loop : tie.InvT-loop
 Inv-loop sums₀ b₀ sums b = (b ≤ 128) × Filled (16 * b) sums
@@ -40,8 +40,8 @@ same-length c = omega (arith, c .before .loop .inv .1 .size)
 returns : tie.Need-returns Inv-loop μ-loop
 returns c = filled-start (c .before .loop .inv .1) (omega arith)
 
-pub fill-spec : {M : Type 1} → statement M
-fill-spec =
+pub fill-fours-spec : {M : Type 1} → statement M
+fill-fours-spec =
     tie.close
     (tie.spec
     Inv-loop
