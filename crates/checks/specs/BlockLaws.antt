@@ -20,7 +20,7 @@ use Rattle.model.specs.TableLaws.{bitAt-word}
 use Rattle.model.specs.ListLaws.{all-elim, all-intro, nodes-in, nodes-out}
 use Rattle.rows.specs.BitLaws.{bit-xor, word-bits}
 use Rattle.rows.specs.TwinRowLaws.{words-eq}
-use Rattle.checks.specs.Dense.{Across, Loaded, Masks, RowSwapped, Staging, Transposed, blockEven, columnEven, even, swapped}
+use Rattle.checks.specs.Dense.{Across, Loaded, Masks, Ones, RowSwapped, Run, Staging, Transposed, Zeros, blockEven, columnEven, even, swapped}
 
 -- bits of `a & b`, of shifted words
 odd-and : (a b : ℕ) → bitAnd a b % 2 ≡ min (a % 2) (b % 2)
@@ -91,9 +91,6 @@ room-below k r e = step (decide (ltb r (2 ^ k)))
     step (inl t) = absurd (let z : r / 2 ^ k ≡ 0 = div-eq-of-lt (ltb-true r (2 ^ k) t) in omega arith)
     step (inr t) = ltb-false r (2 ^ k) t
 
-pub room-below-not : (k r : ℕ) → (r / 2 ^ k % 2 ≡ 0 → ⊥) → 2 ^ k ≤ r
-room-below-not k r d = room-below k r (omega arith)
-
 -- a digit replaced
 module _ (k : ℕ) where
   swap-same : (x y d : ℕ) → x / 2 ^ k % 2 ≡ d → y / 2 ^ k % 2 ≡ d → d ≤ 1 → swapped k x y ≡ x
@@ -108,13 +105,13 @@ module _ (k : ℕ) where
   swap-down x y e f = let z : x - 1 * 2 ^ k + 0 * 2 ^ k ≡ x - 2 ^ k = omega arith in rw (e, f) z
 
 -- a row of the block with digit k exchanged
-module _ (a : List ℕ) (k r : ℕ) (hk : k < 6) (hr : r < 64) {high low : ℕ} (m : Masks k high low) where
+module _ (a : List ℕ) (k r : ℕ) where
   abbrev Bit : ℕ → ℕ → Bool
   Bit i c = bitAt (getD a i 0) c
 
-  pub low-row : (x : ℕ) {j : ℕ} → r / 2 ^ k % 2 ≡ 0 → j ≡ 2 ^ k
+  pub low-row : (high x : ℕ) {j : ℕ} → Ones k high → r / 2 ^ k % 2 ≡ 0 → j ≡ 2 ^ k
       → ((c : ℕ) → bitAt x c ≡ cond (bitAt high c) (bitAt (getD a (r + j) 0 * 2 ^ j % 2 ^ 64) c) (bitAt (getD a r 0) c)) → RowSwapped k a r x
-  low-row x {j} e ej h = record { bits = λ c hc. h c ∙ ap (λ (b : Bool). cond b (bitAt (getD a (r + j) 0 * 2 ^ j % 2 ^ 64) c) (Bit r c)) (m .ones c hc) ∙ step c hc (digit c k) }
+  low-row high x {j} m e ej h = record { bits = λ c hc. h c ∙ ap (λ (b : Bool). cond b (bitAt (getD a (r + j) 0 * 2 ^ j % 2 ^ 64) c) (Bit r c)) (m c hc) ∙ step c hc (digit c k) }
     where
       step : (c : ℕ) → c < 64 → (c / 2 ^ k % 2 ≡ 0) ⊎ (c / 2 ^ k % 2 ≡ 1) → cond (eqb (c / 2 ^ k % 2) 1) (bitAt (getD a (r + j) 0 * 2 ^ j % 2 ^ 64) c) (Bit r c) ≡ Bit (swapped k r c) (swapped k c r)
       step c hc (inl f) = ap (λ (d : ℕ). cond (eqb d 1) (bitAt (getD a (r + j) 0 * 2 ^ j % 2 ^ 64) c) (Bit r c)) f ∙ sym (ap₂ Bit (swap-same k r c 0 e f (omega arith)) (swap-same k c r 0 f e (omega arith)))
@@ -124,9 +121,9 @@ module _ (a : List ℕ) (k r : ℕ) (hk : k < 6) (hr : r < 64) {high low : ℕ} 
           ∙ bit-shl (getD a (r + 2 ^ k) 0) (2 ^ k) c hc (room-below k c f)
           ∙ sym (ap₂ Bit (swap-up k r c e f) (swap-down k c r f e))
 
-  pub high-row : (x : ℕ) {j : ℕ} → r / 2 ^ k % 2 ≡ 1 → j ≡ 2 ^ k
+  pub high-row : (low x : ℕ) {j : ℕ} → Zeros k low → r / 2 ^ k % 2 ≡ 1 → j ≡ 2 ^ k
       → ((c : ℕ) → bitAt x c ≡ cond (bitAt low c) (bitAt (getD a (r - j) 0 / 2 ^ j) c) (bitAt (getD a r 0) c)) → RowSwapped k a r x
-  high-row x {j} e ej h = record { bits = λ c hc. h c ∙ ap (λ (b : Bool). cond b (bitAt (getD a (r - j) 0 / 2 ^ j) c) (Bit r c)) (m .zeros c hc) ∙ step c hc (digit c k) }
+  high-row low x {j} m e ej h = record { bits = λ c hc. h c ∙ ap (λ (b : Bool). cond b (bitAt (getD a (r - j) 0 / 2 ^ j) c) (Bit r c)) (m c hc) ∙ step c hc (digit c k) }
     where
       step : (c : ℕ) → c < 64 → (c / 2 ^ k % 2 ≡ 0) ⊎ (c / 2 ^ k % 2 ≡ 1) → cond (eqb (c / 2 ^ k % 2) 0) (bitAt (getD a (r - j) 0 / 2 ^ j) c) (Bit r c) ≡ Bit (swapped k r c) (swapped k c r)
       step c hc (inr f) = ap (λ (d : ℕ). cond (eqb d 0) (bitAt (getD a (r - j) 0 / 2 ^ j) c) (Bit r c)) f ∙ sym (ap₂ Bit (swap-same k r c 1 e f (omega arith)) (swap-same k c r 1 f e (omega arith)))
@@ -160,8 +157,46 @@ staging-more {k} {a} {m} {b} {x} s l h = record {
   rows = stored b m x (omega (arith, s .size)) (RowSwapped k a) (s .rows) h;
 }
 
-pub staging-done : {k : ℕ} {a : List ℕ} {m : ℕ} {b : List ℕ} → Staging k a m b → m ≡ 64 → Staging k a 64 b
-staging-done {k} {a} {m} {b} s e = subst (λ i. Staging k a i b) e s
+pub staging-at : {k : ℕ} {a : List ℕ} {m l : ℕ} {b : List ℕ} → Staging k a m b → m ≡ l → Staging k a l b
+staging-at {k} {a} {m} {l} {b} s e = subst (λ i. Staging k a i b) e s
+
+-- runs of rows
+pub run-digit : (k : ℕ) {d from r : ℕ} → k < 6 → Run k d from → from ≤ r → r < from + 2 ^ k → r / 2 ^ k % 2 ≡ d
+run-digit zero hk s l u = omega (arith, s .start, s .digit)
+run-digit (suc zero) hk s l u = omega (arith, s .start, s .digit)
+run-digit (suc (suc zero)) hk s l u = omega (arith, s .start, s .digit)
+run-digit (suc (suc (suc zero))) hk s l u = omega (arith, s .start, s .digit)
+run-digit (suc (suc (suc (suc zero)))) hk s l u = omega (arith, s .start, s .digit)
+run-digit (suc (suc (suc (suc (suc zero))))) hk s l u = omega (arith, s .start, s .digit)
+run-digit (suc (suc (suc (suc (suc (suc k)))))) hk s l u = absurd (omega arith)
+
+abbrev Halves : ℕ → ℕ → Type 0
+Halves k from =
+    (from % 2 ^ k ≡ 0)
+    × (from / 2 ^ k % 2 ≡ 0)
+    × ((from + 2 ^ k) % 2 ^ k ≡ 0)
+    × ((from + 2 ^ k) / 2 ^ k % 2 ≡ 1)
+    × (from + 2 ^ k + 2 ^ k ≤ 64)
+    × ((from + 2 * 2 ^ k) % (2 * 2 ^ k) ≡ 0)
+
+halves : (k from : ℕ) → k < 6 → from % (2 * 2 ^ k) ≡ 0 → from < 64 → Halves k from
+halves zero from hk e l = omega arith
+halves (suc zero) from hk e l = omega arith
+halves (suc (suc zero)) from hk e l = omega arith
+halves (suc (suc (suc zero))) from hk e l = omega arith
+halves (suc (suc (suc (suc zero)))) from hk e l = omega arith
+halves (suc (suc (suc (suc (suc zero))))) from hk e l = omega arith
+halves (suc (suc (suc (suc (suc (suc k)))))) from hk e l = absurd (omega arith)
+
+module _ (k from : ℕ) {j : ℕ} (hk : k < 6) (ej : j ≡ 2 ^ k) (e : from % (2 * 2 ^ k) ≡ 0) (l : from < 64) where
+  pub run-low : Run k 0 from
+  run-low = let h = halves k from hk e l in record { start = h .0; digit = h .1; ends = omega (arith, h .4) }
+
+  pub run-high : Run k 1 (from + j)
+  run-high = let h = halves k from hk e l in subst (λ i. Run k 1 (from + i)) (sym ej) (record { start = h .2; digit = h .3; ends = h .4 })
+
+  pub run-next : ((from + 2 * j) % (2 * 2 ^ k) ≡ 0) × (from + 2 * j ≤ 64)
+  run-next = let h = halves k from hk e l in rw ej (h .5, omega (arith, h .4))
 
 -- the digits from k on, and those below, with digit k apart
 module _ (k : ℕ) where

@@ -2,7 +2,7 @@
 use mathlib.Core.Path.{_≡_}
 use mathlib.Core.Bool.{Bool, cond, _||_, Bool·beq}
 use mathlib.Core.List.{List}
-use Prim.Native.Nat.{ℕ, zero, suc, _+_, _*_, _-_, _/_, _%_, _^_, _<_}
+use Prim.Native.Nat.{ℕ, zero, suc, _+_, _*_, _-_, _/_, _%_, _^_, _≤_, _<_}
 use lib.Dec.{eqb, ltb}
 use lib.ListN.{length, getD}
 use Rattle.model.specs.Lists.{all, nodes}
@@ -15,9 +15,21 @@ abbrev pub swapped : ℕ → ℕ → ℕ → ℕ
 swapped k r c = r - r / 2 ^ k % 2 * 2 ^ k + c / 2 ^ k % 2 * 2 ^ k
 
 -- the places whose digit k is 1, and those where it is 0
+abbrev pub Ones : ℕ → ℕ → Type 0
+Ones k mask = (c : ℕ) → c < 64 → bitAt mask c ≡ eqb (c / 2 ^ k % 2) 1
+
+abbrev pub Zeros : ℕ → ℕ → Type 0
+Zeros k mask = (c : ℕ) → c < 64 → bitAt mask c ≡ eqb (c / 2 ^ k % 2) 0
+
 pub record Masks (k high low : ℕ) : Type 0 where
-  pub ones : (c : ℕ) → c < 64 → bitAt high c ≡ eqb (c / 2 ^ k % 2) 1
-  pub zeros : (c : ℕ) → c < 64 → bitAt low c ≡ eqb (c / 2 ^ k % 2) 0
+  pub ones : Ones k high
+  pub zeros : Zeros k low
+
+-- a run of rows whose digit k is d begins
+pub record Run (k d from : ℕ) : Type 0 where
+  pub start : from % 2 ^ k ≡ 0
+  pub digit : from / 2 ^ k % 2 ≡ d
+  pub ends : from + 2 ^ k ≤ 64
 
 -- x is row r of the block a with digit k of row and column exchanged
 pub record RowSwapped (k : ℕ) (a : List ℕ) (r x : ℕ) : Type 0 where

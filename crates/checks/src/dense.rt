@@ -12,10 +12,13 @@ ghost use Rattle.checks.specs.Dense.{
   Filled,
   Loaded,
   Masks,
+  Ones,
   RowSwapped,
+  Run,
   Staging,
   Transposed,
   Widened,
+  Zeros,
   blockEven,
   eightCubes,
   even,
@@ -31,23 +34,55 @@ fn blend(x: u64, z: u64, mask: u64) -> u64
     x ^ ((x ^ z) & mask)
 }
 
-// Row r of a block with digit k of row and column exchanged.
-fn swapped_row(a: &[u64], k: usize, j: usize, high: u64, low: u64, r: usize) -> u64
-    requires { ⌜ (length (now a) ≡ 64) × (k < 6) × (j ≡ 2 ^ k) × Masks k high low × (r < 64) ⌝ }
+// Row r of a block with digit k of row and column exchanged, where that digit of r is 0.
+fn low_row(a: &[u64], k: usize, high: u64, r: usize) -> u64
+    requires { ⌜ (length (now a) ≡ 64) × (k < 6) × (r < 64) × (r / 2 ^ k % 2 ≡ 0) × Ones k high ⌝ }
     ensures { λ x. ⌜ RowSwapped k (now (a .entry)) r x ⌝ }
 {
-    if (r >> k) % 2 == 0 {
-        return blend(a[r], a[r + j] << j, high);
-    }
+    let j = 1usize << k;
+    blend(a[r], a[r + j] << j, high)
+}
+
+// And where it is 1.
+fn high_row(a: &[u64], k: usize, low: u64, r: usize) -> u64
+    requires { ⌜ (length (now a) ≡ 64) × (k < 6) × (r < 64) × (r / 2 ^ k % 2 ≡ 1) × Zeros k low ⌝ }
+    ensures { λ x. ⌜ RowSwapped k (now (a .entry)) r x ⌝ }
+{
+    let j = 1usize << k;
     blend(a[r], a[r - j] >> j, low)
 }
 
-fn swap_digit(a: &[u64], b: &mut [u64], k: usize, j: usize, high: u64, low: u64)
-    requires { ⌜ (length (now a) ≡ 64) × (length (now b) ≡ 64) × (k < 6) × (j ≡ 2 ^ k) × Masks k high low ⌝ }
+// The rows from `from` on whose digit k is 0, up to the next where it is 1.
+fn swap_low(a: &[u64], b: &mut [u64], k: usize, high: u64, from: usize)
+    requires { ⌜ (length (now a) ≡ 64) × (k < 6) × Run k 0 from × Ones k high × Staging k (now a) from (now b) ⌝ }
+    ensures { λ _. ⌜ Staging k (now (a .entry)) (from + 2 ^ k) (now (b .exit)) ⌝ }
+{
+    for r in from..from + (1usize << k) {
+        b[r] = low_row(a, k, high, r);
+    }
+}
+
+// And those where it is 1.
+fn swap_high(a: &[u64], b: &mut [u64], k: usize, low: u64, from: usize)
+    requires { ⌜ (length (now a) ≡ 64) × (k < 6) × Run k 1 from × Zeros k low × Staging k (now a) from (now b) ⌝ }
+    ensures { λ _. ⌜ Staging k (now (a .entry)) (from + 2 ^ k) (now (b .exit)) ⌝ }
+{
+    for r in from..from + (1usize << k) {
+        b[r] = high_row(a, k, low, r);
+    }
+}
+
+// All rows, by runs of equal digit k, so that a loop has no branch.
+fn swap_digit(a: &[u64], b: &mut [u64], k: usize, high: u64, low: u64)
+    requires { ⌜ (length (now a) ≡ 64) × (length (now b) ≡ 64) × (k < 6) × Masks k high low ⌝ }
     ensures { λ _. ⌜ Staging k (now (a .entry)) 64 (now (b .exit)) ⌝ }
 {
-    for r in 0..64 {
-        b[r] = swapped_row(a, k, j, high, low, r);
+    let j = 1usize << k;
+    let mut from = 0;
+    while from < 64 {
+        swap_low(a, b, k, high, from);
+        swap_high(a, b, k, low, from + j);
+        from += 2 * j;
     }
 }
 
@@ -56,12 +91,12 @@ fn transpose(a: &mut [u64], b: &mut [u64])
     requires { ⌜ (length (now a) ≡ 64) × (length (now b) ≡ 64) ⌝ }
     ensures { λ _. ⌜ Transposed (now (a .entry)) (now (a .exit)) ⌝ }
 {
-    swap_digit(a, b, 0, 1, 0xAAAAAAAAAAAAAAAA, 0x5555555555555555);
-    swap_digit(b, a, 1, 2, 0xCCCCCCCCCCCCCCCC, 0x3333333333333333);
-    swap_digit(a, b, 2, 4, 0xF0F0F0F0F0F0F0F0, 0x0F0F0F0F0F0F0F0F);
-    swap_digit(b, a, 3, 8, 0xFF00FF00FF00FF00, 0x00FF00FF00FF00FF);
-    swap_digit(a, b, 4, 16, 0xFFFF0000FFFF0000, 0x0000FFFF0000FFFF);
-    swap_digit(b, a, 5, 32, 0xFFFFFFFF00000000, 0x00000000FFFFFFFF);
+    swap_digit(a, b, 0, 0xAAAAAAAAAAAAAAAA, 0x5555555555555555);
+    swap_digit(b, a, 1, 0xCCCCCCCCCCCCCCCC, 0x3333333333333333);
+    swap_digit(a, b, 2, 0xF0F0F0F0F0F0F0F0, 0x0F0F0F0F0F0F0F0F);
+    swap_digit(b, a, 3, 0xFF00FF00FF00FF00, 0x00FF00FF00FF00FF);
+    swap_digit(a, b, 4, 0xFFFF0000FFFF0000, 0x0000FFFF0000FFFF);
+    swap_digit(b, a, 5, 0xFFFFFFFF00000000, 0x00000000FFFFFFFF);
 }
 
 // Word w of p's row, 0 if there is no such node.

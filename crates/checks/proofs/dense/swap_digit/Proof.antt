@@ -1,52 +1,82 @@
--- The invariant: the rows before r are done.
-use Prim.Native.Nat.{_-_, _≤_}
+-- The invariant: the rows before `from` are done, and a run of rows whose digit k is 0 begins there.
+use mathlib.Core.Path.{_≡_}
+use Prim.Native.Nat.{_*_, _-_, _%_, _^_, _≤_}
+use native.Mathlib.Nat.{zero-mod}
 use native.Mathlib.Omega.{arith}
+use lib.Pow.{pow-pos}
+use Rattle.rows.specs.BitLaws.{one-shl}
 use Rattle.checks.specs.Dense.{Staging}
-use Rattle.checks.specs.BlockLaws.{staging-done, staging-more, staging-none}
+use Rattle.checks.specs.BlockLaws.{run-high, run-low, run-next, staging-at, staging-none}
 use Rattle.checks.proofs.dense.swap_digit.Statement.{statement}
 use Rattle.checks.proofs.dense.swap_digit.Tie as tie
 
 abbrev Inv-loop : tie.InvT-loop
-Inv-loop a b₀ k j high low r₀ b r = (r ≤ 64) × Staging k a r b
+Inv-loop a b₀ k high low j from₀ b from = (from % (2 * 2 ^ k) ≡ 0) × (from ≤ 64) × Staging k a from b
 
 abbrev μ-loop : tie.MeasureT-loop
-μ-loop a b₀ k j high low r₀ b r = 64 - r
+μ-loop a b₀ k high low j from₀ b from = 64 - from
 
--- src/dense.rt:48:5
+shl-j : tie.Need-shl-j Inv-loop μ-loop
+shl-j c = omega arith
+
 loop-holds : tie.Need-loop-holds Inv-loop μ-loop
-loop-holds c = (omega arith, staging-none _ _ _ (c .before .before .pre .1))
+loop-holds c = (zero-mod _, omega arith, staging-none _ _ _ (c .before .before .pre .1))
 
--- src/dense.rt:49:16
-swapped-row-requires : tie.Need-swapped-row-requires Inv-loop μ-loop
-swapped-row-requires c κs = let pre = c .before .before .before .before .pre in (pre .0, pre .2, pre .3, pre .4, omega arith)
+swap-low-requires : tie.Need-swap-low-requires Inv-loop μ-loop
+swap-low-requires c κs =
+    let start = c .before .before .before .before .before in
+    let j = one-shl (start .args .k) (omega arith) in
+    let head = c .before .before .loop in
+    (start .pre .0, start .pre .2, run-low _ _ (start .pre .2) j (head .inv .0) (c .before .loop-test .taken), start .pre .3 .ones, head .inv .2)
 
--- src/dense.rt:49:9
-mul-b : tie.Need-mul-b Inv-loop μ-loop
-mul-b c = omega arith
+add-swap-high : tie.Need-add-swap-high Inv-loop μ-loop
+add-swap-high c =
+    let start = c .before .before .before .before .before .before .before .before .before in
+    let j = one-shl (start .args .k) (omega arith) in
+    let head = c .before .before .before .before .before .before .loop in
+    omega (arith, (run-high _ _ (start .pre .2) j (head .inv .0) (c .before .before .before .before .before .loop-test .taken)) .ends)
 
--- src/dense.rt:49:9
-slice-write-b : tie.Need-slice-write-b Inv-loop μ-loop
-slice-write-b c = omega (arith, c .before .before .loop .inv .1 .size)
+swap-high-requires : tie.Need-swap-high-requires Inv-loop μ-loop
+swap-high-requires c κs =
+    let start = c .before .before .before .before .before .before .before .before .before in
+    let j = one-shl (start .args .k) (omega arith) in
+    let head = c .before .before .before .before .before .before .loop in
+    (start .pre .0, start .pre .2, run-high _ _ (start .pre .2) j (head .inv .0) (c .before .before .before .before .before .loop-test .taken), start .pre .3 .zeros, staging-at (c .before .before .before .swap-low .ensures) (omega arith))
 
--- src/dense.rt:48:9
-add-r : tie.Need-add-r Inv-loop μ-loop
-add-r c = omega arith
+mul-from : tie.Need-mul-from Inv-loop μ-loop
+mul-from c =
+    let start = c .before .before .before .before .before .before .before .before .before .before .before .before in
+    let j = one-shl (start .args .k) (omega arith) in
+    let head = c .before .before .before .before .before .before .before .before .before .loop in
+    omega (arith, (run-next _ _ (start .pre .2) j (head .inv .0) (c .before .before .before .before .before .before .before .before .loop-test .taken)) .1)
 
--- src/dense.rt:48:5
+add-from : tie.Need-add-from Inv-loop μ-loop
+add-from c =
+    let start = c .before .before .before .before .before .before .before .before .before .before .before .before in
+    let j = one-shl (start .args .k) (omega arith) in
+    let head = c .before .before .before .before .before .before .before .before .before .loop in
+    omega (arith, (run-next _ _ (start .pre .2) j (head .inv .0) (c .before .before .before .before .before .before .before .before .loop-test .taken)) .1)
+
 loop-less : tie.Need-loop-less Inv-loop μ-loop
-loop-less c = omega arith
+loop-less c =
+    let start = c .before .before .before .before .before .before .before .before .before .before .before .before in
+    let j = one-shl (start .args .k) (omega arith) in
+    let head = c .before .before .before .before .before .before .before .before .before .loop in
+    omega (arith, (run-next _ _ (start .pre .2) j (head .inv .0) (c .before .before .before .before .before .before .before .before .loop-test .taken)) .1, pow-pos (start .args .k))
 
--- src/dense.rt:48:5
 loop-again : tie.Need-loop-again Inv-loop μ-loop
-loop-again c = (omega arith, staging-more (c .before .before .loop .inv .1) (c .before .loop-test .taken) (c .swapped-row .ensures))
+loop-again c =
+    let start = c .before .before .before .before .before .before .before .before .before .before .before .before in
+    let j = one-shl (start .args .k) (omega arith) in
+    let head = c .before .before .before .before .before .before .before .before .before .loop in
+    let next = run-next _ _ (start .pre .2) j (head .inv .0) (c .before .before .before .before .before .before .before .before .loop-test .taken) in
+    (next .0, next .1, staging-at (c .before .before .swap-high .ensures) (omega arith))
 
--- src/dense.rt:44:1
 same-length : tie.Need-same-length Inv-loop μ-loop
-same-length c = omega (arith, c .before .loop .inv .1 .size)
+same-length c = omega (arith, c .before .loop .inv .2 .size)
 
--- src/dense.rt:44:1
 returns : tie.Need-returns Inv-loop μ-loop
-returns c = staging-done (c .before .loop .inv .1) (omega arith)
+returns c = staging-at (c .before .loop .inv .2) (omega arith)
 
 pub swap-digit-spec : {M : Type 1} → statement M
 swap-digit-spec =
@@ -54,11 +84,13 @@ swap-digit-spec =
     (tie.spec
     Inv-loop
     μ-loop
+    shl-j
     loop-holds
-    swapped-row-requires
-    mul-b
-    slice-write-b
-    add-r
+    swap-low-requires
+    add-swap-high
+    swap-high-requires
+    mul-from
+    add-from
     loop-less
     loop-again
     same-length

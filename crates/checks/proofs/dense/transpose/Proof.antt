@@ -1,5 +1,4 @@
 -- One digit after the other.
-use mathlib.Core.Path.{refl}
 use native.Mathlib.Omega.{arith}
 use borrow.Author.Needs.{needs}
 use Rattle.checks.specs.BlockLaws.{masks₀, masks₁, masks₂, masks₃, masks₄, masks₅, transposed}
@@ -8,41 +7,41 @@ use Rattle.checks.proofs.dense.transpose.Tie as tie
 
 -- src/dense.rt:58:5
 swap-digit-requires : tie.Need-swap-digit-requires
-swap-digit-requires c κs = let pre = c .before .before .before .before .pre in (pre .0, pre .1, omega arith, refl, masks₀)
+swap-digit-requires c κs = let pre = c .before .before .before .before .pre in (pre .0, pre .1, omega arith, masks₀)
 
 -- src/dense.rt:59:5
 swap-digit-requires-2 : tie.Need-swap-digit-requires-2
 swap-digit-requires-2 c κs =
     let a = c .before .before .before .before in
-    (a .swap-digit .ensures .size, a .before .before .before .before .before .pre .0, omega arith, refl, masks₁)
+    (a .swap-digit .ensures .size, a .before .before .before .before .before .pre .0, omega arith, masks₁)
 
 -- src/dense.rt:60:5
 swap-digit-requires-3 : tie.Need-swap-digit-requires-3
 swap-digit-requires-3 c κs =
     let b = c .before .before .before .before in
     let a = b .before .before .before .before .before in
-    (b .swap-digit2 .ensures .size, a .swap-digit .ensures .size, omega arith, refl, masks₂)
+    (b .swap-digit2 .ensures .size, a .swap-digit .ensures .size, omega arith, masks₂)
 
 -- src/dense.rt:61:5
 swap-digit-requires-4 : tie.Need-swap-digit-requires-4
 swap-digit-requires-4 c κs =
     let b = c .before .before .before .before in
     let a = b .before .before .before .before .before in
-    (b .swap-digit3 .ensures .size, a .swap-digit2 .ensures .size, omega arith, refl, masks₃)
+    (b .swap-digit3 .ensures .size, a .swap-digit2 .ensures .size, omega arith, masks₃)
 
 -- src/dense.rt:62:5
 swap-digit-requires-5 : tie.Need-swap-digit-requires-5
 swap-digit-requires-5 c κs =
     let b = c .before .before .before .before in
     let a = b .before .before .before .before .before in
-    (b .swap-digit4 .ensures .size, a .swap-digit3 .ensures .size, omega arith, refl, masks₄)
+    (b .swap-digit4 .ensures .size, a .swap-digit3 .ensures .size, omega arith, masks₄)
 
 -- src/dense.rt:63:5
 swap-digit-requires-6 : tie.Need-swap-digit-requires-6
 swap-digit-requires-6 c κs =
     let b = c .before .before .before .before in
     let a = b .before .before .before .before .before in
-    (b .swap-digit5 .ensures .size, a .swap-digit4 .ensures .size, omega arith, refl, masks₅)
+    (b .swap-digit5 .ensures .size, a .swap-digit4 .ensures .size, omega arith, masks₅)
 
 -- src/dense.rt:54:1
 same-length : tie.Need-same-length
