@@ -83,8 +83,7 @@ fn rename(nodes: &mut [u16], n: usize, x: usize, y: usize)
     }
 }
 
-// The last member before u of the group that g leads: the greatest below u, else the greatest of all. The group is walked only
-// where u stands between its members.
+// The last member before u of the group that g leads: the greatest below u, else the greatest of all.
 fn last_before(nodes: &[u16], n: usize, u: usize, g: usize) -> usize
     requires { ⌜ Sound n (now nodes) × (u < n) × (g < n) × (g ≢ u) × (nodeNumber (now nodes) g 0 ≡ g) ⌝ }
     ensures { λ r. ⌜ Before u g r (now (nodes .entry)) ⌝ }

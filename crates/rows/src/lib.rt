@@ -234,8 +234,7 @@ pub fn lowest(x: u64) -> usize
 // How many nodes are passed over at once.
 const BLOCK: usize = 16;
 
-// Whether the keys of u agree with those of a node in the block from `from` on. The loop is not left early, so that it compares
-// many keys at a time.
+// Whether keys in the block from `from` on agree with u's. The loop is not left early, so that it compares many at a time.
 fn block_agrees(keys: &[u32], u: usize, from: usize) -> bool
     requires { ⌜ (u < 512) × (from + 16 ≤ 512) × (2 * u + 2 ≤ length (now keys)) × (2 * (from + 16) ≤ length (now keys)) ⌝ }
     ensures { λ r. ⌜ (r ≡ false → Passed (keysAgree (now (keys .entry)) u) from (from + 16)) ⌝ }
@@ -247,7 +246,7 @@ fn block_agrees(keys: &[u32], u: usize, from: usize) -> bool
     agree
 }
 
-// The nodes from `from` on, block by block, up to one where keys agree or to less than a block before m.
+// The first block from `from` on in which keys agree with u's, or the place where less than a block is left before m.
 fn skip_blocks(keys: &[u32], m: usize, u: usize, from: usize) -> usize
     requires { ⌜ (m ≤ 512) × (u < 512) × (from ≤ m) × (2 * m ≤ length (now keys)) × (2 * u + 2 ≤ length (now keys)) ⌝ }
     ensures { λ r. ⌜ Skipped (keysAgree (now (keys .entry)) u) from m r ⌝ }
