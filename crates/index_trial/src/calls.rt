@@ -1,16 +1,14 @@
 // Each call of the index, and a line that says what came back.
-use crate::digest::fold_answers;
-use crate::digest::fold_numbers;
-use crate::digest::wide;
-use crate::script::small;
-use crate::script::within;
+use trial::digest::fold_answers;
+use trial::digest::wide;
+use trial::say;
+use trial::script::small;
+use trial::script::within;
 
 pub fn open(n: usize, edges: &mut [u64], nodes: &mut [u16], keys: &mut [u32]) {
     let r = index::open(n, edges, nodes, keys);
-    io::write_all(1, b"open");
-    crate::say::number(wide(r));
-    crate::say::tables(edges, nodes, keys);
-    crate::say::feed();
+    say::field(b"open", wide(r));
+    say::tables(edges, nodes, keys);
 }
 
 // The batch, into a buffer of answers filled with 4660.
@@ -51,14 +49,15 @@ fn apply_to(
     shown: u64,
 ) {
     let r = index::apply(n, edges, nodes, keys, batch, answers);
-    io::write_all(1, b"apply");
-    crate::say::number(wide(r));
-    io::write_all(1, b" answers");
-    crate::say::answers(answers, shown);
-    io::write_all(1, b" digest");
-    crate::say::number(fold_answers(0, answers));
-    crate::say::tables(edges, nodes, keys);
-    crate::say::feed();
+    applied(r, answers, shown);
+    say::tables(edges, nodes, keys);
+}
+
+fn applied(result: u16, answers: &[i16], shown: u64) {
+    say::field(b"apply", wide(result));
+    say::word(b" answers");
+    say::answers(answers, shown);
+    say::field(b" digest", fold_answers(0, answers));
 }
 
 // The neighbours of p, into a buffer filled with 4660.
@@ -99,37 +98,25 @@ fn neighbours_to(
     shown: u64,
 ) {
     let r = index::neighbours(n, edges, nodes, keys, small(p), out);
-    io::write_all(1, b"neighbours");
-    crate::say::number(wide(r.result));
-    io::write_all(1, b" count");
-    crate::say::number(wide(r.count));
-    io::write_all(1, b" buffer");
-    crate::say::numbers(out, shown);
-    io::write_all(1, b" digest");
-    crate::say::number(fold_numbers(0, out));
-    crate::say::feed();
+    say::listed(r.result, r.count, out, shown);
 }
 
 pub fn tied(n: usize, edges: &[u64], nodes: &[u16], keys: &[u32], p: u64, q: u64) {
     let r = index::tied(n, edges, nodes, keys, small(p), small(q));
-    io::write_all(1, b"tied");
-    crate::say::number(wide(r.result));
-    if r.yes {
-        io::write_all(1, b" yes\n");
-        return;
-    }
-    io::write_all(1, b" no\n");
+    say::field(b"tied", wide(r.result));
+    say::yes_or_no(r.yes);
+    say::feed();
 }
 
 pub fn group(n: usize, edges: &[u64], nodes: &[u16], keys: &[u32], p: u64) {
     let r = index::group(n, edges, nodes, keys, small(p));
-    io::write_all(1, b"group");
-    crate::say::number(wide(r.result));
-    io::write_all(1, b" least");
-    crate::say::number(wide(r.least));
-    io::write_all(1, b" kind");
-    crate::say::number(wide(r.kind));
-    io::write_all(1, b" size");
-    crate::say::number(wide(r.size));
-    crate::say::feed();
+    grouped(r.result, r.least, r.kind, r.size);
+}
+
+fn grouped(result: u16, least: u16, kind: u16, size: u16) {
+    say::field(b"group", wide(result));
+    say::field(b" least", wide(least));
+    say::field(b" kind", wide(kind));
+    say::field(b" size", wide(size));
+    say::feed();
 }

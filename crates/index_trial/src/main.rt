@@ -2,42 +2,14 @@
 // tools/reference/README.md has the script's language.
 mod batch;
 mod calls;
-mod digest;
 mod pokes;
-mod say;
-mod script;
 mod sweep;
 
-use script::within;
+use trial::script;
+use trial::script::within;
+use trial::sizes;
 
-// What a script has set: the node count, the lengths lent of the three tables, and how many numbers the batch has.
-const NODES: usize = 0;
-
-const EDGES_LENT: usize = 1;
-
-const NODES_LENT: usize = 2;
-
-const KEYS_LENT: usize = 3;
-
-const BATCH: usize = 4;
-
-// The node count, and the right lengths for it.
-fn set_size(line: &[u64; 7], set: &mut [u64; 5]) {
-    let n = line[1] % 65536;
-    set[NODES] = n;
-    set[EDGES_LENT] = 8 * n;
-    set[NODES_LENT] = 4 * n;
-    set[KEYS_LENT] = 2 * n;
-}
-
-// Other lengths.
-fn set_lengths(line: &[u64; 7], set: &mut [u64; 5]) {
-    set[EDGES_LENT] = line[1];
-    set[NODES_LENT] = line[2];
-    set[KEYS_LENT] = line[3];
-}
-
-// Lines that call the index.
+// Lines that call the index and may change the tables.
 fn call(
     command: u8,
     line: &[u64; 7],
@@ -50,17 +22,46 @@ fn call(
     match command {
         b'o' => calls::open(n, edges, nodes, keys),
         b'a' => calls::apply(n, edges, nodes, keys, batch, line[1], line[2]),
+        b'w' => sweep::walk(n, edges, nodes, keys, line[1], line[2]),
+        _ => return,
+    }
+}
+
+// Lines that ask.
+fn ask(command: u8, line: &[u64; 7], n: usize, edges: &[u64], nodes: &[u16], keys: &[u32]) {
+    match command {
         b'n' => calls::neighbours(n, edges, nodes, keys, line[1], line[2], line[3]),
         b't' => calls::tied(n, edges, nodes, keys, line[1], line[2]),
         b'g' => calls::group(n, edges, nodes, keys, line[1]),
-        b'w' => sweep::walk(n, edges, nodes, keys, line[1], line[2]),
         b'q' => sweep::queries(n, edges, nodes, keys, line[1]),
-        b'f' => pokes::flip(edges, line[1], line[2]),
-        b'p' => pokes::put(nodes, line[1], line[2]),
-        b'k' => pokes::put_key(keys, line[1], line[2]),
         b'd' => pokes::show(nodes, keys, line[1], line[2]),
         _ => return,
     }
+}
+
+// Lines that change the tables behind the index's back.
+fn poke(command: u8, line: &[u64; 7], edges: &mut [u64], nodes: &mut [u16], keys: &mut [u32]) {
+    match command {
+        b'f' => pokes::flip(edges, line[1], line[2]),
+        b'p' => pokes::put(nodes, line[1], line[2]),
+        b'k' => pokes::put_key(keys, line[1], line[2]),
+        _ => return,
+    }
+}
+
+// What a line does with the tables lent.
+fn on_tables(
+    command: u8,
+    line: &[u64; 7],
+    n: usize,
+    edges: &mut [u64],
+    nodes: &mut [u16],
+    keys: &mut [u32],
+    batch: &[u16],
+) {
+    call(command, line, n, edges, nodes, keys, batch);
+    ask(command, line, n, edges, nodes, keys);
+    poke(command, line, edges, nodes, keys);
 }
 
 // Lines that change the batch, and apply, which empties it: how many numbers it has then.
@@ -76,20 +77,29 @@ fn compose(command: u8, line: &[u64; 7], batch: &mut [u16], count: usize) -> usi
     }
 }
 
-// Lines that set sizes.
-fn set_sizes(command: u8, line: &[u64; 7], set: &mut [u64; 5]) {
-    match command {
-        b's' => set_size(line, set),
-        b'l' => set_lengths(line, set),
-        _ => return,
-    }
-}
-
-// A line that is a comment, as it is.
-fn echo(command: u8, text: &[u8]) {
-    if command == b'#' {
-        io::write_all(1, text);
-    }
+// What a line does with the tables, of the lengths lent.
+fn lend(
+    command: u8,
+    line: &[u64; 7],
+    set: &[u64; 5],
+    edges: &mut [u64],
+    nodes: &mut [u16],
+    keys: &mut [u32],
+    batch: &[u16],
+) {
+    let n = within(set[sizes::NODES], 65536);
+    let a = within(set[sizes::EDGES_LENT], edges.len());
+    let b = within(set[sizes::NODES_LENT], nodes.len());
+    let c = within(set[sizes::KEYS_LENT], keys.len());
+    on_tables(
+        command,
+        line,
+        n,
+        &mut edges[..a],
+        &mut nodes[..b],
+        &mut keys[..c],
+        batch,
+    );
 }
 
 // One line.
@@ -104,23 +114,11 @@ fn obey(
     let mut line = [0u64; 7];
     script::numbers(text, &mut line);
     let command = script::command(text);
-    echo(command, text);
-    set_sizes(command, &line, set);
-    let n = within(set[NODES], 65536);
-    let a = within(set[EDGES_LENT], edges.len());
-    let b = within(set[NODES_LENT], nodes.len());
-    let c = within(set[KEYS_LENT], keys.len());
-    let count = within(set[BATCH], batch.len());
-    call(
-        command,
-        &line,
-        n,
-        &mut edges[..a],
-        &mut nodes[..b],
-        &mut keys[..c],
-        &batch[..count],
-    );
-    set[BATCH] = compose(command, &line, batch, count) as u64;
+    script::echo(command, text);
+    sizes::obey(command, &line, set);
+    let count = within(set[sizes::OWN], batch.len());
+    lend(command, &line, set, edges, nodes, keys, &batch[..count]);
+    set[sizes::OWN] = compose(command, &line, batch, count) as u64;
 }
 
 // Every line of the script.

@@ -1,8 +1,9 @@
 // The tables read and changed behind the index's back.
-use crate::digest::wide;
-use crate::digest::wide_key;
-use crate::script::small;
-use crate::script::within;
+use trial::digest::wide;
+use trial::digest::wide_key;
+use trial::say;
+use trial::script::small;
+use trial::script::within;
 
 // Node q's bit in node p's row, the other way.
 pub fn flip(edges: &mut [u64], p: u64, q: u64) {
@@ -49,17 +50,14 @@ fn key_at(keys: &[u32], i: usize) -> u64 {
 // The four numbers and the two keys of a node.
 fn show_node(nodes: &[u16], keys: &[u32], p: u64) {
     let at = within(p, 600);
-    io::write_all(1, b"node");
-    crate::say::number(p);
-    io::write_all(1, b" holds");
-    crate::say::number(number_at(nodes, 4 * at));
-    crate::say::number(number_at(nodes, 4 * at + 1));
-    crate::say::number(number_at(nodes, 4 * at + 2));
-    crate::say::number(number_at(nodes, 4 * at + 3));
-    io::write_all(1, b" keys");
-    crate::say::number(key_at(keys, 2 * at));
-    crate::say::number(key_at(keys, 2 * at + 1));
-    crate::say::feed();
+    say::field(b"node", p);
+    say::field(b" holds", number_at(nodes, 4 * at));
+    say::field(b"", number_at(nodes, 4 * at + 1));
+    say::field(b"", number_at(nodes, 4 * at + 2));
+    say::field(b"", number_at(nodes, 4 * at + 3));
+    say::field(b" keys", key_at(keys, 2 * at));
+    say::field(b"", key_at(keys, 2 * at + 1));
+    say::feed();
 }
 
 // The nodes from a up to b.

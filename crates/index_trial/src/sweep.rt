@@ -1,10 +1,11 @@
 // Many calls for one line: a walk through all graphs, and every query of a graph.
-use crate::digest::code_of;
-use crate::digest::fold;
-use crate::digest::fold_numbers;
-use crate::digest::fold_tables;
-use crate::digest::wide;
-use crate::script::small;
+use trial::digest::code_of;
+use trial::digest::fold;
+use trial::digest::fold_numbers;
+use trial::digest::fold_tables;
+use trial::digest::wide;
+use trial::say;
+use trial::script::small;
 
 // The pair at place t of 0 1, 0 2, 1 2, 0 3, and so on: its lesser and its greater node.
 fn low_of(t: usize) -> u16 {
@@ -42,10 +43,22 @@ fn walk_step(
     let v = high_of(t);
     let e = index::tied(n, edges, nodes, keys, u, v);
     let batch = [toggle_kind(e.yes), u, v];
-    let mut answers = [4660i16; 1];
-    let r = index::apply(n, edges, nodes, keys, &batch, &mut answers);
-    let d = fold(fold(h, wide(r)), code_of(answers[0]));
+    let d = fold_apply(h, n, edges, nodes, keys, &batch);
     fold_tables(d, edges, nodes, keys)
+}
+
+// A batch of one update: result and answer.
+fn fold_apply(
+    h: u64,
+    n: usize,
+    edges: &mut [u64],
+    nodes: &mut [u16],
+    keys: &mut [u32],
+    batch: &[u16; 3],
+) -> u64 {
+    let mut answers = [4660i16; 1];
+    let r = index::apply(n, edges, nodes, keys, batch, &mut answers);
+    fold(fold(h, wide(r)), code_of(answers[0]))
 }
 
 // Steps a up to b: from step 1 of the empty graph on, every graph once.
@@ -66,9 +79,8 @@ fn fold_steps(
 
 pub fn walk(n: usize, edges: &mut [u64], nodes: &mut [u16], keys: &mut [u32], a: u64, b: u64) {
     let d = fold_steps(n, edges, nodes, keys, a, b);
-    io::write_all(1, b"walk digest");
-    crate::say::number(d);
-    crate::say::feed();
+    say::field(b"walk digest", d);
+    say::feed();
 }
 
 fn fold_tied(h: u64, n: usize, edges: &[u64], nodes: &[u16], keys: &[u32], p: u16, q: u16) -> u64 {
@@ -135,7 +147,6 @@ fn fold_queries(n: usize, edges: &[u64], nodes: &[u16], keys: &[u32], limit: u64
 
 pub fn queries(n: usize, edges: &[u64], nodes: &[u16], keys: &[u32], limit: u64) {
     let d = fold_queries(n, edges, nodes, keys, limit);
-    io::write_all(1, b"queries digest");
-    crate::say::number(d);
-    crate::say::feed();
+    say::field(b"queries digest", d);
+    say::feed();
 }

@@ -15,35 +15,8 @@ abbrev μ-loop : tie.MeasureT-loop
 loop-holds : tie.Need-loop-holds Inv-loop μ-loop
 loop-holds c = search needs
 
-step-requires : tie.Need-step-requires Inv-loop μ-loop
-step-requires c κs = search needs
-
-draw-requires : tie.Need-draw-requires Inv-loop μ-loop
-draw-requires c κs = search needs
-
-step-requires-2 : tie.Need-step-requires-2 Inv-loop μ-loop
-step-requires-2 c κs = search needs
-
-draw-requires-2 : tie.Need-draw-requires-2 Inv-loop μ-loop
-draw-requires-2 c κs = search needs
-
-step-requires-3 : tie.Need-step-requires-3 Inv-loop μ-loop
-step-requires-3 c κs = search needs
-
-draw-requires-3 : tie.Need-draw-requires-3 Inv-loop μ-loop
-draw-requires-3 c κs = search needs
-
-step-requires-4 : tie.Need-step-requires-4 Inv-loop μ-loop
-step-requires-4 c κs = search needs
-
-draw-requires-4 : tie.Need-draw-requires-4 Inv-loop μ-loop
-draw-requires-4 c κs = search needs
-
-kind-of-requires : tie.Need-kind-of-requires Inv-loop μ-loop
-kind-of-requires c κs = search needs
-
-second-of-requires : tie.Need-second-of-requires Inv-loop μ-loop
-second-of-requires c κs = search needs
+update-requires : tie.Need-update-requires Inv-loop μ-loop
+update-requires c κs = search needs
 
 push-update-requires : tie.Need-push-update-requires Inv-loop μ-loop
 push-update-requires c κs = search needs
@@ -70,16 +43,7 @@ push-random-spec =
     Inv-loop
     μ-loop
     loop-holds
-    step-requires
-    draw-requires
-    step-requires-2
-    draw-requires-2
-    step-requires-3
-    draw-requires-3
-    step-requires-4
-    draw-requires-4
-    kind-of-requires
-    second-of-requires
+    update-requires
     push-update-requires
     add-i
     loop-less

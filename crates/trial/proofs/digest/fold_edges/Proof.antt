@@ -1,28 +1,28 @@
 use Prim.Native.Nat.{_-_}
 use native.Mathlib.Omega.{arith}
-use Rattle.index_trial.proofs.digest.fold_numbers.Statement.{statement}
-use Rattle.index_trial.proofs.digest.fold_numbers.Tie as tie
+use Rattle.trial.proofs.digest.fold_edges.Statement.{statement}
+use Rattle.trial.proofs.digest.fold_edges.Tie as tie
 
 abbrev Inv-loop : tie.InvT-loop
-Inv-loop h numbers d₀ i₀ i-end d i = Unit {0}
+Inv-loop h edges d₀ i₀ i-end d i = Unit {0}
 
 abbrev μ-loop : tie.MeasureT-loop
-μ-loop h numbers d₀ i₀ i-end d i = i-end - i
+μ-loop h edges d₀ i₀ i-end d i = i-end - i
 
 loop-holds : tie.Need-loop-holds Inv-loop μ-loop
 loop-holds c = tt
 
-mul-wide : tie.Need-mul-wide Inv-loop μ-loop
-mul-wide c = omega arith
+mul-w : tie.Need-mul-w Inv-loop μ-loop
+mul-w c = omega arith
 
-shared-slice-read-wide : tie.Need-shared-slice-read-wide Inv-loop μ-loop
-shared-slice-read-wide c = omega arith
-
-wide-requires : tie.Need-wide-requires Inv-loop μ-loop
-wide-requires c κs = tt
+shared-slice-read-w : tie.Need-shared-slice-read-w Inv-loop μ-loop
+shared-slice-read-w c = omega arith
 
 fold-requires : tie.Need-fold-requires Inv-loop μ-loop
 fold-requires c κs = tt
+
+fold-requires-2 : tie.Need-fold-requires-2 Inv-loop μ-loop
+fold-requires-2 c κs = tt
 
 add-i : tie.Need-add-i Inv-loop μ-loop
 add-i c = omega arith
@@ -36,17 +36,17 @@ loop-again c = tt
 returns : tie.Need-returns Inv-loop μ-loop
 returns c = tt
 
-pub fold-numbers-spec : {M : Type 1} → statement M
-fold-numbers-spec =
+pub fold-edges-spec : {M : Type 1} → statement M
+fold-edges-spec =
     tie.close
     (tie.spec
     Inv-loop
     μ-loop
     loop-holds
-    mul-wide
-    shared-slice-read-wide
-    wide-requires
+    mul-w
+    shared-slice-read-w
     fold-requires
+    fold-requires-2
     add-i
     loop-less
     loop-again

@@ -9,8 +9,8 @@ use lib.Signed.{ltZ, nonNeg}
 use mir.Facts.{toZ-ofZ}
 use mir.Syntax.{w16, w64}
 use mir.Val.{Fits, SFits, ofZ, toZ}
-use Rattle.index_trial.proofs.digest.code_of.Statement.{statement}
-use Rattle.index_trial.proofs.digest.code_of.Tie as tie
+use Rattle.trial.proofs.digest.code_of.Statement.{statement}
+use Rattle.trial.proofs.digest.code_of.Tie as tie
 
 -- a number of 16 bits that is not below 0 is a number of 64 bits without sign
 whole : (x : ℤ) → SFits w16 x → ltZ (toZ w16 (ofZ w16 x)) (pos 0) ≡ false → T (nonNeg (toZ w16 (ofZ w16 x))) × Fits w64 (natAbs (toZ w16 (ofZ w16 x)))

@@ -1,7 +1,7 @@
 use Prim.Native.Nat.{_-_}
 use native.Mathlib.Omega.{arith}
-use Rattle.index_trial.proofs.say.answers.Statement.{statement}
-use Rattle.index_trial.proofs.say.answers.Tie as tie
+use Rattle.trial.proofs.say.numbers.Statement.{statement}
+use Rattle.trial.proofs.say.numbers.Tie as tie
 
 abbrev Inv-loop : tie.InvT-loop
 Inv-loop buffer shown i₀ i-end i = Unit {0}
@@ -12,17 +12,17 @@ abbrev μ-loop : tie.MeasureT-loop
 loop-holds : tie.Need-loop-holds Inv-loop μ-loop
 loop-holds c = tt
 
-mul-code-of : tie.Need-mul-code-of Inv-loop μ-loop
-mul-code-of c = omega arith
+mul-wide : tie.Need-mul-wide Inv-loop μ-loop
+mul-wide c = omega arith
 
-shared-slice-copy-out-code-of : tie.Need-shared-slice-copy-out-code-of Inv-loop μ-loop
-shared-slice-copy-out-code-of c = omega arith
+shared-slice-read-wide : tie.Need-shared-slice-read-wide Inv-loop μ-loop
+shared-slice-read-wide c = omega arith
 
-code-of-requires : tie.Need-code-of-requires Inv-loop μ-loop
-code-of-requires c κs = tt
+wide-requires : tie.Need-wide-requires Inv-loop μ-loop
+wide-requires c κs = tt
 
-answer-requires : tie.Need-answer-requires Inv-loop μ-loop
-answer-requires c κs = tt
+number-requires : tie.Need-number-requires Inv-loop μ-loop
+number-requires c κs = tt
 
 add-i : tie.Need-add-i Inv-loop μ-loop
 add-i c = omega arith
@@ -36,17 +36,17 @@ loop-again c = tt
 returns : tie.Need-returns Inv-loop μ-loop
 returns c = tt
 
-pub answers-spec : {M : Type 1} → statement M
-answers-spec =
+pub numbers-spec : {M : Type 1} → statement M
+numbers-spec =
     tie.close
     (tie.spec
     Inv-loop
     μ-loop
     loop-holds
-    mul-code-of
-    shared-slice-copy-out-code-of
-    code-of-requires
-    answer-requires
+    mul-wide
+    shared-slice-read-wide
+    wide-requires
+    number-requires
     add-i
     loop-less
     loop-again

@@ -2,8 +2,8 @@ use Prim.Native.Nat.{_-_, _≤_}
 use native.Mathlib.Omega.{arith}
 use lib.ListN.{length}
 use borrow.Author.Needs.{needs}
-use Rattle.index_trial.proofs.script.line_end.Statement.{statement}
-use Rattle.index_trial.proofs.script.line_end.Tie as tie
+use Rattle.trial.proofs.script.line_end.Statement.{statement}
+use Rattle.trial.proofs.script.line_end.Tie as tie
 
 abbrev Inv-loop : tie.InvT-loop
 Inv-loop text at i₀ i = (at ≤ i) × (i ≤ length text)

@@ -1,8 +1,8 @@
 use Prim.Native.Nat.{_-_, _<_}
 use native.Mathlib.Omega.{arith}
 use borrow.Author.Needs.{needs}
-use Rattle.index_trial.proofs.script.numbers.Statement.{statement}
-use Rattle.index_trial.proofs.script.numbers.Tie as tie
+use Rattle.trial.proofs.script.numbers.Statement.{statement}
+use Rattle.trial.proofs.script.numbers.Tie as tie
 
 abbrev Inv-loop : tie.InvT-loop
 Inv-loop line to₀ k₀ i₀ i-end to k i = k < 7

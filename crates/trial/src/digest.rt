@@ -52,6 +52,18 @@ pub fn fold_answers(h: u64, answers: &[i16]) -> u64 {
     d
 }
 
+pub fn fold_bytes(h: u64, bytes: &[u8]) -> u64 {
+    let mut d = h;
+    for i in 0..bytes.len() {
+        d = fold(d, wide_byte(bytes[i]));
+    }
+    d
+}
+
+fn wide_byte(x: u8) -> u64 {
+    x as u64
+}
+
 pub fn wide(x: u16) -> u64 {
     x as u64
 }

@@ -1,28 +1,25 @@
 use Prim.Native.Nat.{_-_}
 use native.Mathlib.Omega.{arith}
-use Rattle.index_trial.proofs.digest.fold_edges.Statement.{statement}
-use Rattle.index_trial.proofs.digest.fold_edges.Tie as tie
+use Rattle.trial.proofs.digest.fold_bytes.Statement.{statement}
+use Rattle.trial.proofs.digest.fold_bytes.Tie as tie
 
 abbrev Inv-loop : tie.InvT-loop
-Inv-loop h edges d₀ i₀ i-end d i = Unit {0}
+Inv-loop h bytes d₀ i₀ i-end d i = Unit {0}
 
 abbrev μ-loop : tie.MeasureT-loop
-μ-loop h edges d₀ i₀ i-end d i = i-end - i
+μ-loop h bytes d₀ i₀ i-end d i = i-end - i
 
 loop-holds : tie.Need-loop-holds Inv-loop μ-loop
 loop-holds c = tt
 
-mul-w : tie.Need-mul-w Inv-loop μ-loop
-mul-w c = omega arith
+shared-slice-read-wide-byte : tie.Need-shared-slice-read-wide-byte Inv-loop μ-loop
+shared-slice-read-wide-byte c = omega arith
 
-shared-slice-read-w : tie.Need-shared-slice-read-w Inv-loop μ-loop
-shared-slice-read-w c = omega arith
+wide-byte-requires : tie.Need-wide-byte-requires Inv-loop μ-loop
+wide-byte-requires c κs = tt
 
 fold-requires : tie.Need-fold-requires Inv-loop μ-loop
 fold-requires c κs = tt
-
-fold-requires-2 : tie.Need-fold-requires-2 Inv-loop μ-loop
-fold-requires-2 c κs = tt
 
 add-i : tie.Need-add-i Inv-loop μ-loop
 add-i c = omega arith
@@ -36,17 +33,16 @@ loop-again c = tt
 returns : tie.Need-returns Inv-loop μ-loop
 returns c = tt
 
-pub fold-edges-spec : {M : Type 1} → statement M
-fold-edges-spec =
+pub fold-bytes-spec : {M : Type 1} → statement M
+fold-bytes-spec =
     tie.close
     (tie.spec
     Inv-loop
     μ-loop
     loop-holds
-    mul-w
-    shared-slice-read-w
+    shared-slice-read-wide-byte
+    wide-byte-requires
     fold-requires
-    fold-requires-2
     add-i
     loop-less
     loop-again

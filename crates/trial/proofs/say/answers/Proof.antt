@@ -1,13 +1,13 @@
 use Prim.Native.Nat.{_-_}
 use native.Mathlib.Omega.{arith}
-use Rattle.index_trial.proofs.digest.fold_answers.Statement.{statement}
-use Rattle.index_trial.proofs.digest.fold_answers.Tie as tie
+use Rattle.trial.proofs.say.answers.Statement.{statement}
+use Rattle.trial.proofs.say.answers.Tie as tie
 
 abbrev Inv-loop : tie.InvT-loop
-Inv-loop h answers d₀ i₀ i-end d i = Unit {0}
+Inv-loop buffer shown i₀ i-end i = Unit {0}
 
 abbrev μ-loop : tie.MeasureT-loop
-μ-loop h answers d₀ i₀ i-end d i = i-end - i
+μ-loop buffer shown i₀ i-end i = i-end - i
 
 loop-holds : tie.Need-loop-holds Inv-loop μ-loop
 loop-holds c = tt
@@ -21,8 +21,8 @@ shared-slice-copy-out-code-of c = omega arith
 code-of-requires : tie.Need-code-of-requires Inv-loop μ-loop
 code-of-requires c κs = tt
 
-fold-requires : tie.Need-fold-requires Inv-loop μ-loop
-fold-requires c κs = tt
+answer-requires : tie.Need-answer-requires Inv-loop μ-loop
+answer-requires c κs = tt
 
 add-i : tie.Need-add-i Inv-loop μ-loop
 add-i c = omega arith
@@ -36,8 +36,8 @@ loop-again c = tt
 returns : tie.Need-returns Inv-loop μ-loop
 returns c = tt
 
-pub fold-answers-spec : {M : Type 1} → statement M
-fold-answers-spec =
+pub answers-spec : {M : Type 1} → statement M
+answers-spec =
     tie.close
     (tie.spec
     Inv-loop
@@ -46,7 +46,7 @@ fold-answers-spec =
     mul-code-of
     shared-slice-copy-out-code-of
     code-of-requires
-    fold-requires
+    answer-requires
     add-i
     loop-less
     loop-again

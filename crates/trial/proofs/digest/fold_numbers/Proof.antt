@@ -1,13 +1,13 @@
 use Prim.Native.Nat.{_-_}
 use native.Mathlib.Omega.{arith}
-use Rattle.index_trial.proofs.say.numbers.Statement.{statement}
-use Rattle.index_trial.proofs.say.numbers.Tie as tie
+use Rattle.trial.proofs.digest.fold_numbers.Statement.{statement}
+use Rattle.trial.proofs.digest.fold_numbers.Tie as tie
 
 abbrev Inv-loop : tie.InvT-loop
-Inv-loop buffer shown i₀ i-end i = Unit {0}
+Inv-loop h numbers d₀ i₀ i-end d i = Unit {0}
 
 abbrev μ-loop : tie.MeasureT-loop
-μ-loop buffer shown i₀ i-end i = i-end - i
+μ-loop h numbers d₀ i₀ i-end d i = i-end - i
 
 loop-holds : tie.Need-loop-holds Inv-loop μ-loop
 loop-holds c = tt
@@ -21,8 +21,8 @@ shared-slice-read-wide c = omega arith
 wide-requires : tie.Need-wide-requires Inv-loop μ-loop
 wide-requires c κs = tt
 
-number-requires : tie.Need-number-requires Inv-loop μ-loop
-number-requires c κs = tt
+fold-requires : tie.Need-fold-requires Inv-loop μ-loop
+fold-requires c κs = tt
 
 add-i : tie.Need-add-i Inv-loop μ-loop
 add-i c = omega arith
@@ -36,8 +36,8 @@ loop-again c = tt
 returns : tie.Need-returns Inv-loop μ-loop
 returns c = tt
 
-pub numbers-spec : {M : Type 1} → statement M
-numbers-spec =
+pub fold-numbers-spec : {M : Type 1} → statement M
+fold-numbers-spec =
     tie.close
     (tie.spec
     Inv-loop
@@ -46,7 +46,7 @@ numbers-spec =
     mul-wide
     shared-slice-read-wide
     wide-requires
-    number-requires
+    fold-requires
     add-i
     loop-less
     loop-again

@@ -25,6 +25,13 @@ pub fn command(line: &[u8]) -> u8 {
     line[0]
 }
 
+// A line that is a comment, as it is.
+pub fn echo(command: u8, line: &[u8]) {
+    if command == b'#' {
+        crate::say::word(line);
+    }
+}
+
 // x with a further digit, if b is one and x is not yet long.
 fn with_digit(x: u64, b: u8) -> u64 {
     if b < b'0' {

@@ -1,7 +1,7 @@
 use Prim.Native.Nat.{_-_}
 use native.Mathlib.Omega.{arith}
-use Rattle.index_trial.proofs.digest.fold_keys.Statement.{statement}
-use Rattle.index_trial.proofs.digest.fold_keys.Tie as tie
+use Rattle.trial.proofs.digest.fold_keys.Statement.{statement}
+use Rattle.trial.proofs.digest.fold_keys.Tie as tie
 
 abbrev Inv-loop : tie.InvT-loop
 Inv-loop h keys d₀ i₀ i-end d i = Unit {0}

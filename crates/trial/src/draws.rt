@@ -1,0 +1,57 @@
+// Updates drawn from a seed.
+pub struct Drawn {
+    pub kind: u64,
+    pub u: u64,
+    pub v: u64,
+    pub next: u64,
+}
+
+// The next number of the generator, and a number below `below` drawn from it.
+fn step(x: u64) -> u64 {
+    ((x % 2147483648) * 1103515245 + 12345) % 2147483648
+}
+
+fn draw(x: u64, below: u64) -> u64 {
+    if below == 0 {
+        return 0;
+    }
+    x / 65536 % below
+}
+
+// A kind of update from a number below 8: 7 gives any number.
+fn kind_of(k: u64, any: u64) -> u64 {
+    match k {
+        0 | 1 | 2 => 1,
+        3 | 4 => 2,
+        5 => 3,
+        6 => 4,
+        _ => any,
+    }
+}
+
+// The second node of an update: mostly 0 where a node is hidden or revealed.
+fn second_of(k: u64, any: u64, v: u64) -> u64 {
+    if k < 5 {
+        return v;
+    }
+    if any == 0 {
+        return v;
+    }
+    0
+}
+
+// An update of nodes below `span`, and the seed of the next.
+pub fn update(seed: u64, span: u64) -> Drawn {
+    let a = step(seed);
+    let b = step(a);
+    let c = step(b);
+    let d = step(c);
+    let k = draw(a, 8);
+    let any = draw(d, 16);
+    Drawn {
+        kind: kind_of(k, any),
+        u: draw(b, span),
+        v: second_of(k, any, draw(c, span)),
+        next: d,
+    }
+}

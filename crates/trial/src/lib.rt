@@ -1,0 +1,6 @@
+// What the test programs share: the lines of a script, digests, and words and numbers on standard output.
+pub mod digest;
+pub mod draws;
+pub mod say;
+pub mod script;
+pub mod sizes;
