@@ -1,8 +1,13 @@
 #!/usr/bin/env python3
-"""reference.py < SCRIPT: what document 01 wants of the calls of a script, worked out from sets.
+"""What document 01 wants of the calls of a script, worked out from sets. README.md has the scripts' languages.
+
+    reference.py index < SCRIPT             what index_trial prints
+    reference.py release FOLDER < SCRIPT    what release_trial prints, run in the folder
 
 An implementation apart from the library: a graph is a set of pairs and a set of hidden nodes, and after each update the groups are
-found anew by Algorithm 1. README.md has the script's language."""
+found anew by Algorithm 1."""
+import functools
+import os
 import sys
 
 MOST_NODES, MOST_UPDATES, ROW_WORDS, NODE_NUMBERS = 512, 4096, 8, 4
@@ -119,7 +124,79 @@ def update(graph, kind, u, v):
     return len(groups_of(graph)) - before
 
 
-class Index:
+def numbers(*found):
+    return b''.join(x.to_bytes(2, 'little') for x in found)
+
+
+def release_of(graph):
+    """The release file of a graph, and its m, g and s."""
+    nodes = [p for p in range(graph.n) if p not in graph.hidden]
+    visible = Graph(graph.n)
+    visible.edges = {pair for pair in graph.edges if not graph.hidden & set(pair)}
+    groups = algorithm1(nodes, visible.neighbourhoods())
+    position = {p: i for i, group in enumerate(groups) for p in group}
+    ends = [sorted((position[p], position[q])) for p, q in visible.edges]
+    superedges = sorted({(i, j) for i, j in ends if i != j})
+    file = b'HD' + numbers(graph.n, len(nodes), len(groups))
+    for group in groups:
+        clique = len(group) > 1 and visible.tied(group[0], group[1])
+        file += (b'GC' if clique else b'GI') + numbers(len(group), *group)
+    for i, j in superedges:
+        file += b'SE' + numbers(i, j)
+    return file + b'EN', len(nodes), len(groups), len(superedges)
+
+
+class Records:
+    """A file taken two bytes at a time."""
+
+    def __init__(self, file):
+        self.pairs = [file[i:i + 2] for i in range(0, len(file), 2)]
+
+    def mark(self):
+        return self.pairs.pop(0) if self.pairs else b''
+
+    def number(self):
+        return int.from_bytes(self.mark(), 'little')
+
+    def numbers(self, count):
+        return [self.number() for _ in range(min(count, len(self.pairs)))]
+
+
+def unfolded(n, groups, superedges):
+    """The graph that groups (whether a clique, members) and superedges tell."""
+    graph = Graph(n)
+    graph.hidden = set(range(n)) - {p for _, members in groups for p in members}
+    pairs = [(p, q) for clique, members in groups if clique for p in members for q in members]
+    for i, j in superedges:
+        pairs += [(p, q) for p in groups[i][1] for q in groups[j][1]]
+    graph.edges = {(min(p, q), max(p, q)) for p, q in pairs if p != q}
+    return graph
+
+
+@functools.lru_cache
+def graph_of_file(file):
+    """The graph whose release the bytes are, or None: what they tell must have them as its release."""
+    records, groups, superedges = Records(file), [], []
+    records.mark()
+    n, _, _ = records.number(), records.number(), records.number()
+    mark = records.mark()
+    while mark in (b'GI', b'GC'):
+        groups.append((mark == b'GC', records.numbers(records.number())))
+        mark = records.mark()
+    while mark == b'SE':
+        superedges.append((records.number(), records.number()))
+        mark = records.mark()
+    if mark != b'EN' or records.pairs:
+        return None
+    if n > MOST_NODES or any(p >= n for _, members in groups for p in members):
+        return None
+    if any(max(pair) >= len(groups) for pair in superedges):
+        return None
+    graph = unfolded(n, groups, superedges)
+    return graph if release_of(graph)[0] == file else None
+
+
+class Calls:
     """The calls on lent tables, each a list that is changed in place. Numbers of a refused call are 0."""
 
     def wrong_size(self, n, tables):
@@ -188,16 +265,45 @@ class Index:
         kind = 0 if len(group) == 1 else 2 if graph.tied(group[0], group[1]) else 1
         return 0, group[0], kind, len(group)
 
+    def release(self, n, tables, out):
+        refused, graph = self.asked(n, tables)
+        if refused:
+            return refused, 0, 0, 0, 0
+        file, m, g, s = release_of(graph)
+        if len(out) < len(file):
+            return 18, 0, 0, 0, 0
+        out[:len(file)] = file
+        return 0, m, g, s, len(file)
 
-# From here on: the script.
+    def read(self, n, tables, file):
+        if self.wrong_size(n, tables):
+            return 11
+        graph = graph_of_file(file)
+        if graph is None:
+            return 19
+        if graph.n != n:
+            return 20
+        self.fill(tables, graph)
+        return 0
 
-def fold(h, x):
-    return (h % 4294967291 * 65599 + x % 2 ** 32) % 4294967291
+    def file_neighbours(self, file, p, out):
+        graph = graph_of_file(file)
+        if graph is None:
+            return 19, 0
+        if p >= graph.n or p in graph.hidden:
+            return 14, 0
+        found = sorted(graph.neighbourhoods()[p])
+        if len(out) < len(found):
+            return 18, 0
+        out[:len(found)] = found
+        return 0, len(found)
 
+
+# From here on: the scripts.
 
 def fold_all(h, numbers):
     for x in numbers:
-        h = fold(h, x)
+        h = (h * 65599 + x) % 4294967291
     return h
 
 
@@ -237,13 +343,14 @@ def pair_at(t):
 
 
 class Script:
+    """What the two languages share."""
+
     def __init__(self, out):
         self.out = out
-        self.index = Index()
+        self.calls = Calls()
         self.whole = [[7] * 4104, [7] * 2052, [7] * 1026]
         self.n = 0
         self.lent = [0, 0, 0]
-        self.batch = []
 
     def say(self, *words):
         self.out.write(' '.join(str(w) for w in words) + '\n')
@@ -262,8 +369,29 @@ class Script:
     def lend(self, edges, nodes, keys):
         self.lent = [edges, nodes, keys]
 
+    def applied(self, word, batch, answers, shown):
+        result, parts = self.on_tables(self.calls.apply, batch, answers)
+        digest = fold_all(0, codes(answers))
+        self.say(word, result, 'answers', *answers[:shown], 'digest', digest, 'tables', fold_tables(0, parts))
+
+    def listed(self, result, count, out, shown):
+        self.say('neighbours', result, 'count', count, 'buffer', *out[:shown], 'digest', fold_all(0, out))
+
+    def line(self, text):
+        words = text.split()
+        if text.startswith('#'):
+            self.out.write(text)
+        elif words:
+            getattr(self, words[0])(*[int(w) if w.isdigit() else w for w in words[1:]])
+
+
+class IndexScript(Script):
+    def __init__(self, out):
+        super().__init__(out)
+        self.batch = []
+
     def open(self):
-        result, parts = self.on_tables(self.index.open)
+        result, parts = self.on_tables(self.calls.open)
         self.say('open', result, 'tables', fold_tables(0, parts))
 
     def update(self, kind, u, v):
@@ -285,23 +413,20 @@ class Script:
         self.batch += drawn(seed, times, span)
 
     def apply(self, room, shown):
-        answers = [4660] * room
-        result, parts = self.on_tables(self.index.apply, self.batch, answers)
+        self.applied('apply', self.batch, [4660] * room, shown)
         self.batch = []
-        digest = fold_all(0, codes(answers))
-        self.say('apply', result, 'answers', *answers[:shown], 'digest', digest, 'tables', fold_tables(0, parts))
 
     def neighbours(self, p, room, shown):
         out = [4660] * room
-        (result, count), _ = self.on_tables(self.index.neighbours, p, out)
-        self.say('neighbours', result, 'count', count, 'buffer', *out[:shown], 'digest', fold_all(0, out))
+        (result, count), _ = self.on_tables(self.calls.neighbours, p, out)
+        self.listed(result, count, out, shown)
 
     def tied(self, p, q):
-        (result, yes), _ = self.on_tables(self.index.tied, p, q)
+        (result, yes), _ = self.on_tables(self.calls.tied, p, q)
         self.say('tied', result, 'yes' if yes else 'no')
 
     def group(self, p):
-        (result, least, kind, size), _ = self.on_tables(self.index.group, p)
+        (result, least, kind, size), _ = self.on_tables(self.calls.group, p)
         self.say('group', result, 'least', least, 'kind', kind, 'size', size)
 
     def dump(self, a, b):
@@ -321,32 +446,114 @@ class Script:
         h = 0
         for i in range(a, b):
             u, v = pair_at((i & -i).bit_length() - 1)
-            (_, yes), _ = self.on_tables(self.index.tied, u, v)
+            (_, yes), _ = self.on_tables(self.calls.tied, u, v)
             answers = [4660]
-            result, parts = self.on_tables(self.index.apply, [2 if yes else 1, u, v], answers)
+            result, parts = self.on_tables(self.calls.apply, [2 if yes else 1, u, v], answers)
             h = fold_tables(fold_all(h, [result] + codes(answers)), parts)
         self.say('walk digest', h)
 
     def queries(self, limit):
         h = 0
         for p in range(limit):
-            h = fold_all(h, self.on_tables(self.index.group, p)[0])
+            h = fold_all(h, self.on_tables(self.calls.group, p)[0])
             out = [4660] * 512
-            h = fold_all(h, list(self.on_tables(self.index.neighbours, p, out)[0]) + out)
+            h = fold_all(h, list(self.on_tables(self.calls.neighbours, p, out)[0]) + out)
             for q in range(limit):
-                h = fold_all(h, [int(x) for x in self.on_tables(self.index.tied, p, q)[0]])
+                h = fold_all(h, [int(x) for x in self.on_tables(self.calls.tied, p, q)[0]])
         self.say('queries digest', h)
 
-    def line(self, text):
-        if text.startswith('#'):
-            self.out.write(text)
-            return
-        words = text.split()
-        if words:
-            getattr(self, words[0])(*[int(w) for w in words[1:]])
+
+class ReleaseScript(Script):
+    """Files are lists of bytes."""
+
+    def __init__(self, out, folder):
+        super().__init__(out)
+        self.folder = folder
+        self.bytes = []
+
+    def file(self, name):
+        with open(os.path.join(self.folder, name), 'rb') as f:
+            self.bytes = list(f.read())
+        self.say('file', name, 'bytes', len(self.bytes))
+
+    def cut(self, length):
+        self.bytes = self.bytes[:length]
+
+    def add(self, x):
+        self.bytes += [x]
+
+    def byte(self, i, x):
+        self.bytes[i] = x
+
+    def read(self):
+        result, parts = self.on_tables(self.calls.read, bytes(self.bytes))
+        self.say('read', result, 'tables', fold_tables(0, parts))
+
+    def write(self, room):
+        out = [165] * room
+        (result, m, g, s, length), _ = self.on_tables(self.calls.release, out)
+        same = 'yes' if out[:length] == self.bytes else 'no'
+        self.say('write', result, 'nodes', m, 'groups', g, 'superedges', s, 'bytes', length, 'same', same, 'digest', fold_all(0, out))
+
+    def neighbours(self, p, room, shown):
+        out = [4660] * room
+        result, count = self.calls.file_neighbours(bytes(self.bytes), p, out)
+        self.listed(result, count, out, shown)
+
+    def asked(self, h, file, p, room):
+        out = [4660] * room
+        return fold_all(fold_all(h, self.calls.file_neighbours(file, p, out)), out)
+
+    def queries(self, limit):
+        h = 0
+        for p in range(limit):
+            h = self.asked(h, bytes(self.bytes), p, 4)
+            h = self.asked(h, bytes(self.bytes), p, 512)
+        self.say('queries digest', h)
+
+    def update(self, kind, u, v):
+        self.applied('update', [kind, u, v], [4660], 1)
+
+    def tried(self, tally, file, p):
+        """One damaged file: read into tables for six nodes, and asked for the neighbours of p."""
+        tables = [[7] * 48, [7] * 24, [7] * 12]
+        result = self.calls.read(6, tables, file)
+        h = fold_tables(fold_all(tally[1], [result]), tables)
+        return tally[0] + (result == 0), self.asked(h, file, p, 4)
+
+    def ends(self):
+        tally = 0, 0
+        for k in range(len(self.bytes)):
+            tally = self.tried(tally, bytes(self.bytes[:k]), k % 8)
+        self.say('ends read', tally[0], 'digest', tally[1])
+
+    def damage(self, a, b):
+        tally = 0, 0
+        for i in range(a, min(b, len(self.bytes))):
+            for x in range(256):
+                tally = self.tried(tally, bytes(self.bytes[:i] + [x] + self.bytes[i + 1:]), x % 8)
+        self.say('damage read', tally[0], 'digest', tally[1])
+
+    def mix(self, seed, times, span):
+        h = 0
+        updates = drawn(seed, times, span)
+        for i in range(0, len(updates), 3):
+            answers, out = [4660], [165] * 512
+            result, _ = self.on_tables(self.calls.apply, updates[i:i + 3], answers)
+            told, _ = self.on_tables(self.calls.release, out)
+            h = fold_all(h, [result] + codes(answers) + list(told) + out)
+            h = self.asked(h, bytes(out[:told[4]]), updates[i + 1], 4)
+        self.say('mix digest', h)
+
+
+def main():
+    if sys.argv[1] == 'index':
+        script = IndexScript(sys.stdout)
+    else:
+        script = ReleaseScript(sys.stdout, sys.argv[2])
+    for text in sys.stdin:
+        script.line(text)
 
 
 if __name__ == '__main__':
-    script = Script(sys.stdout)
-    for text in sys.stdin:
-        script.line(text)
+    main()

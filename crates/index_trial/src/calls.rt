@@ -1,5 +1,4 @@
 // Each call of the index, and a line that says what came back.
-use trial::digest::fold_answers;
 use trial::digest::wide;
 use trial::say;
 use trial::script::small;
@@ -49,15 +48,8 @@ fn apply_to(
     shown: u64,
 ) {
     let r = index::apply(n, edges, nodes, keys, batch, answers);
-    applied(r, answers, shown);
+    say::applied(b"apply", r, answers, shown);
     say::tables(edges, nodes, keys);
-}
-
-fn applied(result: u16, answers: &[i16], shown: u64) {
-    say::field(b"apply", wide(result));
-    say::word(b" answers");
-    say::answers(answers, shown);
-    say::field(b" digest", fold_answers(0, answers));
 }
 
 // The neighbours of p, into a buffer filled with 4660.

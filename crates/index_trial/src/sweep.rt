@@ -1,5 +1,4 @@
 // Many calls for one line: a walk through all graphs, and every query of a graph.
-use trial::digest::code_of;
 use trial::digest::fold;
 use trial::digest::fold_numbers;
 use trial::digest::fold_tables;
@@ -43,22 +42,8 @@ fn walk_step(
     let v = high_of(t);
     let e = index::tied(n, edges, nodes, keys, u, v);
     let batch = [toggle_kind(e.yes), u, v];
-    let d = fold_apply(h, n, edges, nodes, keys, &batch);
+    let d = trial::single::fold_apply(h, n, edges, nodes, keys, &batch);
     fold_tables(d, edges, nodes, keys)
-}
-
-// A batch of one update: result and answer.
-fn fold_apply(
-    h: u64,
-    n: usize,
-    edges: &mut [u64],
-    nodes: &mut [u16],
-    keys: &mut [u32],
-    batch: &[u16; 3],
-) -> u64 {
-    let mut answers = [4660i16; 1];
-    let r = index::apply(n, edges, nodes, keys, batch, &mut answers);
-    fold(fold(h, wide(r)), code_of(answers[0]))
 }
 
 // Steps a up to b: from step 1 of the empty graph on, every graph once.

@@ -3,4 +3,5 @@ pub mod digest;
 pub mod draws;
 pub mod say;
 pub mod script;
+pub mod single;
 pub mod sizes;

@@ -1,5 +1,6 @@
 // Words and numbers on standard output.
 use crate::digest::code_of;
+use crate::digest::fold_answers;
 use crate::digest::fold_numbers;
 use crate::digest::fold_tables;
 use crate::digest::wide;
@@ -52,12 +53,20 @@ fn answer(code: u64) {
 }
 
 // The first answers of a buffer, at most `shown`.
-pub fn answers(buffer: &[i16], shown: u64) {
+fn answers(buffer: &[i16], shown: u64) {
     for i in 0..buffer.len() {
         if (i as u64) < shown {
             answer(code_of(buffer[i]));
         }
     }
+}
+
+// What a batch returned and left in its buffer.
+pub fn applied(text: &[u8], result: u16, buffer: &[i16], shown: u64) {
+    field(text, wide(result));
+    word(b" answers");
+    answers(buffer, shown);
+    field(b" digest", fold_answers(0, buffer));
 }
 
 // The first numbers of a buffer, at most `shown`.
