@@ -1,10 +1,10 @@
 // Runs the histories of a script, read from standard input, over the index, and prints a line for each call.
 // tools/reference/README.md has the script's language.
-mod batch;
 mod calls;
-mod pokes;
 mod sweep;
 
+use trial::batch;
+use trial::pokes;
 use trial::script;
 use trial::script::within;
 use trial::sizes;
@@ -39,16 +39,6 @@ fn ask(command: u8, line: &[u64; 7], n: usize, edges: &[u64], nodes: &[u16], key
     }
 }
 
-// Lines that change the tables behind the index's back.
-fn poke(command: u8, line: &[u64; 7], edges: &mut [u64], nodes: &mut [u16], keys: &mut [u32]) {
-    match command {
-        b'f' => pokes::flip(edges, line[1], line[2]),
-        b'p' => pokes::put(nodes, line[1], line[2]),
-        b'k' => pokes::put_key(keys, line[1], line[2]),
-        _ => return,
-    }
-}
-
 // What a line does with the tables lent.
 fn on_tables(
     command: u8,
@@ -61,20 +51,7 @@ fn on_tables(
 ) {
     call(command, line, n, edges, nodes, keys, batch);
     ask(command, line, n, edges, nodes, keys);
-    poke(command, line, edges, nodes, keys);
-}
-
-// Lines that change the batch, and apply, which empties it: how many numbers it has then.
-fn compose(command: u8, line: &[u64; 7], batch: &mut [u16], count: usize) -> usize {
-    match command {
-        b'u' => batch::push_update(batch, count, line[1], line[2], line[3]),
-        b'e' => batch::push(batch, count, line[1]),
-        b'm' => batch::push_many(batch, count, line[1], line[2], line[3], line[4]),
-        b'b' => batch::push_block(batch, count, line[1], line[2], line[3], line[4], line[5]),
-        b'r' => batch::push_random(batch, count, line[1], line[2], line[3]),
-        b'a' => 0,
-        _ => count,
-    }
+    pokes::obey(command, line, edges, nodes, keys);
 }
 
 // What a line does with the tables, of the lengths lent.
@@ -118,7 +95,7 @@ fn obey(
     sizes::obey(command, &line, set);
     let count = within(set[sizes::OWN], batch.len());
     lend(command, &line, set, edges, nodes, keys, &batch[..count]);
-    set[sizes::OWN] = compose(command, &line, batch, count) as u64;
+    set[sizes::OWN] = batch::obey(command, &line, batch, count) as u64;
 }
 
 // Every line of the script.

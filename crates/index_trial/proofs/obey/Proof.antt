@@ -31,8 +31,8 @@ slice-aggregate-lend c = sym (length-take-le _ _ (c .before .before .before .bef
 lend-requires : tie.Need-lend-requires
 lend-requires c κs = search needs
 
-compose-requires : tie.Need-compose-requires
-compose-requires c κs = search needs
+obey-requires-2 : tie.Need-obey-requires-2
+obey-requires-2 c κs = search needs
 
 element-write-set : tie.Need-element-write-set
 element-write-set c = search needs
@@ -65,7 +65,7 @@ obey-spec =
     slice-reshare-prefix-lend
     slice-aggregate-lend
     lend-requires
-    compose-requires
+    obey-requires-2
     element-write-set
     same-length
     same-length-2

@@ -1,12 +1,12 @@
-// The tables read and changed behind the index's back.
-use trial::digest::wide;
-use trial::digest::wide_key;
-use trial::say;
-use trial::script::small;
-use trial::script::within;
+// The tables changed behind the index's back, and shown.
+use crate::digest::wide;
+use crate::digest::wide_key;
+use crate::say;
+use crate::script::small;
+use crate::script::within;
 
 // Node q's bit in node p's row, the other way.
-pub fn flip(edges: &mut [u64], p: u64, q: u64) {
+fn flip(edges: &mut [u64], p: u64, q: u64) {
     let i = 8 * within(p, 600) + rows::word_of(within(q, 511));
     if i < edges.len() {
         edges[i] = edges[i] ^ rows::mask(within(q, 511));
@@ -14,7 +14,7 @@ pub fn flip(edges: &mut [u64], p: u64, q: u64) {
 }
 
 // One number of the node table.
-pub fn put(nodes: &mut [u16], i: u64, x: u64) {
+fn put(nodes: &mut [u16], i: u64, x: u64) {
     let at = within(i, 3000);
     if at < nodes.len() {
         nodes[at] = small(x);
@@ -22,10 +22,20 @@ pub fn put(nodes: &mut [u16], i: u64, x: u64) {
 }
 
 // One key.
-pub fn put_key(keys: &mut [u32], i: u64, x: u64) {
+fn put_key(keys: &mut [u32], i: u64, x: u64) {
     let at = within(i, 3000);
     if at < keys.len() {
         keys[at] = small_key(x);
+    }
+}
+
+// Lines that change the tables behind the index's back.
+pub fn obey(command: u8, line: &[u64; 7], edges: &mut [u64], nodes: &mut [u16], keys: &mut [u32]) {
+    match command {
+        b'f' => flip(edges, line[1], line[2]),
+        b'p' => put(nodes, line[1], line[2]),
+        b'k' => put_key(keys, line[1], line[2]),
+        _ => return,
     }
 }
 

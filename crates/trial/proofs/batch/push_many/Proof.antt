@@ -3,23 +3,23 @@ use Prim.Native.Nat.{_-_}
 use native.Mathlib.Omega.{arith}
 use lib.ListN.{length}
 use borrow.Author.Needs.{needs}
-use Rattle.index_trial.proofs.batch.push_row.Statement.{statement}
-use Rattle.index_trial.proofs.batch.push_row.Tie as tie
+use Rattle.trial.proofs.batch.push_many.Statement.{statement}
+use Rattle.trial.proofs.batch.push_many.Tie as tie
 
 abbrev Inv-loop : tie.InvT-loop
-Inv-loop batch₀ count kind u a b c₀ v₀ batch c v = length batch ≡ length batch₀
+Inv-loop batch₀ count times kind u v c₀ i₀ batch c i = length batch ≡ length batch₀
 
 abbrev μ-loop : tie.MeasureT-loop
-μ-loop batch₀ count kind u a b c₀ v₀ batch c v = b - v
+μ-loop batch₀ count times kind u v c₀ i₀ batch c i = times - i
 
 loop-holds : tie.Need-loop-holds Inv-loop μ-loop
 loop-holds c = search needs
 
-push-pair-requires : tie.Need-push-pair-requires Inv-loop μ-loop
-push-pair-requires c κs = search needs
+push-update-requires : tie.Need-push-update-requires Inv-loop μ-loop
+push-update-requires c κs = search needs
 
-add-v : tie.Need-add-v Inv-loop μ-loop
-add-v c = omega arith
+add-i : tie.Need-add-i Inv-loop μ-loop
+add-i c = omega arith
 
 loop-less : tie.Need-loop-less Inv-loop μ-loop
 loop-less c = omega arith
@@ -33,15 +33,15 @@ same-length c = search needs
 returns : tie.Need-returns Inv-loop μ-loop
 returns c = search needs
 
-pub push-row-spec : {M : Type 1} → statement M
-push-row-spec =
+pub push-many-spec : {M : Type 1} → statement M
+push-many-spec =
     tie.close
     (tie.spec
     Inv-loop
     μ-loop
     loop-holds
-    push-pair-requires
-    add-v
+    push-update-requires
+    add-i
     loop-less
     loop-again
     same-length

@@ -1,7 +1,7 @@
 use Prim.Native.Nat.{_-_}
 use native.Mathlib.Omega.{arith}
-use Rattle.index_trial.proofs.pokes.show.Statement.{statement}
-use Rattle.index_trial.proofs.pokes.show.Tie as tie
+use Rattle.trial.proofs.pokes.show.Statement.{statement}
+use Rattle.trial.proofs.pokes.show.Tie as tie
 
 abbrev Inv-loop : tie.InvT-loop
 Inv-loop nodes keys a b p₀ p = Unit {0}

@@ -3,23 +3,26 @@ use Prim.Native.Nat.{_-_}
 use native.Mathlib.Omega.{arith}
 use lib.ListN.{length}
 use borrow.Author.Needs.{needs}
-use Rattle.index_trial.proofs.batch.push_block.Statement.{statement}
-use Rattle.index_trial.proofs.batch.push_block.Tie as tie
+use Rattle.trial.proofs.batch.push_random.Statement.{statement}
+use Rattle.trial.proofs.batch.push_random.Tie as tie
 
 abbrev Inv-loop : tie.InvT-loop
-Inv-loop batch₀ count kind a b c d k₀ u₀ batch k u = length batch ≡ length batch₀
+Inv-loop batch₀ count seed times span c₀ x₀ i₀ batch c x i = length batch ≡ length batch₀
 
 abbrev μ-loop : tie.MeasureT-loop
-μ-loop batch₀ count kind a b c d k₀ u₀ batch k u = b - u
+μ-loop batch₀ count seed times span c₀ x₀ i₀ batch c x i = times - i
 
 loop-holds : tie.Need-loop-holds Inv-loop μ-loop
 loop-holds c = search needs
 
-push-row-requires : tie.Need-push-row-requires Inv-loop μ-loop
-push-row-requires c κs = search needs
+update-requires : tie.Need-update-requires Inv-loop μ-loop
+update-requires c κs = search needs
 
-add-u : tie.Need-add-u Inv-loop μ-loop
-add-u c = omega arith
+push-update-requires : tie.Need-push-update-requires Inv-loop μ-loop
+push-update-requires c κs = search needs
+
+add-i : tie.Need-add-i Inv-loop μ-loop
+add-i c = omega arith
 
 loop-less : tie.Need-loop-less Inv-loop μ-loop
 loop-less c = omega arith
@@ -33,15 +36,16 @@ same-length c = search needs
 returns : tie.Need-returns Inv-loop μ-loop
 returns c = search needs
 
-pub push-block-spec : {M : Type 1} → statement M
-push-block-spec =
+pub push-random-spec : {M : Type 1} → statement M
+push-random-spec =
     tie.close
     (tie.spec
     Inv-loop
     μ-loop
     loop-holds
-    push-row-requires
-    add-u
+    update-requires
+    push-update-requires
+    add-i
     loop-less
     loop-again
     same-length
