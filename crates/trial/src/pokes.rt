@@ -62,11 +62,11 @@ fn show_node(nodes: &[u16], keys: &[u32], p: u64) {
     let at = within(p, 600);
     say::field(b"node", p);
     say::field(b" holds", number_at(nodes, 4 * at));
-    say::field(b"", number_at(nodes, 4 * at + 1));
-    say::field(b"", number_at(nodes, 4 * at + 2));
-    say::field(b"", number_at(nodes, 4 * at + 3));
+    say::number(number_at(nodes, 4 * at + 1));
+    say::number(number_at(nodes, 4 * at + 2));
+    say::number(number_at(nodes, 4 * at + 3));
     say::field(b" keys", key_at(keys, 2 * at));
-    say::field(b"", key_at(keys, 2 * at + 1));
+    say::number(key_at(keys, 2 * at + 1));
     say::feed();
 }
 

@@ -10,7 +10,7 @@ pub fn word(text: &[u8]) {
 }
 
 // A space and a number.
-fn number(x: u64) {
+pub fn number(x: u64) {
     word(b" ");
     io::print_decimal(1, x);
 }
