@@ -11,13 +11,11 @@ use lib.Bits.{bitOr, bitXor, or-step, or-shr}
 use lib.Dec.{eqb}
 use lib.ListN.{length, getD, set, replicate, length-set}
 use lib.Seq.{getD-set-same, getD-set-other}
-use borrow.Author.Tests.{eqb-true, eqb-false, eq-eqb}
+use borrow.Author.Tests.{eqb-true, eqb-false, eq-eqb, ne-eqb}
 use Rattle.model.specs.Tables.{bitAt, edgeBit}
-use Rattle.model.specs.TestLaws.{decide, iff-eq}
-use Rattle.rows.specs.Search.{ownBit}
+use Rattle.model.specs.TestLaws.{and-one, decide, iff-eq}
 use Rattle.rows.specs.BitLaws.{bit-pow, bit-xor}
-use Rattle.rows.specs.TwinRowLaws.{own-bit}
-use Rattle.reader.specs.Drawing.{Added, fanTo, fanWord, oneBit}
+use Rattle.reader.specs.Drawing.{Added, fanTo, oneBit, rowTo, rowWord}
 
 max-bits : (x y : ℕ) → x < 2 → y < 2 → eqb (max x y) 1 ≡ (eqb x 1 || eqb y 1)
 max-bits zero zero hx hy = refl
@@ -78,31 +76,58 @@ bit-without x y k = bit-xor (bitOr x y) y k ∙ ap (λ (b : Bool). xor b (bitAt 
     each false true = refl
     each false false = refl
 
--- the word of a set that the code has found, without the node's own bit
-pub word-drawn : (t st : List ℕ) (p w x y : ℕ) → w < 8 → 8 * p + 8 ≤ length t → y ≡ ownBit p w → x ≡ bitXor (bitOr (getD st w 0) y) y
-    → Added (fanWord p st w) t (set t (8 * p + w) (bitOr (getD t (8 * p + w) 0) x))
-unfolding edgeBit fanWord fanTo
-word-drawn t st p w x y small fits e f = record { size = length-set t (8 * p + w) (bitOr (getD t (8 * p + w) 0) x); bits = λ a b l. at a b l (decide (eqb (8 * a + b / 64) (8 * p + w))) }
+-- the word of a set that the code has found
+pub word-drawn : (t st : List ℕ) (p w : ℕ) → w < 8 → 8 * p + 8 ≤ length t → Added (rowWord p st w) t (set t (8 * p + w) (bitOr (getD t (8 * p + w) 0) (getD st w 0)))
+unfolding edgeBit rowWord rowTo
+word-drawn t st p w small fits = record { size = length-set t (8 * p + w) x; bits = λ a b l. at a b l (decide (eqb (8 * a + b / 64) (8 * p + w))) }
   where
+    x : ℕ
+    x = bitOr (getD t (8 * p + w) 0) (getD st w 0)
+
     at : (a b : ℕ) → b < 512 → (eqb (8 * a + b / 64) (8 * p + w) ≡ true) ⊎ (eqb (8 * a + b / 64) (8 * p + w) ≡ false)
-        → bitAt (getD (set t (8 * p + w) (bitOr (getD t (8 * p + w) 0) x)) (8 * a + b / 64) 0) (b % 64)
-        ≡ (bitAt (getD t (8 * a + b / 64) 0) (b % 64) || (eqb (b / 64) w && (eqb a p && (bitAt (getD st (8 * 0 + b / 64) 0) (b % 64) && not (eqb a b)))))
+        → bitAt (getD (set t (8 * p + w) x) (8 * a + b / 64) 0) (b % 64) ≡ (bitAt (getD t (8 * a + b / 64) 0) (b % 64) || (eqb (b / 64) w && (eqb a p && bitAt (getD st (8 * 0 + b / 64) 0) (b % 64))))
     at a b l (inl h) =
         let d : 8 * a + b / 64 ≡ 8 * p + w = eqb-true (8 * a + b / 64) (8 * p + w) h in
         let i : a ≡ p = omega arith in
         let j : b / 64 ≡ w = omega arith in
         let g : 8 * 0 + b / 64 ≡ w = omega arith in
-        let own : bitAt y (b % 64) ≡ eqb a b = ap (λ (z : ℕ). bitAt z (b % 64)) e ∙ own-bit p w (b % 64) (omega arith) ∙ ap₂ eqb (sym i) (let k : 64 * w + b % 64 ≡ b = omega arith in k) in
-        let word : bitAt x (b % 64) ≡ (bitAt (getD st w 0) (b % 64) && not (eqb a b)) = ap (λ (z : ℕ). bitAt z (b % 64)) f ∙ bit-without (getD st w 0) y (b % 64) ∙ ap (λ (z : Bool). bitAt (getD st w 0) (b % 64) && not z) own in
-        rw (d, getD-set-same t (8 * p + w) (bitOr (getD t (8 * p + w) 0) x) 0 (omega arith), bit-or, word, eq-eqb (b / 64) w j, eq-eqb a p i, g)
+        rw (d, getD-set-same t (8 * p + w) x 0 (omega arith), bit-or, eq-eqb (b / 64) w j, eq-eqb a p i, g)
     at a b l (inr h) =
         let d : 8 * a + b / 64 ≡ 8 * p + w → ⊥ = eqb-false (8 * a + b / 64) (8 * p + w) h in
-        rw (getD-set-other t (8 * p + w) (8 * a + b / 64) (bitOr (getD t (8 * p + w) 0) x) 0 d) (sym (ap (λ (z : Bool). bitAt (getD t (8 * a + b / 64) 0) (b % 64) || z) (none (decide (eqb (b / 64) w)) (decide (eqb a p))) ∙ or-false (bitAt (getD t (8 * a + b / 64) 0) (b % 64))))
+        rw (getD-set-other t (8 * p + w) (8 * a + b / 64) x 0 d) (sym (ap (λ (z : Bool). bitAt (getD t (8 * a + b / 64) 0) (b % 64) || z) (none (decide (eqb (b / 64) w)) (decide (eqb a p))) ∙ or-false (bitAt (getD t (8 * a + b / 64) 0) (b % 64))))
       where
-        rest : Bool
-        rest = bitAt (getD st (8 * 0 + b / 64) 0) (b % 64) && not (eqb a b)
-
-        none : (eqb (b / 64) w ≡ true) ⊎ (eqb (b / 64) w ≡ false) → (eqb a p ≡ true) ⊎ (eqb a p ≡ false) → (eqb (b / 64) w && (eqb a p && rest)) ≡ false
+        none : (eqb (b / 64) w ≡ true) ⊎ (eqb (b / 64) w ≡ false) → (eqb a p ≡ true) ⊎ (eqb a p ≡ false) → (eqb (b / 64) w && (eqb a p && bitAt (getD st (8 * 0 + b / 64) 0) (b % 64))) ≡ false
         none (inl i) (inl j) = absurd (eqb-false (8 * a + b / 64) (8 * p + w) h (ap₂ (λ (u v : ℕ). 8 * u + v) (eqb-true a p j) (eqb-true (b / 64) w i)))
         none (inl i) (inr j) = rw (i, j)
         none (inr i) j = rw i
+
+-- a set put into a row, and the word with the node's own bit stored again without it
+pub own-kept : (t mid st : List ℕ) (p i v m y x : ℕ) → p < 512 → 8 * p + 8 ≤ length t → Added (rowTo p st) t mid → i ≡ 8 * p + p / 64 → v ≡ p / 64 → m ≡ 2 ^ (p % 64) → y ≡ bitXor (bitOr (getD st v 0) m) m
+    → x ≡ bitOr (getD t i 0) y → Added (fanTo p st) t (set mid i x)
+unfolding edgeBit rowTo fanTo
+own-kept t mid st p i v m y x small fits h ei ev em ey ex = record { size = length-set mid i x ∙ h .size; bits = λ a b l. at a b l (decide (eqb (8 * a + b / 64) i)) }
+  where
+    at : (a b : ℕ) → b < 512 → (eqb (8 * a + b / 64) i ≡ true) ⊎ (eqb (8 * a + b / 64) i ≡ false)
+        → bitAt (getD (set mid i x) (8 * a + b / 64) 0) (b % 64) ≡ (bitAt (getD t (8 * a + b / 64) 0) (b % 64) || (eqb a p && (bitAt (getD st (8 * 0 + b / 64) 0) (b % 64) && not (eqb a b))))
+    at a b l (inl e) =
+        let d : 8 * a + b / 64 ≡ i = eqb-true (8 * a + b / 64) i e in
+        let s : a ≡ p = omega arith in
+        let g : v ≡ 8 * 0 + b / 64 = omega arith in
+        let same : eqb (b % 64) (p % 64) ≡ eqb a b = iff-eq (eqb (b % 64) (p % 64)) (eqb a b) (λ f. eq-eqb a b (omega (arith, eqb-true (b % 64) (p % 64) f))) (λ f. eq-eqb (b % 64) (p % 64) (let c : a ≡ b = eqb-true a b f in omega arith)) in
+        let own : bitAt m (b % 64) ≡ eqb a b = ap (λ (z : ℕ). bitAt z (b % 64)) em ∙ bit-pow (b % 64) (p % 64) ∙ same in
+        let word : bitAt y (b % 64) ≡ (bitAt (getD st (8 * 0 + b / 64) 0) (b % 64) && not (eqb a b)) =
+        ap (λ (z : ℕ). bitAt z (b % 64)) ey ∙ bit-without (getD st v 0) m (b % 64) ∙ ap₂ (λ (c : ℕ) (z : Bool). bitAt (getD st c 0) (b % 64) && not z) g own in
+        rw (d, getD-set-same mid i x 0 (omega (arith, h .size)), ex, bit-or, word, eq-eqb a p s)
+    at a b l (inr e) =
+        let d : 8 * a + b / 64 ≡ i → ⊥ = eqb-false (8 * a + b / 64) i e in
+        rw (getD-set-other mid i (8 * a + b / 64) x 0 d) (h .bits a b l ∙ ap (λ (z : Bool). bitAt (getD t (8 * a + b / 64) 0) (b % 64) || z) (apart (decide (eqb a p))))
+      where
+        bit : Bool
+        bit = bitAt (getD st (8 * 0 + b / 64) 0) (b % 64)
+
+        apart : (eqb a p ≡ true) ⊎ (eqb a p ≡ false) → (eqb a p && bit) ≡ (eqb a p && (bit && not (eqb a b)))
+        apart (inl c) =
+            let s : a ≡ p = eqb-true a p c in
+            let n : a ≡ b → ⊥ = λ f. eqb-false (8 * a + b / 64) i e (ap₂ (λ (u w : ℕ). 8 * u + w / 64) s (sym f ∙ s) ∙ sym ei) in
+            rw (c, ne-eqb a b n) (sym (and-one bit))
+        apart (inr c) = rw c

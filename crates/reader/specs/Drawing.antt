@@ -35,15 +35,19 @@ onePair p q a b = oneEdge p q a b || oneEdge q p a b
 unfoldable pub oneRow : List ℕ → ℕ → ℕ → Bool
 oneRow ls a b = eqb a 0 && member b ls
 
--- edges from p to each of a set; those of word w; those of the words from w on
+-- a set in p's row; its word w; its words from w on
+unfoldable pub rowTo : ℕ → List ℕ → ℕ → ℕ → Bool
+rowTo p set a b = eqb a p && edgeBit set 0 b
+
+unfoldable pub rowWord : ℕ → List ℕ → ℕ → ℕ → ℕ → Bool
+rowWord p set w a b = eqb (b / 64) w && rowTo p set a b
+
+unfoldable pub rowFrom : ℕ → List ℕ → ℕ → ℕ → ℕ → Bool
+rowFrom p set w a b = not (ltb (b / 64) w) && rowTo p set a b
+
+-- edges from p to each of a set
 unfoldable pub fanTo : ℕ → List ℕ → ℕ → ℕ → Bool
 fanTo p set a b = eqb a p && (edgeBit set 0 b && not (eqb a b))
-
-unfoldable pub fanWord : ℕ → List ℕ → ℕ → ℕ → ℕ → Bool
-fanWord p set w a b = eqb (b / 64) w && fanTo p set a b
-
-unfoldable pub fanFrom : ℕ → List ℕ → ℕ → ℕ → ℕ → Bool
-fanFrom p set w a b = not (ltb (b / 64) w) && fanTo p set a b
 
 -- edges from p, and from each of ms, to each of ls
 unfoldable pub fan : ℕ → List ℕ → ℕ → ℕ → Bool

@@ -13,7 +13,7 @@ use Rattle.model.specs.Lists.{any, member}
 use Rattle.model.specs.Tables.{edgeBit}
 use Rattle.model.specs.Reading.{u16At, u16s}
 use Rattle.model.specs.TestLaws.{decide}
-use Rattle.reader.specs.Drawing.{Added, Adding, GroupHere, across, countAt, fan, fanFrom, fanTo, fanWord, inner, joined, membersAt, oneBit, oneEdge, onePair, oneRow, restAt}
+use Rattle.reader.specs.Drawing.{Added, Adding, GroupHere, across, countAt, fan, fanTo, inner, joined, membersAt, oneBit, oneEdge, onePair, oneRow, restAt, rowFrom, rowTo, rowWord}
 use Rattle.reader.specs.BitLaws.{blank-bit}
 use Rattle.reader.specs.RecordLaws.{u16-drop}
 
@@ -86,23 +86,23 @@ pub pair-by : (p q : ℕ) {r t u : List ℕ} → Added (oneEdge p q) r t → Add
 unfolding onePair
 pair-by p q x y = added-then x y (λ a b. refl)
 
--- edges to a set, word by word
+-- a set in a row, word by word
 module _ (p : ℕ) (set : List ℕ) where
-  pub words-start : (t : List ℕ) → Adding (fanTo p set) (fanFrom p set 0) t t
-  unfolding fanFrom
-  words-start t = adding-start (fanTo p set) (λ a b. not (ltb (b / 64) 0) && fanTo p set a b) t (λ a b. rw (le-ltb (b / 64) 0 (omega arith)))
+  pub words-start : (t : List ℕ) → Adding (rowTo p set) (rowFrom p set 0) t t
+  unfolding rowFrom
+  words-start t = adding-start (rowTo p set) (λ a b. not (ltb (b / 64) 0) && rowTo p set a b) t (λ a b. rw (le-ltb (b / 64) 0 (omega arith)))
 
-  pub words-step : (w : ℕ) {t now after : List ℕ} → Adding (fanTo p set) (fanFrom p set w) t now → Added (fanWord p set w) now after → Adding (fanTo p set) (fanFrom p set (w + 1)) t after
-  unfolding fanFrom fanWord
-  words-step w x y = adding-step x y (λ a b. ap (λ (z : Bool). z && fanTo p set a b) (next (b / 64) (decide (ltb (b / 64) w)) (decide (eqb (b / 64) w))) ∙ split (eqb (b / 64) w) (not (ltb (b / 64) (w + 1))) (fanTo p set a b))
+  pub words-step : (w : ℕ) {t now after : List ℕ} → Adding (rowTo p set) (rowFrom p set w) t now → Added (rowWord p set w) now after → Adding (rowTo p set) (rowFrom p set (w + 1)) t after
+  unfolding rowFrom rowWord
+  words-step w x y = adding-step x y (λ a b. ap (λ (z : Bool). z && rowTo p set a b) (next (b / 64) (decide (ltb (b / 64) w)) (decide (eqb (b / 64) w))) ∙ split (eqb (b / 64) w) (not (ltb (b / 64) (w + 1))) (rowTo p set a b))
     where
       next : (v : ℕ) → (ltb v w ≡ true) ⊎ (ltb v w ≡ false) → (eqb v w ≡ true) ⊎ (eqb v w ≡ false) → not (ltb v w) ≡ (eqb v w || not (ltb v (w + 1)))
       next v (inl h) d = rw (h, ne-eqb v w (let l = ltb-true v w h in λ e. omega arith), lt-ltb v (w + 1) (let l = ltb-true v w h in omega arith))
       next v (inr h) (inl d) = rw (h, d)
       next v (inr h) (inr d) = rw (h, d, le-ltb v (w + 1) (let l = ltb-false v w h in omega (arith, eqb-false v w d)))
 
-  pub words-done : (w : ℕ) {t now : List ℕ} → 8 ≤ w → Adding (fanTo p set) (fanFrom p set w) t now → Added (fanTo p set) t now
-  unfolding fanFrom
+  pub words-done : (w : ℕ) {t now : List ℕ} → 8 ≤ w → Adding (rowTo p set) (rowFrom p set w) t now → Added (rowTo p set) t now
+  unfolding rowFrom
   words-done w h x = adding-under x (λ a b l. rw (lt-ltb (b / 64) w (omega arith)))
 
   -- a set that holds the members of a list

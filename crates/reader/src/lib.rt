@@ -6,7 +6,7 @@ ghost use lib.Dec.{eqb};
 ghost use lib.ListN.{length, replicate};
 ghost use Rattle.model.specs.Reading.{u16At};
 ghost use Rattle.model.specs.Graph.{rowWords};
-ghost use Rattle.reader.specs.Drawing.{Added, oneBit, oneEdge, onePair, oneRow, fanTo, fanWord, across, joined, inner, countAt, membersAt, GroupHere};
+ghost use Rattle.reader.specs.Drawing.{Added, oneBit, oneEdge, onePair, oneRow, rowTo, rowWord, fanTo, across, joined, inner, countAt, membersAt, GroupHere};
 ghost use Rattle.reader.specs.Decoding.{numbersAt, MembersRead, GroupTaken, GroupsRead, groupsFrom, Found, follows, SuperedgesRead, sized, Drawn, Decodes, AfterHead};
 ghost use Rattle.reader.specs.Records.{lessMember, lessGroup, spent, markAt, malformedAt, headAt, groupAt, superedgeAt, recordAt};
 
@@ -274,23 +274,34 @@ fn without(x: u64, bits: u64) -> u64
     (x | bits) ^ bits
 }
 
-// Word w of a set put into p's row, p itself left out.
+// Word w of a set put into p's row.
 fn draw_word(edges: &mut [u64], p: usize, set: &[u64; 8], w: usize)
     requires { ⌜ (p < 512) × (4096 ≤ length (now edges)) × (w < 8) ⌝ }
-    ensures { λ _. ⌜ Added (fanWord p (now (set .entry)) w) (now (edges .entry)) (now (edges .exit)) ⌝ }
+    ensures { λ _. ⌜ Added (rowWord p (now (set .entry)) w) (now (edges .entry)) (now (edges .exit)) ⌝ }
 {
     let i = rows::Graph::ROW_WORDS * p + w;
-    edges[i] = edges[i] | without(set[w], rows::own_bit(p, w));
+    edges[i] = edges[i] | set[w];
 }
 
-// Edges from p to each node of a set.
-fn draw_fan(edges: &mut [u64], p: usize, set: &[u64; 8])
+// A whole set put into p's row.
+fn draw_row(edges: &mut [u64], p: usize, set: &[u64; 8])
     requires { ⌜ (p < 512) × (4096 ≤ length (now edges)) ⌝ }
-    ensures { λ _. ⌜ Added (fanTo p (now (set .entry))) (now (edges .entry)) (now (edges .exit)) ⌝ }
+    ensures { λ _. ⌜ Added (rowTo p (now (set .entry))) (now (edges .entry)) (now (edges .exit)) ⌝ }
 {
     for w in 0..8 {
         draw_word(edges, p, set, w);
     }
+}
+
+// Edges from p to each node of a set but p itself: the word with p's own bit is stored again.
+fn draw_fan(edges: &mut [u64], p: usize, set: &[u64; 8])
+    requires { ⌜ (p < 512) × (4096 ≤ length (now edges)) ⌝ }
+    ensures { λ _. ⌜ Added (fanTo p (now (set .entry))) (now (edges .entry)) (now (edges .exit)) ⌝ }
+{
+    let i = rows::place(p, p);
+    let own = edges[i] | without(set[rows::word_of(p)], rows::mask(p));
+    draw_row(edges, p, set);
+    edges[i] = own;
 }
 
 // Edges from each member of one group to each member of another, or of the same.

@@ -1,49 +1,67 @@
--- Before word w: the edges of the words from w on are still to be drawn.
-use Prim.Native.Nat.{_-_, _≤_}
+-- `reader::draw_fan` meets its contract.
+use mathlib.Core.Path.{refl}
 use native.Mathlib.Omega.{arith}
 use borrow.Author.Needs.{needs}
-use Rattle.reader.specs.Drawing.{Adding, fanFrom, fanTo}
-use Rattle.reader.specs.DrawingLaws.{words-done, words-start, words-step}
+use Rattle.reader.specs.BitLaws.{own-kept}
 use Rattle.reader.proofs.draw_fan.Statement.{statement}
 use Rattle.reader.proofs.draw_fan.Tie as tie
 
-abbrev Inv-loop : tie.InvT-loop
-Inv-loop edges₀ p set w₀ edges w = (w ≤ 8) × Adding (fanTo p set) (fanFrom p set w) edges₀ edges
+place-requires : tie.Need-place-requires
+place-requires c κs = search needs
 
-abbrev μ-loop : tie.MeasureT-loop
-μ-loop edges₀ p set w₀ edges w = 8 - w
+mul-own : tie.Need-mul-own
+mul-own c = search needs
 
-loop-holds : tie.Need-loop-holds Inv-loop μ-loop
-loop-holds c = (omega arith, words-start _ _ _)
+slice-read-own : tie.Need-slice-read-own
+slice-read-own c = search needs
 
-draw-word-requires : tie.Need-draw-word-requires Inv-loop μ-loop
-draw-word-requires c κs = omega (arith, c .before .before .loop .inv .1 .size)
+word-of-requires : tie.Need-word-of-requires
+word-of-requires c κs = search needs
 
-add-w : tie.Need-add-w Inv-loop μ-loop
-add-w c = search needs
+mul-without : tie.Need-mul-without
+mul-without c = search needs
 
-loop-less : tie.Need-loop-less Inv-loop μ-loop
-loop-less c = search needs
+element-copy-out-without : tie.Need-element-copy-out-without
+element-copy-out-without c = search needs
 
-loop-again : tie.Need-loop-again Inv-loop μ-loop
-loop-again c = (omega arith, words-step _ _ _ (c .before .before .before .before .before .loop .inv .1) (c .before .before .draw-word .ensures))
+mask-requires : tie.Need-mask-requires
+mask-requires c κs = search needs
 
-same-length : tie.Need-same-length Inv-loop μ-loop
-same-length c = c .before .loop .inv .1 .size
+without-requires : tie.Need-without-requires
+without-requires c κs = search needs
 
-returns : tie.Need-returns Inv-loop μ-loop
-returns c = words-done _ _ _ (omega arith) (c .before .loop .inv .1)
+draw-row-requires : tie.Need-draw-row-requires
+draw-row-requires c κs = search needs
+
+mul-edges : tie.Need-mul-edges
+mul-edges c = search needs
+
+slice-write-edges : tie.Need-slice-write-edges
+slice-write-edges c = search needs
+
+same-length : tie.Need-same-length
+same-length c = search needs
+
+returns : tie.Need-returns
+returns c =
+    let kept = c .before .before .before .before in
+    let spot = kept .before .before .before .before .before in
+    own-kept _ _ _ _ _ _ _ _ _ (omega arith) (omega arith) (c .before .before .draw-row .ensures) (spot .place .ensures) (kept .before .before .before .word-of .ensures) (kept .before .mask .ensures) (kept .without .ensures) refl
 
 pub draw-fan-spec : {M : Type 1} → statement M
 draw-fan-spec =
     tie.close
     (tie.spec
-    Inv-loop
-    μ-loop
-    loop-holds
-    draw-word-requires
-    add-w
-    loop-less
-    loop-again
+    place-requires
+    mul-own
+    slice-read-own
+    word-of-requires
+    mul-without
+    element-copy-out-without
+    mask-requires
+    without-requires
+    draw-row-requires
+    mul-edges
+    slice-write-edges
     same-length
     returns)

@@ -17,20 +17,14 @@ mul-edges c = search needs
 slice-read-edges : tie.Need-slice-read-edges
 slice-read-edges c = search needs
 
-mul-without : tie.Need-mul-without
-mul-without c = search needs
-
-element-copy-out-without : tie.Need-element-copy-out-without
-element-copy-out-without c = search needs
-
-own-bit-requires : tie.Need-own-bit-requires
-own-bit-requires c κs = search needs
-
-without-requires : tie.Need-without-requires
-without-requires c κs = search needs
-
 mul-edges-2 : tie.Need-mul-edges-2
 mul-edges-2 c = search needs
+
+element-copy-out-edges : tie.Need-element-copy-out-edges
+element-copy-out-edges c = search needs
+
+mul-edges-3 : tie.Need-mul-edges-3
+mul-edges-3 c = search needs
 
 slice-write-edges : tie.Need-slice-write-edges
 slice-write-edges c = search needs
@@ -39,7 +33,7 @@ same-length : tie.Need-same-length
 same-length c = search needs
 
 returns : tie.Need-returns
-returns c = word-drawn _ _ _ _ _ _ (omega arith) (omega arith) (c .before .own-bit .ensures) (c .without .ensures)
+returns c = word-drawn _ _ _ _ (omega arith) (omega arith)
 
 pub draw-word-spec : {M : Type 1} → statement M
 draw-word-spec =
@@ -49,11 +43,9 @@ draw-word-spec =
     add-i
     mul-edges
     slice-read-edges
-    mul-without
-    element-copy-out-without
-    own-bit-requires
-    without-requires
     mul-edges-2
+    element-copy-out-edges
+    mul-edges-3
     slice-write-edges
     same-length
     returns)
