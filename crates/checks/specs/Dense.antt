@@ -1,14 +1,17 @@
--- The test of rows with many bits: symmetry by blocks of 64 rows and 64 columns, keys by sums over eight bits at a time.
+-- The test of rows with many bits: symmetry by blocks of 64 rows and 64 columns, keys by those of twins or by sums over eight bits at a time.
 use mathlib.Core.Path.{_≡_}
-use mathlib.Core.Bool.{Bool, cond, _||_, Bool·beq}
+use mathlib.Core.Bool.{Bool, true, false, not, cond, _||_, Bool·beq}
 use mathlib.Core.List.{List}
 use Prim.Native.Nat.{ℕ, zero, suc, _+_, _*_, _-_, _/_, _%_, _^_, _≤_, _<_}
 use lib.Dec.{eqb, ltb}
 use lib.ListN.{length, getD}
 use Rattle.model.specs.Lists.{all, nodes}
 use Rattle.model.specs.Graph.{rowWords}
-use Rattle.model.specs.Grouping.{cube}
+use Rattle.model.specs.Grouping.{cube, openKey}
 use Rattle.model.specs.Tables.{bitAt, edgeBit}
+use Rattle.rows.specs.Rows.{movedKey}
+use Rattle.rows.specs.Search.{edgesIn}
+use Rattle.checks.specs.Checks.{keysHold}
 
 -- r with its binary digit k replaced by that of c
 abbrev pub swapped : ℕ → ℕ → ℕ → ℕ
@@ -65,6 +68,22 @@ blockEven edges i j = all (nodes 64) (columnEven edges i j)
 -- all blocks on and above the diagonal
 unfoldable pub even : List ℕ → Bool
 even edges = all (nodes 64) (λ b. ltb (b % 8) (b / 8) || blockEven edges (b / 8) (b % 8))
+
+-- no node has an edge to itself
+unfoldable pub loopless : ℕ → List ℕ → Bool
+loopless n edges = all (nodes n) (λ p. not (edgeBit edges p p))
+
+-- the open key that p's row tells
+abbrev pub rowKey : ℕ → List ℕ → ℕ → ℕ
+rowKey n edges p = openKey (nodes n) (edgesIn n edges) p
+
+-- the open key of a twin p of l, by the keys of l: true twins have equal closed keys, false twins equal open ones
+unfoldable pub twinKey : List ℕ → Bool → ℕ → ℕ → ℕ
+twinKey keys closed l p = cond closed (movedKey false (getD keys (2 * l + 1) 0) (cube p)) (getD keys (2 * l) 0)
+
+-- the keys of the nodes below p are right
+abbrev pub KeysBelow : ℕ → List ℕ → List ℕ → ℕ → Type 0
+KeysBelow n edges keys p = (k : ℕ) → k < p → keysHold n edges keys k ≡ true
 
 -- the cubes of four nodes, chosen by the binary digits of v
 abbrev pub fourCubes : ℕ → ℕ → ℕ

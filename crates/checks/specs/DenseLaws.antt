@@ -1,28 +1,52 @@
--- Rows that are even across the diagonal, without loops, pass the test of rows.
+-- Rows that are even across the diagonal, without loops, pass the test of rows if their keys do; twins' keys tell of one another.
 use mathlib.Core.Path.{_≡_, refl, sym, ap, _∙_}
-use mathlib.Core.Bool.{Bool, true, false, not, _&&_, _||_}
+use mathlib.Core.Bool.{Bool, true, false, not, _&&_, _||_, and-false}
 use mathlib.Core.List.{List, []}
 use mathlib.Core.Logic.{_⊎_, inl, inr}
-use Prim.Native.Nat.{ℕ, _*_, _/_, _%_, _^_, _≤_, _<_}
+use Prim.Native.Nat.{ℕ, _+_, _*_, _/_, _%_, _^_, _≤_, _<_}
 use native.Mathlib.Omega.{arith}
 use lib.Dec.{eqb, ltb}
-use lib.ListN.{length}
-use borrow.Author.Tests.{eq-eqb, ne-eqb, lt-ltb, ltb-true, ltb-false}
+use lib.ListN.{length, getD}
+use borrow.Author.Tests.{eqb-true, ne-eqb, lt-ltb, ltb-true, ltb-false, not-true}
 use Rattle.model.specs.Lists.{nodes}
 use Rattle.model.specs.Graph.{maxNodes, rowWords}
-use Rattle.model.specs.Grouping.{openKey}
-use Rattle.model.specs.Tables.{bitAt, edgeBit}
+use Rattle.model.specs.Grouping.{cube, openKey}
+use Rattle.model.specs.Tables.{bitAt, edgeBit, graphOf, keysOf, nodeNumber}
 use Rattle.model.specs.TestLaws.{and-true, decide, differ, iff-eq}
-use Rattle.model.specs.ListLaws.{all-intro, nodes-out}
-use Rattle.rows.specs.Rows.{Words, lent}
-use Rattle.rows.specs.Search.{edgesIn}
-use Rattle.checks.specs.Checks.{agrees, bitHolds, keysHold, mirrored, rowHolds, rowsHold}
+use Rattle.model.specs.ListLaws.{all-elim, all-intro, nodes-in, nodes-out}
+use Rattle.model.specs.TableLaws.{length-keys}
+use Rattle.rows.specs.Rows.{Words, lent, movedKey}
+use Rattle.rows.specs.Search.{Ready, keyAgrees, meets, rowIn}
+use Rattle.rows.specs.KeyLaws.{moved-out}
+use Rattle.rows.specs.SearchLaws.{meets-words}
+use Rattle.rows.specs.TwinRowLaws.{false-key, meet-false, meet-true, true-key}
+use Rattle.checks.specs.Checks.{agrees, bitHolds, keysHold, mirrored, rowHolds, rowsHold, twinsHold}
 use Rattle.checks.specs.WalkLaws.{bit-zero}
-use Rattle.checks.specs.StepLaws.{all-fail}
-use Rattle.checks.specs.HoldLaws.{mirror-back}
-use Rattle.checks.specs.Dense.{even, rowCubes}
+use Rattle.checks.specs.StepLaws.{all-fail, all-pass}
+use Rattle.checks.specs.HoldLaws.{closed-is, keys-told, mirror-back, no-loop, open-is, rows-ready, twin-low, twin-meets}
+use Rattle.checks.specs.Dense.{KeysBelow, even, loopless, rowCubes, rowKey, twinKey}
 use Rattle.checks.specs.BlockLaws.{all-even, even-all, no-row}
 use Rattle.checks.specs.FourLaws.{dense-key}
+
+-- the keys of one node
+module _ (n : ℕ) (edges keys : List ℕ) (p : ℕ) where
+  pub key-told : {x : ℕ} {r : Bool} → x ≡ rowKey n edges p → r ≡ agrees keys p x → r ≡ keysHold n edges keys p
+  unfolding keysHold
+  key-told e er = er ∙ ap (agrees keys p) e
+
+  pub key-fails : p < n → keysHold n edges keys p ≡ false → false ≡ rowsHold n edges keys
+  unfolding rowsHold
+  key-fails hp e = all-fail _ n p hp (rw e (and-false (rowHolds n edges p)))
+
+-- the key of a twin
+module _ (keys : List ℕ) (c : Bool) (l p : ℕ) where
+  pub twin-closed : {x r : ℕ} → c ≡ true → x ≡ cube p → r < 2 ^ 32 → (r + x) % 2 ^ 32 ≡ getD keys (2 * l + 1) 0 → r ≡ twinKey keys c l p
+  unfolding twinKey
+  twin-closed {x} {r} t e h k = rw t (moved-out false (getD keys (2 * l + 1) 0) (cube p) r refl h (ap (λ (y : ℕ). (r + y) % 2 ^ 32) (sym e) ∙ k))
+
+  pub twin-open : c ≡ false → getD keys (2 * l) 0 ≡ twinKey keys c l p
+  unfolding twinKey
+  twin-open t = rw t
 
 module _ (n : ℕ) (edges : List ℕ) (small : n ≤ maxNodes) (size : length edges ≡ rowWords * n) where
   outside : (p q : ℕ) → n ≤ p → edgeBit edges p q ≡ false
@@ -47,28 +71,84 @@ module _ (n : ℕ) (edges : List ℕ) (small : n ≤ maxNodes) (size : length ed
       step (inl h) = differ (all-even edges (λ p q hp hq. iff-eq (edgeBit edges p q) (edgeBit edges q p) (turn h p q hq) (turn h q p hp))) e
       step (inr h) = sym h
 
-  -- an even row is one without a loop
-  module _ (h : even edges ≡ true) (p : ℕ) (hp : p < n) where
-    turned : (q : ℕ) → q < 512 → edgeBit edges p q ≡ true → edgeBit edges q p ≡ true
-    turned q hq t = sym (even-all edges h p q (omega arith) hq) ∙ t
+  -- and have no loops
+  pub looped : (keys : List ℕ) → length keys ≡ 2 * n → Words edges → loopless n edges ≡ false → false ≡ rowsHold n edges keys
+  unfolding loopless
+  looped keys size-k words e = step (decide (rowsHold n edges keys))
+    where
+      step : (rowsHold n edges keys ≡ true) ⊎ (rowsHold n edges keys ≡ false) → false ≡ rowsHold n edges keys
+      step (inl h) = differ (all-intro (nodes n) _ (λ p m. ap not (no-loop n (lent edges [] keys) small size size-k words h p (nodes-out n p m)))) e
+      step (inr h) = sym h
 
-    pub looped : {b : Bool} (keys : List ℕ) → b ≡ edgeBit edges p p → b ≡ true → false ≡ (rowHolds n edges p && keysHold n edges keys p)
-    unfolding rowHolds bitHolds mirrored
-    looped keys e t =
-        ap (λ (x : Bool). x && keysHold n edges keys p)
-        (all-fail (λ q. not (edgeBit edges p q) || (ltb q n && (not (eqb q p) && edgeBit edges q p))) 512 p (omega arith) (rw (sym e ∙ t, lt-ltb p n hp, eq-eqb p p refl)))
+  -- even rows without loops pass, if their keys do
+  module _ (h : even edges ≡ true) (free : loopless n edges ≡ true) where
+    turned : (p : ℕ) → p < n → (q : ℕ) → q < 512 → edgeBit edges p q ≡ true → edgeBit edges q p ≡ true
+    turned p hp q hq t = sym (even-all edges h p q (omega arith) hq) ∙ t
 
-    row-even : edgeBit edges p p ≡ false → rowHolds n edges p ≡ true
+    no-edge : (p : ℕ) → p < n → edgeBit edges p p ≡ false
+    unfolding loopless
+    no-edge p hp = not-true (edgeBit edges p p) (all-elim (nodes n) (λ p. not (edgeBit edges p p)) free p (nodes-in n p hp))
+
+    row-even : (p : ℕ) → p < n → rowHolds n edges p ≡ true
     unfolding rowHolds bitHolds mirrored
-    row-even loop = all-intro (nodes 512) _ (λ q m. at q (nodes-out 512 q m) (decide (edgeBit edges p q)))
+    row-even p hp = all-intro (nodes 512) _ (λ q m. at q (nodes-out 512 q m) (decide (edgeBit edges p q)))
       where
         at : (q : ℕ) → q < 512 → (edgeBit edges p q ≡ true) ⊎ (edgeBit edges p q ≡ false) → (not (edgeBit edges p q) || (ltb q n && (not (eqb q p) && edgeBit edges q p))) ≡ true
-        at q hq (inl t) = rw t (and-true (lt-ltb q n (set-inside q p (turned q hq t))) (and-true (ap not (ne-eqb q p (λ z. differ t (ap (edgeBit edges p) z ∙ loop)))) (turned q hq t)))
+        at q hq (inl t) = rw t (and-true (lt-ltb q n (set-inside q p (turned p hp q hq t))) (and-true (ap not (ne-eqb q p (λ z. differ t (ap (edgeBit edges p) z ∙ no-edge p hp)))) (turned p hp q hq t)))
         at q hq (inr t) = rw t
 
-    pub dense-row : {b r : Bool} {s x : ℕ} (keys : List ℕ) → b ≡ edgeBit edges p p → b ≡ false → s ≡ rowCubes edges p 8 → x ≡ s % 2 ^ 32 → r ≡ agrees keys p x → r ≡ (rowHolds n edges p && keysHold n edges keys p)
-    unfolding keysHold
-    dense-row {b} {r} {s} {x} keys e f es ex er = er ∙ ap (agrees keys p) key ∙ ap (λ (t : Bool). t && agrees keys p (openKey (nodes n) (edgesIn n edges) p)) (sym (row-even (sym e ∙ f)))
-      where
-        key : x ≡ openKey (nodes n) (edgesIn n edges) p
-        key = ex ∙ ap (λ (y : ℕ). y % 2 ^ 32) es ∙ dense-key edges p n small hp (λ q hq t. set-inside q p (turned q hq t))
+    pub keys-pass : (keys : List ℕ) (p : ℕ) → n ≤ p → KeysBelow n edges keys p → true ≡ rowsHold n edges keys
+    unfolding rowsHold
+    keys-pass keys p l k = all-pass _ n n (omega arith) (λ q hq. and-true (row-even q hq) (k q (omega arith)))
+
+    pub key-by-table : {s x : ℕ} (p : ℕ) → p < n → s ≡ rowCubes edges p 8 → x ≡ s % 2 ^ 32 → x ≡ rowKey n edges p
+    key-by-table p hp es ex = ex ∙ ap (λ (y : ℕ). y % 2 ^ 32) es ∙ dense-key edges p n small hp (λ q hq t. set-inside q p (turned p hp q hq t))
+
+    -- twins, by the keys that the rows tell
+    module _ (words : Words edges) where
+      abbrev told : List ℕ
+      told = keysOf (graphOf n (lent edges [] []))
+
+      told-size : length (keysOf (graphOf n (lent edges [] []))) ≡ 2 * n
+      unfolding graphOf
+      told-size = length-keys (graphOf n (lent edges [] []))
+
+      told-keys : (p : ℕ) → p < n → keysHold n edges (keysOf (graphOf n (lent edges [] []))) p ≡ true
+      unfolding graphOf
+      told-keys p hp = keys-told n (lent edges [] told) small size told-size words refl p hp
+
+      told-ready : Ready n edges (keysOf (graphOf n (lent edges [] [])))
+      told-ready = rows-ready n (lent edges [] told) small size told-size words (sym (keys-pass told n (omega arith) told-keys))
+
+      module _ (p l : ℕ) (hp : p < n) (hl : l < n) where
+        open-alike : meets false p l (rowIn edges p) (rowIn edges l) 8 ≡ true → rowKey n edges p ≡ rowKey n edges l
+        unfolding keyAgrees
+        open-alike m =
+            let t = eqb-true (getD told (2 * p + 0) 0) (getD told (2 * l + 0) 0) (false-key n edges told told-ready p l hp hl (meet-false n edges told told-ready p l hp hl (meets-words false p l edges m))) in
+            let zp : 2 * p + 0 ≡ 2 * p = omega arith in
+            let zl : 2 * l + 0 ≡ 2 * l = omega arith in
+            sym (open-is n edges told p (told-keys p hp)) ∙ (rw (zp, zl) at t) ∙ open-is n edges told l (told-keys l hl)
+
+        closed-alike : meets true p l (rowIn edges p) (rowIn edges l) 8 ≡ true → (rowKey n edges p + cube p) % 2 ^ 32 ≡ (rowKey n edges l + cube l) % 2 ^ 32
+        unfolding keyAgrees
+        closed-alike m =
+            let t = true-key n edges told told-ready p l hp hl (meet-true n edges told told-ready p l hp hl (meets-words true p l edges m)) in
+            omega (arith, eqb-true (getD told (2 * p + 1) 0) (getD told (2 * l + 1) 0) t, closed-is n edges told p (told-keys p hp), closed-is n edges told l (told-keys l hl))
+
+        row-key-lt : rowKey n edges p < 2 ^ 32
+        unfolding openKey
+        row-key-lt = omega arith
+
+        twin-is : (c : Bool) (keys : List ℕ) → keysHold n edges keys l ≡ true → meets c p l (rowIn edges p) (rowIn edges l) 8 ≡ true → twinKey keys c l p ≡ rowKey n edges p
+        unfolding twinKey movedKey
+        twin-is true keys k m = omega (arith, closed-alike m, closed-is n edges keys l k, row-key-lt)
+        twin-is false keys k m = open-is n edges keys l k ∙ sym (open-alike m)
+
+      pub key-by-leader : {x l : ℕ} {c : Bool} (table keys : List ℕ) (p : ℕ) → p < n → twinsHold n edges table ≡ true → KeysBelow n edges keys p → l ≡ nodeNumber table p 0 → (l ≡ p → ⊥) → c ≡ edgeBit edges l p → x ≡ twinKey keys c l p → x ≡ rowKey n edges p
+      key-by-leader {x} {l} {c} table keys p hp twins k el d ec ex = ex ∙ twin-is p l hp (omega (arith, low)) c keys (k l (omega (arith, low))) met
+        where
+          low : l ≤ p
+          low = omega (arith, twin-low n edges table twins p hp)
+
+          met : meets c p l (rowIn edges p) (rowIn edges l) 8 ≡ true
+          met = rw (ec, el) (twin-meets n edges table twins p hp)

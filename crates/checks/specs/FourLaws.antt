@@ -107,34 +107,34 @@ widened-none sums e = record { size = e; entries = λ k l. absurd (omega arith) 
 pub widened-start : {m k : ℕ} {sums : List ℕ} → Widened m sums → k ≡ m → Widened k sums
 widened-start {m} {k} {sums} h e = subst (λ i. Widened i sums) (sym e) h
 
-pub widened-more : {j l : ℕ} {fours sums : List ℕ} → Widened (16 * j + l) sums → Filled 2048 fours → j < 1024 → l < 16
-    → Widened (16 * j + (l + 1)) (set sums (16 * j + l) (getD fours (32 * (j / 16) + l) 0 + getD fours (32 * (j / 16) + 16 + j % 16) 0))
+pub widened-more : {b h l : ℕ} {fours sums : List ℕ} → Widened (256 * b + 16 * h + l) sums → Filled 2048 fours → b < 64 → h < 16 → l < 16
+    → Widened (256 * b + 16 * h + (l + 1)) (set sums (256 * b + 16 * h + l) (getD fours (32 * b + l) 0 + getD fours (32 * b + 16 + h) 0))
 unfolding eightCubes
-widened-more {j} {l} {fours} {sums} h f hj hl =
-    let s : 16 * j + l + 1 ≡ 16 * j + (l + 1) = omega arith in
+widened-more {b} {h} {l} {fours} {sums} w f hb hh hl =
+    let s : 256 * b + 16 * h + l + 1 ≡ 256 * b + 16 * h + (l + 1) = omega arith in
     widened-start
     (record {
-      size = stored-size sums (16 * j + l) x fits (h .size);
-      entries = stored sums (16 * j + l) x fits (λ k y. y ≡ fourCubes (2 * (k / 256)) (k % 256 % 16) + fourCubes (2 * (k / 256) + 1) (k % 256 / 16)) (h .entries) here;
+      size = stored-size sums (256 * b + 16 * h + l) x fits (w .size);
+      entries = stored sums (256 * b + 16 * h + l) x fits (λ k y. y ≡ fourCubes (2 * (k / 256)) (k % 256 % 16) + fourCubes (2 * (k / 256) + 1) (k % 256 / 16)) (w .entries) here;
     })
     (sym s)
   where
     x : ℕ
-    x = getD fours (32 * (j / 16) + l) 0 + getD fours (32 * (j / 16) + 16 + j % 16) 0
+    x = getD fours (32 * b + l) 0 + getD fours (32 * b + 16 + h) 0
 
-    fits : 16 * j + l < length sums
-    fits = omega (arith, h .size)
+    fits : 256 * b + 16 * h + l < length sums
+    fits = omega (arith, w .size)
 
-    here : x ≡ fourCubes (2 * ((16 * j + l) / 256)) ((16 * j + l) % 256 % 16) + fourCubes (2 * ((16 * j + l) / 256) + 1) ((16 * j + l) % 256 / 16)
+    here : x ≡ fourCubes (2 * ((256 * b + 16 * h + l) / 256)) ((256 * b + 16 * h + l) % 256 % 16) + fourCubes (2 * ((256 * b + 16 * h + l) / 256) + 1) ((256 * b + 16 * h + l) % 256 / 16)
     here =
-        let b : (16 * j + l) / 256 ≡ j / 16 = omega arith in
-        let v : (16 * j + l) % 256 % 16 ≡ l = omega arith in
-        let u : (16 * j + l) % 256 / 16 ≡ j % 16 = omega arith in
-        let b₀ : (32 * (j / 16) + l) / 16 ≡ 2 * (j / 16) = omega arith in
-        let v₀ : (32 * (j / 16) + l) % 16 ≡ l = omega arith in
-        let b₁ : (32 * (j / 16) + 16 + j % 16) / 16 ≡ 2 * (j / 16) + 1 = omega arith in
-        let v₁ : (32 * (j / 16) + 16 + j % 16) % 16 ≡ j % 16 = omega arith in
-        rw (b, v, u) (ap₂ _+_ (rw (b₀, v₀) at (f .entries (32 * (j / 16) + l) (omega arith))) (rw (b₁, v₁) at (f .entries (32 * (j / 16) + 16 + j % 16) (omega arith))))
+        let d : (256 * b + 16 * h + l) / 256 ≡ b = omega arith in
+        let v : (256 * b + 16 * h + l) % 256 % 16 ≡ l = omega arith in
+        let u : (256 * b + 16 * h + l) % 256 / 16 ≡ h = omega arith in
+        let d₀ : (32 * b + l) / 16 ≡ 2 * b = omega arith in
+        let v₀ : (32 * b + l) % 16 ≡ l = omega arith in
+        let d₁ : (32 * b + 16 + h) / 16 ≡ 2 * b + 1 = omega arith in
+        let v₁ : (32 * b + 16 + h) % 16 ≡ h = omega arith in
+        rw (d, v, u) (ap₂ _+_ (rw (d₀, v₀) at (f .entries (32 * b + l) (omega arith))) (rw (d₁, v₁) at (f .entries (32 * b + 16 + h) (omega arith))))
 
 -- an entry is a number of 32 bits
 pub entry-at : {sums : List ℕ} (w i v r : ℕ) → Widened 16384 sums → w < 8 → i < 8 → v < 256 → r ≡ getD sums (256 * (8 * w + i) + v) 0 → r ≡ eightCubes (8 * w + i) v

@@ -36,6 +36,19 @@ both-false true true e = e
 both-false true false e = refl
 both-false false b e = refl
 
+-- keys that pass
+module _ (n : ℕ) (edges keys : List ℕ) (p : ℕ) (h : keysHold n edges keys p ≡ true) where
+  abbrev own : ℕ
+  own = openKey (nodes n) (edgesIn n edges) p
+
+  pub open-is : getD keys (2 * p) 0 ≡ openKey (nodes n) (edgesIn n edges) p
+  unfolding keysHold agrees
+  open-is = eqb-true _ _ (and-fst (eqb (getD keys (2 * p) 0) own) _ h)
+
+  pub closed-is : getD keys (2 * p + 1) 0 ≡ (openKey (nodes n) (edgesIn n edges) p + cube p) % 2 ^ 32
+  unfolding keysHold agrees
+  closed-is = eqb-true _ _ (and-snd (eqb (getD keys (2 * p) 0) own) _ h)
+
 -- rows and keys that pass are those of the graph
 module _ (n : ℕ) (t : Tables) (small : n ≤ maxNodes) (size : length (t .edges) ≡ rowWords * n) (size-k : length (t .keys) ≡ 2 * n) (words : Words (t .edges)) where
   abbrev g : Graph
@@ -59,7 +72,7 @@ module _ (n : ℕ) (t : Tables) (small : n ≤ maxNodes) (size : length (t .edge
     unfolding mirrored
     mirror-back p q hp hq e = and-snd (not (eqb q p)) _ (and-snd (ltb q n) _ (mirror p q hp hq e))
 
-    no-loop : (p : ℕ) → p < n → edgeBit (t .edges) p p ≡ false
+    pub no-loop : (p : ℕ) → p < n → edgeBit (t .edges) p p ≡ false
     unfolding mirrored
     no-loop p hp = step (decide (edgeBit (t .edges) p p))
       where
@@ -87,19 +100,19 @@ module _ (n : ℕ) (t : Tables) (small : n ≤ maxNodes) (size : length (t .edge
             step (inr e) = e ∙ sym (both-false (ltb p n) (ltb q n) e)
 
     rows-keys : t .keys ≡ keysOf (graphOf n t)
-    unfolding graphOf keysHold agrees openKey edgesIn
+    unfolding graphOf openKey edgesIn
     rows-keys = ext-getD 0 (t .keys) (keysOf g) (size-k ∙ sym (length-keys g)) at
       where
-        both : (p : ℕ) → p < n → agrees (t .keys) p (openKey (nodes n) (edgesIn n (t .edges)) p) ≡ true
+        both : (p : ℕ) → p < n → keysHold n (t .edges) (t .keys) p ≡ true
         both p hp = and-snd (rowHolds n (t .edges) p) _ (row p hp)
 
         one : (p k : ℕ) → p < n → k < 2 → getD (t .keys) (2 * p + k) 0 ≡ keyOf (graphOf n t) p k
         one p zero hp hk =
-            let e : getD (t .keys) (2 * p) 0 ≡ openKey (nodes n) (edgesIn n (t .edges)) p = eqb-true _ _ (and-fst (eqb (getD (t .keys) (2 * p) 0) (openKey (nodes n) (edgesIn n (t .edges)) p)) _ (both p hp)) in
+            let e : getD (t .keys) (2 * p) 0 ≡ openKey (nodes n) (edgesIn n (t .edges)) p = open-is n (t .edges) (t .keys) p (both p hp) in
             let z : 2 * p + 0 ≡ 2 * p = omega arith in
             rw z (omega arith)
         one p (suc zero) hp hk =
-            let e : getD (t .keys) (2 * p + 1) 0 ≡ (openKey (nodes n) (edgesIn n (t .edges)) p + cube p) % 2 ^ 32 = eqb-true _ _ (and-snd (eqb (getD (t .keys) (2 * p) 0) (openKey (nodes n) (edgesIn n (t .edges)) p)) _ (both p hp)) in
+            let e : getD (t .keys) (2 * p + 1) 0 ≡ (openKey (nodes n) (edgesIn n (t .edges)) p + cube p) % 2 ^ 32 = closed-is n (t .edges) (t .keys) p (both p hp) in
             omega arith
         one p (suc (suc k)) hp hk = absurd (omega arith)
 
@@ -122,6 +135,17 @@ module _ (n : ℕ) (t : Tables) (small : n ≤ maxNodes) (size : length (t .edge
     rows-ready = rw (rows-edges, rows-keys) (ready (graphOf n t) rows-proper)
 
   -- rows and keys of a graph pass
+  module _ (same-keys : t .keys ≡ keysOf (graphOf n t)) where
+    pub keys-told : (p : ℕ) → p < n → keysHold n (t .edges) (t .keys) p ≡ true
+    unfolding graphOf keysHold agrees openKey edgesIn
+    keys-told p hp = and-true (eq-eqb (getD (t .keys) (2 * p) 0) (openKey (nodes n) (edgesIn n (t .edges)) p) first) (eq-eqb (getD (t .keys) (2 * p + 1) 0) ((openKey (nodes n) (edgesIn n (t .edges)) p + cube p) % 2 ^ 32) (omega (arith, one 1 (omega arith))))
+      where
+        one : (k : ℕ) → k < 2 → getD (t .keys) (2 * p + k) 0 ≡ keyOf (graphOf n t) p k
+        one k hk = ap (λ (s : List ℕ). getD s (2 * p + k) 0) same-keys ∙ keys-at (graphOf n t) p k hp hk
+
+        first : getD (t .keys) (2 * p) 0 ≡ openKey (nodes n) (edgesIn n (t .edges)) p
+        first = let z : 2 * p + 0 ≡ 2 * p = omega arith in ap (λ (i : ℕ). getD (t .keys) i 0) (sym z) ∙ one 0 (omega arith) ∙ omega arith
+
   module _ (ok : simple (graphOf n t) ≡ true) (same-edges : t .edges ≡ edgesOf (graphOf n t)) (same-keys : t .keys ≡ keysOf (graphOf n t)) where
     bit-told : (p q : ℕ) → p < n → q < 512 → edgeBit (t .edges) p q ≡ true → mirrored n (t .edges) p q ≡ true
     unfolding graphOf mirrored
@@ -141,19 +165,30 @@ module _ (n : ℕ) (t : Tables) (small : n ≤ maxNodes) (size : length (t .edge
         at q hq (inl e) = rw e (bit-told p q hp hq e)
         at q hq (inr e) = rw e
 
-    keys-told : (p : ℕ) → p < n → keysHold n (t .edges) (t .keys) p ≡ true
-    unfolding graphOf keysHold agrees openKey edgesIn
-    keys-told p hp = and-true (eq-eqb (getD (t .keys) (2 * p) 0) (openKey (nodes n) (edgesIn n (t .edges)) p) first) (eq-eqb (getD (t .keys) (2 * p + 1) 0) ((openKey (nodes n) (edgesIn n (t .edges)) p + cube p) % 2 ^ 32) (omega (arith, one 1 (omega arith))))
-      where
-        one : (k : ℕ) → k < 2 → getD (t .keys) (2 * p + k) 0 ≡ keyOf (graphOf n t) p k
-        one k hk = ap (λ (s : List ℕ). getD s (2 * p + k) 0) same-keys ∙ keys-at (graphOf n t) p k hp hk
-
-        first : getD (t .keys) (2 * p) 0 ≡ openKey (nodes n) (edgesIn n (t .edges)) p
-        first = let z : 2 * p + 0 ≡ 2 * p = omega arith in ap (λ (i : ℕ). getD (t .keys) i 0) (sym z) ∙ one 0 (omega arith) ∙ omega arith
-
     rows-told : rowsHold n (t .edges) (t .keys) ≡ true
     unfolding rowsHold
-    rows-told = all-intro (nodes n) _ (λ p m. and-true (row-told p (nodes-out n p m)) (keys-told p (nodes-out n p m)))
+    rows-told = all-intro (nodes n) _ (λ p m. and-true (row-told p (nodes-out n p m)) (keys-told same-keys p (nodes-out n p m)))
+
+-- every node is a twin of its leader
+module _ (n : ℕ) (edges table : List ℕ) (twins : twinsHold n edges table ≡ true) where
+  abbrev leader : ℕ → ℕ
+  leader p = nodeNumber table p 0
+
+  twin : (p : ℕ) → p < n → twinOf edges table p (nodeNumber table p 0) ≡ true
+  unfolding twinsHold
+  twin p hp = all-elim (nodes n) (λ p. twinOf edges table p (nodeNumber table p 0)) twins p (nodes-in n p hp)
+
+  pub twin-low : (p : ℕ) → p < n → nodeNumber table p 0 ≤ p
+  unfolding twinOf
+  twin-low p hp = leb-true (leader p) p (and-fst (leb (leader p) p) _ (twin p hp))
+
+  twin-leads : (p : ℕ) → p < n → nodeNumber table (nodeNumber table p 0) 0 ≡ nodeNumber table p 0
+  unfolding twinOf
+  twin-leads p hp = eqb-true (leader (leader p)) (leader p) (and-fst (eqb (leader (leader p)) (leader p)) _ (and-snd (leb (leader p) p) _ (twin p hp)))
+
+  pub twin-meets : (p : ℕ) → p < n → meets (edgeBit edges (nodeNumber table p 0) p) p (nodeNumber table p 0) (rowIn edges p) (rowIn edges (nodeNumber table p 0)) 8 ≡ true
+  unfolding twinOf
+  twin-meets p hp = and-snd (eqb (leader (leader p)) (leader p)) _ (and-snd (leb (leader p) p) _ (twin p hp))
 
 -- leaders of twins, none of which are similar, lead the groups
 module _ (n : ℕ) (edges table keys : List ℕ) (r : Ready n edges keys) where
@@ -174,22 +209,8 @@ module _ (n : ℕ) (edges table keys : List ℕ) (r : Ready n edges keys) where
   rows-similar false p l hp hl h = similar-N (nodes n) e p l (meet-false n edges keys r p l hp hl (meets-words false p l edges h))
 
   module _ (twins : twinsHold n edges table ≡ true) (apart : leadersApart n edges table ≡ true) where
-    twin : (p : ℕ) → p < n → twinOf edges table p (nodeNumber table p 0) ≡ true
-    unfolding twinsHold
-    twin p hp = all-elim (nodes n) (λ p. twinOf edges table p (least p)) twins p (nodes-in n p hp)
-
-    twin-low : (p : ℕ) → p < n → nodeNumber table p 0 ≤ p
-    unfolding twinOf
-    twin-low p hp = leb-true (least p) p (and-fst (leb (least p) p) _ (twin p hp))
-
-    twin-leads : (p : ℕ) → p < n → nodeNumber table (nodeNumber table p 0) 0 ≡ nodeNumber table p 0
-    unfolding twinOf
-    twin-leads p hp = eqb-true (least (least p)) (least p) (and-fst (eqb (least (least p)) (least p)) _ (and-snd (leb (least p) p) _ (twin p hp)))
-
     twin-similar : (p : ℕ) → p < n → similar (nodes n) (edgesIn n edges) p (nodeNumber table p 0) ≡ true
-    unfolding twinOf
-    twin-similar p hp =
-        rows-similar (edgeBit edges (least p) p) p (least p) hp (omega (arith, twin-low p hp)) (and-snd (eqb (least (least p)) (least p)) _ (and-snd (leb (least p) p) _ (twin p hp)))
+    twin-similar p hp = rows-similar (edgeBit edges (least p) p) p (least p) hp (omega (arith, twin-low n edges table twins p hp)) (twin-meets n edges table twins p hp)
 
     lone : (u q : ℕ) → u < n → q < u → nodeNumber table u 0 ≡ u → joins n edges table u u q ≡ false
     unfolding leadersApart alone
@@ -208,9 +229,9 @@ module _ (n : ℕ) (edges table keys : List ℕ) (r : Ready n edges keys) where
     pub led-by-tests : Led n (Of n (similar (nodes n) (edgesIn n edges))) table
     unfolding joins
     led-by-tests = record {
-      low = twin-low;
-      leads = twin-leads;
-      alike = λ p hp. (hp, omega (arith, twin-low p hp), twin-similar p hp);
+      low = twin-low n edges table twins;
+      leads = twin-leads n edges table twins;
+      alike = λ p hp. (hp, omega (arith, twin-low n edges table twins p hp), twin-similar p hp);
       apart = λ u q l su sq x. differ (and-true (other u q l) (and-true (other u q l) (and-true (eq-eqb (least q) q sq) (x .2)))) (lone u q (x .0) l su);
     }
       where

@@ -1,15 +1,16 @@
-// Rows with many bits: symmetry by blocks of 64 rows and 64 columns, keys by sums over eight bits at a time.
+// Rows with many bits: symmetry by blocks of 64 rows and 64 columns, keys by those of twins or by sums over eight bits at a time.
 ghost use mathlib.Core.Path.{_≡_};
-ghost use mathlib.Core.Bool.{true, cond, _&&_, _||_};
+ghost use mathlib.Core.Bool.{true, cond, _||_};
 ghost use Prim.Native.Nat.{ℕ, _+_, _*_, _/_, _%_, _^_, _≤_, _<_};
 ghost use lib.Dec.{ltb};
 ghost use lib.ListN.{length, getD};
-ghost use Rattle.model.specs.Graph.{maxNodes, rowWords};
+ghost use Rattle.model.specs.Graph.{maxNodes, nodeNumbers, rowWords};
 ghost use Rattle.model.specs.Tables.{bitAt};
-ghost use Rattle.checks.specs.Checks.{keysHold, rowHolds, rowsHold};
+ghost use Rattle.checks.specs.Checks.{rowsHold, twinsHold};
 ghost use Rattle.checks.specs.Dense.{
   Across,
   Filled,
+  KeysBelow,
   Loaded,
   Masks,
   Ones,
@@ -22,9 +23,14 @@ ghost use Rattle.checks.specs.Dense.{
   blockEven,
   eightCubes,
   even,
+  loopless,
   rowCubes,
+  rowKey,
+  twinKey,
   wordCubes,
 };
+use groups::LEAST;
+use groups::number;
 use rows::Graph;
 
 // The bits of z where the mask has ones, those of x elsewhere.
@@ -210,15 +216,24 @@ fn fill_fours(sums: &mut [u32])
     }
 }
 
-// Sixteen sums for eight nodes: one choice among the last four of them, and each choice among the first four.
-fn widen_row(fours: &[u32], sums: &mut [u32], j: usize)
-    requires { ⌜ (j < 1024) × Filled 2048 (now fours) × Widened (16 * j) (now sums) ⌝ }
-    ensures { λ _. ⌜ Widened (16 * (j + 1)) (now (sums .exit)) ⌝ }
+// Sixteen sums for the eight nodes from 8 * b on: choice h among the last four of them, and each choice among the first four.
+fn widen_row(fours: &[u32], sums: &mut [u32], b: usize, h: usize)
+    requires { ⌜ (b < 64) × (h < 16) × Filled 2048 (now fours) × Widened (256 * b + 16 * h) (now sums) ⌝ }
+    ensures { λ _. ⌜ Widened (256 * b + 16 * (h + 1)) (now (sums .exit)) ⌝ }
 {
-    let a = 32 * (j / 16);
-    let x = fours[a + 16 + j % 16];
+    let x = fours[32 * b + 16 + h];
     for l in 0..16 {
-        sums[16 * j + l] = fours[a + l] + x;
+        sums[256 * b + 16 * h + l] = fours[32 * b + l] + x;
+    }
+}
+
+// All sums for those nodes, in a loop of its own: the sums of the first four are read once.
+fn widen_rows(fours: &[u32], sums: &mut [u32], b: usize)
+    requires { ⌜ (b < 64) × Filled 2048 (now fours) × Widened (256 * b) (now sums) ⌝ }
+    ensures { λ _. ⌜ Widened (256 * (b + 1)) (now (sums .exit)) ⌝ }
+{
+    for h in 0..16 {
+        widen_row(fours, sums, b, h);
     }
 }
 
@@ -226,8 +241,8 @@ fn widen(fours: &[u32], sums: &mut [u32])
     requires { ⌜ Filled 2048 (now fours) × (length (now sums) ≡ 16384) ⌝ }
     ensures { λ _. ⌜ Widened 16384 (now (sums .exit)) ⌝ }
 {
-    for j in 0..1024 {
-        widen_row(fours, sums, j);
+    for b in 0..64 {
+        widen_rows(fours, sums, b);
     }
 }
 
@@ -288,29 +303,58 @@ pub fn low_half(x: u64) -> u32
     (x % 4294967296) as u32
 }
 
-// Whether p's row holds, given that every bit has its mirror.
-fn row_holds(edges: &[u64], keys: &[u32], sums: &[u32], n: usize, p: usize) -> bool
-    requires { ⌜ (n ≤ maxNodes) × (length (now edges) ≡ rowWords * n) × (length (now keys) ≡ 2 * n) × (p < n) × Widened 16384 (now sums) × (even (now edges) ≡ true) ⌝ }
-    ensures { λ r. ⌜ r ≡ (rowHolds n (now (edges .entry)) p && keysHold n (now (edges .entry)) (now (keys .entry)) p) ⌝ }
+// Whether no node has an edge to itself.
+fn is_loopless(edges: &[u64], n: usize) -> bool
+    requires { ⌜ (n ≤ maxNodes) × (length (now edges) ≡ rowWords * n) ⌝ }
+    ensures { λ r. ⌜ r ≡ loopless n (now (edges .entry)) ⌝ }
 {
-    if rows::edge(edges, p, p) {
-        return false;
+    for p in 0..n {
+        if rows::edge(edges, p, p) {
+            return false;
+        }
     }
-    super::keys_agree(keys, p, low_half(row_sum(edges, sums, p)))
+    true
 }
 
-// Whether edges and keys are those of a graph.
-pub fn rows_hold(edges: &[u64], keys: &[u32], n: usize) -> bool
-    requires { ⌜ (n ≤ maxNodes) × (length (now edges) ≡ rowWords * n) × (length (now keys) ≡ 2 * n) ⌝ }
+// The open key of a twin p of l, by the keys of l.
+fn twin_key(keys: &[u32], closed: bool, l: usize, p: usize) -> u32
+    requires { ⌜ (l < maxNodes) × (p < maxNodes) × (2 * l + 2 ≤ length (now keys)) ⌝ }
+    ensures { λ r. ⌜ r ≡ twinKey (now (keys .entry)) closed l p ⌝ }
+{
+    if closed {
+        return std::num::wrapping_sub_u32(keys[2 * l + 1], rows::cube_of(p));
+    }
+    keys[2 * l]
+}
+
+// The open key of p: by the keys of its leader, which are right, or by the table.
+fn open_key(edges: &[u64], nodes: &[u16], keys: &[u32], sums: &[u32], n: usize, p: usize) -> u32
+    requires { ⌜ (n ≤ maxNodes) × (length (now edges) ≡ rowWords * n) × (length (now nodes) ≡ nodeNumbers * n) × (length (now keys) ≡ 2 * n) × (p < n) × Widened 16384 (now sums) ⌝ }
+    requires { ⌜ (even (now edges) ≡ true) × (loopless n (now edges) ≡ true) × (twinsHold n (now edges) (now nodes) ≡ true) × KeysBelow n (now edges) (now keys) p ⌝ }
+    ensures { λ r. ⌜ r ≡ rowKey n (now (edges .entry)) p ⌝ }
+{
+    let l = number(nodes, p, LEAST);
+    if l != p {
+        return twin_key(keys, rows::edge(edges, l, p), l, p);
+    }
+    low_half(row_sum(edges, sums, p))
+}
+
+// Whether edges and keys are those of a graph, where every node is a twin of its leader.
+pub fn rows_hold(edges: &[u64], nodes: &[u16], keys: &[u32], n: usize) -> bool
+    requires { ⌜ (n ≤ maxNodes) × (length (now edges) ≡ rowWords * n) × (length (now nodes) ≡ nodeNumbers * n) × (length (now keys) ≡ 2 * n) × (twinsHold n (now edges) (now nodes) ≡ true) ⌝ }
     ensures { λ r. ⌜ r ≡ rowsHold n (now (edges .entry)) (now (keys .entry)) ⌝ }
 {
     if !is_even(edges, n) {
         return false;
     }
+    if !is_loopless(edges, n) {
+        return false;
+    }
     let mut sums = [0u32; 16384];
     fill(&mut sums);
     for p in 0..n {
-        if !row_holds(edges, keys, &sums, n, p) {
+        if !super::keys_agree(keys, p, open_key(edges, nodes, keys, &sums, n, p)) {
             return false;
         }
     }

@@ -1,6 +1,6 @@
 // The test that lent tables hold a graph: the numbers of the node table are taken as a certificate, nothing is built anew.
 ghost use mathlib.Core.Path.{_≡_};
-ghost use mathlib.Core.Bool.{_&&_};
+ghost use mathlib.Core.Bool.{true, _&&_};
 ghost use Prim.Native.Nat.{_+_, _*_, _≤_, _<_};
 ghost use lib.ListN.{length};
 ghost use Rattle.model.specs.Graph.{maxNodes, rowWords, nodeNumbers};
@@ -113,13 +113,13 @@ pub fn has_many_bits(edges: &[u64]) -> bool
     bits > 1000
 }
 
-// Whether edges and keys are those of a graph.
-fn rows_hold(edges: &[u64], keys: &[u32], n: usize) -> bool
-    requires { ⌜ (n ≤ maxNodes) × (length (now edges) ≡ rowWords * n) × (length (now keys) ≡ 2 * n) ⌝ }
+// Whether edges and keys are those of a graph, where every node is a twin of its leader.
+fn rows_hold(edges: &[u64], nodes: &[u16], keys: &[u32], n: usize) -> bool
+    requires { ⌜ (n ≤ maxNodes) × (length (now edges) ≡ rowWords * n) × (length (now nodes) ≡ nodeNumbers * n) × (length (now keys) ≡ 2 * n) × (twinsHold n (now edges) (now nodes) ≡ true) ⌝ }
     ensures { λ r. ⌜ r ≡ rowsHold n (now (edges .entry)) (now (keys .entry)) ⌝ }
 {
     if has_many_bits(edges) {
-        return dense::rows_hold(edges, keys, n);
+        return dense::rows_hold(edges, nodes, keys, n);
     }
     sparse_rows_hold(edges, keys, n)
 }
@@ -276,7 +276,7 @@ pub fn hold(edges: &[u64], nodes: &[u16], keys: &[u32], n: usize) -> bool
     if !twins_hold(edges, nodes, n) {
         return false;
     }
-    if !rows_hold(edges, keys, n) {
+    if !rows_hold(edges, nodes, keys, n) {
         return false;
     }
     leaders_apart(edges, nodes, keys, n)

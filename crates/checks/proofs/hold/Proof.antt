@@ -26,7 +26,9 @@ returns-2 c =
     hold-twins _ (lent _ _ _) (pre .0) (pre .1) (pre .2) (pre .3) (λ i. omega (arith, s .shared-slice-known .given i)) (failed (c .before .twins-hold .ensures) (c .if2 .taken))
 
 rows-hold-requires : tie.Need-rows-hold-requires
-rows-hold-requires c κs = search needs
+rows-hold-requires c κs =
+    let pre = c .before .before .before .before .before .before .before .pre in
+    (pre .0, pre .1, pre .2, pre .3, passed (c .before .twins-hold .ensures) (c .if2 .left))
 
 returns-3 : tie.Need-returns-3
 returns-3 c =

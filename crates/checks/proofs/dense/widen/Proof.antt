@@ -1,4 +1,4 @@
--- The invariant: the entries before 16 * j are there.
+-- The invariant: the entries before 256 * b are there.
 use Prim.Native.Nat.{_*_, _-_, _≤_}
 use native.Mathlib.Omega.{arith}
 use Rattle.checks.specs.Dense.{Widened}
@@ -7,25 +7,25 @@ use Rattle.checks.proofs.dense.widen.Statement.{statement}
 use Rattle.checks.proofs.dense.widen.Tie as tie
 
 abbrev Inv-loop : tie.InvT-loop
-Inv-loop fours sums₀ j₀ sums j = (j ≤ 1024) × Widened (16 * j) sums
+Inv-loop fours sums₀ b₀ sums b = (b ≤ 64) × Widened (256 * b) sums
 
 abbrev μ-loop : tie.MeasureT-loop
-μ-loop fours sums₀ j₀ sums j = 1024 - j
+μ-loop fours sums₀ b₀ sums b = 64 - b
 
 loop-holds : tie.Need-loop-holds Inv-loop μ-loop
 loop-holds c = (omega arith, widened-none _ (c .before .before .pre .1))
 
-widen-row-requires : tie.Need-widen-row-requires Inv-loop μ-loop
-widen-row-requires c κs = (c .before .loop-test .taken, c .before .before .before .before .before .pre .0, c .before .before .loop .inv .1)
+widen-rows-requires : tie.Need-widen-rows-requires Inv-loop μ-loop
+widen-rows-requires c κs = (c .before .loop-test .taken, c .before .before .before .before .before .pre .0, c .before .before .loop .inv .1)
 
-add-j : tie.Need-add-j Inv-loop μ-loop
-add-j c = omega arith
+add-b : tie.Need-add-b Inv-loop μ-loop
+add-b c = omega arith
 
 loop-less : tie.Need-loop-less Inv-loop μ-loop
 loop-less c = omega arith
 
 loop-again : tie.Need-loop-again Inv-loop μ-loop
-loop-again c = (omega arith, c .before .before .widen-row .ensures)
+loop-again c = (omega arith, c .before .before .widen-rows .ensures)
 
 same-length : tie.Need-same-length Inv-loop μ-loop
 same-length c = omega (arith, c .before .loop .inv .1 .size, c .before .before .before .before .pre .1)
@@ -40,8 +40,8 @@ widen-spec =
     Inv-loop
     μ-loop
     loop-holds
-    widen-row-requires
-    add-j
+    widen-rows-requires
+    add-b
     loop-less
     loop-again
     same-length
