@@ -24,8 +24,8 @@ use Rattle.index.specs.Index.{opened, applied, listed, tiedSay, grouped,
 use Rattle.index.specs.Update.{Held}
 use Rattle.index.specs.Batch.{Applied as BatchDone}
 use Rattle.index.specs.BatchLaws.{whole-three}
-use Rattle.index.specs.Query.{ledBy, kindBy}
-use Rattle.index.specs.QueryLaws.{row-neighbours, l-below, m-below, least-is, leader-told, led-group, kind-told}
+use Rattle.queries.specs.Query.{ledBy, kindBy}
+use Rattle.index.specs.GroupLaws.{row-neighbours, l-below, m-below, least-is, leader-told, led-group, kind-told}
 use Rattle.layout.specs.Scan.{scan}
 use Rattle.layout.specs.WroteLaws.{sets-onto}
 use Rattle.model.specs.Grouping.{kindOf}

@@ -5,6 +5,5 @@ pub mod Update
 pub mod UpdateLaws
 pub mod Batch
 pub mod BatchLaws
-pub mod Query
-pub mod QueryLaws
+pub mod GroupLaws
 pub mod IndexLaws

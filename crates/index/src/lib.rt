@@ -10,7 +10,6 @@ use rows::Graph;
 
 mod batch;
 mod opening;
-pub mod queries;
 mod updating;
 
 // Whether n and the lengths of the tables are right (else 11).

@@ -26,7 +26,7 @@ use Rattle.reader.specs.declared.Decoded.the-variants as answer
 use Rattle.reader.specs.Decoding.{graphIn, HoldsGraph}
 use Rattle.index.specs.Index.{opened, listed}
 use Rattle.index.specs.IndexLaws.{call-refused, call-done}
-use Rattle.index.specs.QueryLaws.{scan-nodes}
+use Rattle.queries.specs.QueryLaws.{scan-nodes}
 use Rattle.release.specs.Release.{Judged, rowTold}
 use Rattle.release.specs.ReleaseLaws.{take-bit}
 

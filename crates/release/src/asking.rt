@@ -6,7 +6,6 @@ ghost use Rattle.model.specs.Graph.{maxNodes};
 ghost use Rattle.index.specs.Index.{listed};
 ghost use Rattle.release.specs.Release.{rowTold};
 use index::Listed;
-use index::queries;
 use rows::Graph;
 
 // The neighbours that p's row tells, or 18.

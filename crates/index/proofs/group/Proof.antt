@@ -1,5 +1,5 @@
 use native.Mathlib.Omega.{arith}
-use Rattle.index.specs.QueryLaws.{scan-small}
+use Rattle.queries.specs.QueryLaws.{scan-small}
 use Rattle.index.specs.IndexLaws.{table-sized, group-table, group-outside, group-ends, group-done}
 use borrow.Author.Needs.{needs}
 use Rattle.index.proofs.group.Statement.{statement}
@@ -7,8 +7,8 @@ use Rattle.index.proofs.group.Tie as tie
 use Rattle.index.proofs.group.Reads as reads
 use Rattle.index.proofs.group.Lts as lts
 use Rattle.groups.proofs.number.Reads as number-reads
-use Rattle.index.proofs.queries.group_size.Reads as group-size-reads
-use Rattle.index.proofs.queries.kind_of.Reads as kind-of-reads
+use Rattle.queries.proofs.group_size.Reads as group-size-reads
+use Rattle.queries.proofs.kind_of.Reads as kind-of-reads
 use Rattle.index.proofs.table_refusal.Reads as table-refusal-reads
 
 table-refusal-requires : tie.Need-table-refusal-requires

@@ -1,13 +1,13 @@
 use native.Mathlib.Omega.{arith}
-use Rattle.index.specs.QueryLaws.{scan-small}
+use Rattle.queries.specs.QueryLaws.{scan-small}
 use Rattle.index.specs.IndexLaws.{table-sized, neighbours-table, neighbours-outside, neighbours-short, neighbours-done}
 use borrow.Author.Needs.{needs}
 use Rattle.index.proofs.neighbours.Statement.{statement}
 use Rattle.index.proofs.neighbours.Tie as tie
 use Rattle.index.proofs.neighbours.Reads as reads
 use Rattle.index.proofs.neighbours.Lts as lts
-use Rattle.index.proofs.queries.count_neighbours.Reads as count-neighbours-reads
-use Rattle.index.proofs.queries.write_neighbours.Reads as write-neighbours-reads
+use Rattle.queries.proofs.count_neighbours.Reads as count-neighbours-reads
+use Rattle.queries.proofs.write_neighbours.Reads as write-neighbours-reads
 use Rattle.index.proofs.table_refusal.Reads as table-refusal-reads
 
 table-refusal-requires : tie.Need-table-refusal-requires

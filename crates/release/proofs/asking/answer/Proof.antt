@@ -1,15 +1,15 @@
 use mathlib.Core.Path.{_≡_, sym}
 use native.Mathlib.Omega.{arith}
 use lib.Seq.{length-take-le}
-use Rattle.index.specs.QueryLaws.{scan-small}
+use Rattle.queries.specs.QueryLaws.{scan-small}
 use Rattle.release.specs.ReadLaws.{row-short, row-done, rows-size}
 use borrow.Author.Needs.{needs}
 use Rattle.release.proofs.asking.answer.Statement.{statement}
 use Rattle.release.proofs.asking.answer.Tie as tie
 use Rattle.release.proofs.asking.answer.Reads as reads
 use Rattle.release.proofs.asking.answer.Lts as lts
-use Rattle.index.proofs.queries.count_neighbours.Reads as count-neighbours-reads
-use Rattle.index.proofs.queries.write_neighbours.Reads as write-neighbours-reads
+use Rattle.queries.proofs.count_neighbours.Reads as count-neighbours-reads
+use Rattle.queries.proofs.write_neighbours.Reads as write-neighbours-reads
 
 mul-end : tie.Need-mul-end
 mul-end c = search needs

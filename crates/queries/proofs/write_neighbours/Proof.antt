@@ -8,11 +8,11 @@ use Rattle.layout.specs.ScanLaws.{scan-no, scan-end}
 use Rattle.layout.specs.Wrote.{Left}
 use Rattle.layout.specs.WroteLaws.{left-start, left-as, left-done}
 use Rattle.model.specs.Tables.{edgeBit}
-use Rattle.index.specs.QueryLaws.{collected, collect-room}
-use Rattle.index.proofs.queries.write_neighbours.Statement.{statement}
-use Rattle.index.proofs.queries.write_neighbours.Tie as tie
-use Rattle.index.proofs.queries.write_neighbours.Reads as reads
-use Rattle.index.proofs.queries.write_neighbours.Lts as lts
+use Rattle.queries.specs.QueryLaws.{collected, collect-room}
+use Rattle.queries.proofs.write_neighbours.Statement.{statement}
+use Rattle.queries.proofs.write_neighbours.Tie as tie
+use Rattle.queries.proofs.write_neighbours.Reads as reads
+use Rattle.queries.proofs.write_neighbours.Lts as lts
 use Rattle.rows.proofs.edge.Reads as edge-reads
 
 abbrev Inv-loop : tie.InvT-loop

@@ -1,11 +1,11 @@
 use mathlib.Core.Path.{sym, ap, _∙_}
 use mathlib.Core.Bool.{Bool, cond}
-use Rattle.index.specs.QueryLaws.{kind-single, kind-clique, kind-independent}
+use Rattle.queries.specs.QueryLaws.{kind-single, kind-clique, kind-independent}
 use borrow.Author.Needs.{needs}
-use Rattle.index.proofs.queries.kind_of.Statement.{statement}
-use Rattle.index.proofs.queries.kind_of.Tie as tie
-use Rattle.index.proofs.queries.kind_of.Reads as reads
-use Rattle.index.proofs.queries.kind_of.Lts as lts
+use Rattle.queries.proofs.kind_of.Statement.{statement}
+use Rattle.queries.proofs.kind_of.Tie as tie
+use Rattle.queries.proofs.kind_of.Reads as reads
+use Rattle.queries.proofs.kind_of.Lts as lts
 use Rattle.groups.proofs.number.Reads as number-reads
 use Rattle.rows.proofs.edge.Reads as edge-reads
 

@@ -5,12 +5,12 @@ use native.Mathlib.Omega.{arith}
 use lib.ListN.{length}
 use Rattle.layout.specs.Scan.{scan, Counting}
 use Rattle.layout.specs.ScanLaws.{counting-start, counting-yes, counting-no, counting-done}
-use Rattle.index.specs.Query.{ledBy}
-use Rattle.index.specs.QueryLaws.{led-yes, led-no}
-use Rattle.index.proofs.queries.group_size.Statement.{statement}
-use Rattle.index.proofs.queries.group_size.Tie as tie
-use Rattle.index.proofs.queries.group_size.Reads as reads
-use Rattle.index.proofs.queries.group_size.Lts as lts
+use Rattle.queries.specs.Query.{ledBy}
+use Rattle.queries.specs.QueryLaws.{led-yes, led-no}
+use Rattle.queries.proofs.group_size.Statement.{statement}
+use Rattle.queries.proofs.group_size.Tie as tie
+use Rattle.queries.proofs.group_size.Reads as reads
+use Rattle.queries.proofs.group_size.Lts as lts
 use Rattle.groups.proofs.number.Reads as number-reads
 
 abbrev Inv-loop : tie.InvT-loop

@@ -6,10 +6,10 @@ use lib.ListN.{length}
 use Rattle.layout.specs.Scan.{scan, Counting}
 use Rattle.layout.specs.ScanLaws.{counting-start, counting-yes, counting-no, counting-done}
 use Rattle.model.specs.Tables.{edgeBit}
-use Rattle.index.proofs.queries.count_neighbours.Statement.{statement}
-use Rattle.index.proofs.queries.count_neighbours.Tie as tie
-use Rattle.index.proofs.queries.count_neighbours.Reads as reads
-use Rattle.index.proofs.queries.count_neighbours.Lts as lts
+use Rattle.queries.proofs.count_neighbours.Statement.{statement}
+use Rattle.queries.proofs.count_neighbours.Tie as tie
+use Rattle.queries.proofs.count_neighbours.Reads as reads
+use Rattle.queries.proofs.count_neighbours.Lts as lts
 use Rattle.rows.proofs.edge.Reads as edge-reads
 
 abbrev Inv-loop : tie.InvT-loop
