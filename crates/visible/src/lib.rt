@@ -240,13 +240,21 @@ fn group_visible(
     }
 }
 
+// The least members of the groups of the visible nodes, where hidden nodes have no edges.
+pub fn find_groups(edges: &[u64], hidden: &[u16], n: usize, least: &mut [u16])
+    requires { ⌜ Apart n (now edges) (now hidden) × (n ≤ length (now least)) ⌝ }
+    ensures { λ _. ⌜ Truth (markedGraph n (now (edges .entry)) (now (hidden .entry))) (now (least .exit)) (now (edges .entry)) ⌝ }
+{
+    let mut opens = [0u16; SLOTS + Graph::NODES];
+    let mut closeds = [0u16; SLOTS + Graph::NODES];
+    group_visible(edges, hidden, n, &mut opens, &mut closeds, least);
+}
+
 // The edges between visible nodes, and the least members of their groups: what the release writer needs.
 pub fn summarise(edges: &[u64], hidden: &[u16], n: usize, masked: &mut [u64], least: &mut [u16])
     requires { ⌜ Drawn n (now edges) (now hidden) × (length (now masked) ≡ rowWords * n) × (n ≤ length (now least)) ⌝ }
     ensures { λ _. ⌜ Truth (markedGraph n (now (edges .entry)) (now (hidden .entry))) (now (least .exit)) (now (masked .exit)) ⌝ }
 {
     mask_edges(edges, hidden, n, masked);
-    let mut opens = [0u16; SLOTS + Graph::NODES];
-    let mut closeds = [0u16; SLOTS + Graph::NODES];
-    group_visible(masked, hidden, n, &mut opens, &mut closeds, least);
+    find_groups(masked, hidden, n, least);
 }
