@@ -245,8 +245,9 @@ toldGraph s = record {
   hidden = λ p. ltb p (u16At s 2) && not (placed (toldGroups s) p);
 }
 
--- arrays that hold a graph of n nodes, whatever the bytes were: nothing is set outside its nodes
+-- arrays that hold a graph of n nodes, whatever the bytes were: nothing is set outside its nodes, and hidden ones have no edges
 pub record HoldsGraph (n : ℕ) (edges hidden : List ℕ) : Type 0 where
   pub proper : Proper (graphIn n edges hidden)
   pub outside : (p q : ℕ) → q < 512 → edgeBit edges p q ≡ true → (p < n) × (q < n)
   pub marks : (p : ℕ) → p < 512 → getD hidden p 0 ≤ 1
+  pub apart : (p q : ℕ) → q < 512 → getD hidden q 0 ≡ 1 → edgeBit edges p q ≡ false

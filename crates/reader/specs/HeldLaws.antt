@@ -28,7 +28,7 @@ use Rattle.reader.specs.declared.Decoded.{Decoded}
 use Rattle.reader.specs.declared.Decoded.the-variants as answer
 use Rattle.reader.specs.Records.{itemIn, spent}
 use Rattle.reader.specs.Decoding.{Decodes, HoldsGraph, accepted, bodyFits, crossed, decoded, graphIn, groupsFrom, groupsRead, inside, keyOf, membersOf, placed, restFrom, sized, superedgesFit, toldEdge, toldGraph, toldGroups, toldPairs}
-use Rattle.reader.specs.ToldLaws.{Ordered, accepted-out, placed-position, positionIn, told-flip, told-loop, told-small, told-summary}
+use Rattle.reader.specs.ToldLaws.{Ordered, accepted-out, placed-position, positionIn, told-flip, told-loop, told-placed, told-small, told-summary}
 use Rattle.reader.specs.AcceptLaws.{groups-pass, head-item, ordered, superedges-pass}
 
 -- the answer tells whether the file is accepted
@@ -91,8 +91,16 @@ module _ (s edges hidden : List ℕ) (r : Decoded) (d : Decodes s edges hidden r
     proper = rw held-graph told-proper;
     outside = λ p q l t. let u : toldEdge s p q ≡ true = sym (d .bits ok p q l) ∙ t in (told-small s ok p q u, told-small s ok q p (told-flip s q p ∙ u));
     marks = λ p l. rw (d .marks ok p l) (one (placed (toldGroups s) p));
+    apart = λ p q l e. none p q l e (decide (edgeBit edges p q));
   }
     where
+      none : (p q : ℕ) → q < 512 → getD hidden q 0 ≡ 1 → (edgeBit edges p q ≡ true) ⊎ (edgeBit edges p q ≡ false) → edgeBit edges p q ≡ false
+      none p q l e (inl t) =
+          let u : toldEdge s q p ≡ true = told-flip s q p ∙ sym (d .bits ok p q l) ∙ t in
+          let z : getD hidden q 0 ≡ 0 = d .marks ok q l ∙ ap (λ (b : Bool). cond b 0 1) (told-placed s q p u) in
+          absurd (omega arith)
+      none p q l e (inr t) = t
+
       one : (t : Bool) → cond t 0 1 ≤ 1
       one true = omega arith
       one false = omega arith

@@ -174,16 +174,19 @@ accepted-out s t = by-kind (itemIn s) (item-fits s) t
     by-kind End f u = differ u refl
     by-kind Malformed f u = differ u refl
 
+-- an edge that is told is one of nodes that groups have
+pub told-placed : (s : List ℕ) (a b : ℕ) → toldEdge s a b ≡ true → placed (toldGroups s) a ≡ true
+unfolding toldEdge
+told-placed s a b t = either (or-cases (inside (toldGroups s) a b) (crossed (toldGroups s) (toldPairs s) a b) t)
+  where
+    either : (inside (toldGroups s) a b ≡ true) ⊎ (crossed (toldGroups s) (toldPairs s) a b ≡ true) → placed (toldGroups s) a ≡ true
+    either (inl x) = inside-placed (toldGroups s) a b x
+    either (inr x) = crossed-placed (toldGroups s) (toldPairs s) a b x
+
 pub told-small : (s : List ℕ) → accepted s ≡ true → (a b : ℕ) → toldEdge s a b ≡ true → a < u16At s 2
-unfolding toldEdge toldGroups
 told-small s t a b u =
     let k = accepted-out s t in
-    placed-small (u16At s 2) (u16At s 6) (record { members = u16At s 4; groups = u16At s 6 }) s 8 (k .next) (k .left) (k .groups) a
-    (either (or-cases (inside (groupsFrom s 8 (u16At s 6)) a b) (crossed (groupsFrom s 8 (u16At s 6)) (toldPairs s) a b) u))
-  where
-    either : (inside (groupsFrom s 8 (u16At s 6)) a b ≡ true) ⊎ (crossed (groupsFrom s 8 (u16At s 6)) (toldPairs s) a b ≡ true) → placed (groupsFrom s 8 (u16At s 6)) a ≡ true
-    either (inl x) = inside-placed (groupsFrom s 8 (u16At s 6)) a b x
-    either (inr x) = crossed-placed (groupsFrom s 8 (u16At s 6)) (toldPairs s) a b x
+    placed-small (u16At s 2) (u16At s 6) (record { members = u16At s 4; groups = u16At s 6 }) s 8 (k .next) (k .left) (k .groups) a (unfold toldGroups in told-placed s a b u)
 
 -- superedges in order
 abbrev pub Ordered : ℕ → ℕ → List (ℕ × ℕ) → Type 0

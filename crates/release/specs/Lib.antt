@@ -1,6 +1,6 @@
 pub mod Release
 pub mod Fill
 pub mod FillLaws
+pub mod TableLaws
 pub mod ReleaseLaws
 pub mod ReadLaws
-pub mod TableLaws

@@ -3,12 +3,13 @@ use mathlib.Core.Path.{_≡_, refl, sym, ap, ap₂, _∙_, fun-ext}
 use mathlib.Core.Bool.{Bool, true, false, cond, not, _&&_}
 use mathlib.Core.List.{List, [], _∷_}
 use mathlib.Core.Logic.{_≢_, _⊎_, inl, inr}
-use Prim.Native.Nat.{ℕ, _+_, _*_, _/_, _%_, _≤_, _<_}
+use Prim.Native.Nat.{ℕ, _+_, _*_, _/_, _%_, _^_, _≤_, _<_}
 use native.Mathlib.Omega.{arith}
 use lib.Dec.{eqb, ltb}
-use lib.ListN.{length, getD, take}
+use lib.ListN.{List·getD-eq-default, length, getD, take}
+use lib.Pow.{pow-pos}
 use lib.Seq.{getD-take, length-take-le}
-use borrow.Author.Tests.{ltb-true, lt-ltb, le-ltb, eq-eqb, ne-eqb, not-true, not-false}
+use borrow.Author.Tests.{ltb-true, ltb-false, lt-ltb, le-ltb, eqb-true, eq-eqb, ne-eqb, not-true, not-false}
 use Rattle.model.specs.Graph.{Graph, Proper, maxNodes, rowWords}
 use Rattle.model.specs.Lists.{sameList}
 use Rattle.model.specs.Tables.{Tables, tablesOf, graphOf, edgeBit, bitAt, nodeNumber, holds}
@@ -26,14 +27,16 @@ use Rattle.index.specs.Index.{opened, listed, tableReasons}
 use Rattle.index.specs.IndexLaws.{table-refused, table-rest, call-refused, call-done}
 use Rattle.index.specs.Update.{Held}
 use Rattle.index.specs.UpdateLaws.{held-sized}
+use Rattle.rows.specs.Rows.{Words}
 use Rattle.rows.specs.Search.{edgesIn}
-use Rattle.visible.specs.Visible.{markedGraph, Drawn}
+use Rattle.visible.specs.Visible.{Apart, Drawn, markedGraph, shown}
 use Rattle.layout.specs.File.{Partition, fileOf, writtenFile}
 use Rattle.layout.specs.Truth.{Truth}
 use Rattle.layout.specs.TruthLaws.{truth-partition, written-is, file-is}
 use Rattle.model.specs.ReadBackLaws.{visible-inside}
 use Rattle.release.specs.Release.{told, Marks, Judged}
-use Rattle.release.specs.Fill.{MarksTaken}
+use Rattle.release.specs.Fill.{Copied, MarksTaken}
+use Rattle.release.specs.TableLaws.{filled-within}
 
 -- the graph of edges and marks is that of the tables
 pub marks-graph : (n : ℕ) (t : Tables) (hidden : List ℕ) → Marks n (t .nodes) hidden → graphIn n (t .edges) hidden ≡ graphOf n t
@@ -185,6 +188,13 @@ pub take-bit : (n : ℕ) (edges : List ℕ) (p q : ℕ) → p < n → q < 512 �
 unfolding edgeBit
 take-bit n edges p q hp hq = ap (λ (x : ℕ). bitAt x (q % 64)) (getD-take (8 * n) edges (8 * p + q / 64) 0 (omega arith))
 
+pub take-words : (k : ℕ) (t : List ℕ) → k ≤ length t → Words t → Words (take k t)
+take-words k t h w i = step (decide (ltb i k))
+  where
+    step : (ltb i k ≡ true) ⊎ (ltb i k ≡ false) → getD (take k t) i 0 < 2 ^ 64
+    step (inl x) = rw (getD-take k t i 0 (ltb-true i k x)) (w i)
+    step (inr x) = rw (List·getD-eq-default (take k t) 0 {n = i} (omega (arith, length-take-le k t h, ltb-false i k x))) (pow-pos 64)
+
 pub take-graph : (n : ℕ) (edges hidden : List ℕ) → n ≤ maxNodes → graphIn n (take (rowWords * n) edges) hidden ≡ graphIn n edges hidden
 unfolding graphIn
 take-graph n edges hidden small = λ i. record { nodeCount = n; edge = fun-ext (λ p. fun-ext (λ q. bit p q (decide (ltb p n)) (decide (ltb q n)))) i; hidden = λ p. ltb p n && eqb (getD hidden p 0) 1 }
@@ -201,13 +211,24 @@ module _ (n : ℕ) {edges hidden : List ℕ} (h : HoldsGraph n edges hidden) (l 
   pub taken-size : rowWords * n ≡ length (take (rowWords * n) edges)
   taken-size = sym (length-take-le (rowWords * n) edges (omega (arith, held-small)))
 
-  pub drawn-decoded : Drawn n (take (rowWords * n) edges) hidden
-  drawn-decoded = record {
-    small = held-small;
+  -- they need no mask
+  pub apart-decoded : Words edges → Apart n (take (rowWords * n) edges) hidden
+  apart-decoded w = record {
     proper = rw (marked-in n (take (rowWords * n) edges) hidden ∙ take-graph n edges hidden held-small) (h .proper);
-    size = sym taken-size;
+    within = filled-within n h (take (rowWords * n) edges) (sym taken-size) copied (take-words (rowWords * n) edges (omega (arith, held-small)) w);
     marked = omega (arith, held-small);
+    none = λ p q e. none p q e (decide (ltb p n)) (decide (ltb q n));
   }
+    where
+      copied : Copied (length (take (rowWords * n) edges)) edges (take (rowWords * n) edges) (take (rowWords * n) edges)
+      copied = record { size = refl; words = λ j l. getD-take (8 * n) edges j 0 (omega (arith, taken-size)) }
+
+      none : (p q : ℕ) → shown hidden q ≡ false → (ltb p n ≡ true) ⊎ (ltb p n ≡ false) → (ltb q n ≡ true) ⊎ (ltb q n ≡ false) → edgesIn n (take (rowWords * n) edges) p q ≡ false
+      none p q e (inl x) (inl y) =
+          let b : q < 512 = omega (arith, held-small, ltb-true q n y) in
+          unfold edgesIn in rw (x, y) (take-bit n edges p q (ltb-true p n x) b ∙ h .apart p q b (eqb-true (getD hidden q 0) 1 (not-false (eqb (getD hidden q 0) 1) (unfold shown in e))))
+      none p q e (inl x) (inr y) = unfold edgesIn in rw (x, y)
+      none p q e (inr x) y = unfold edgesIn in rw x
 
   pub same-release : {lst : List ℕ} → Truth (markedGraph n (take (rowWords * n) edges) hidden) lst (take (rowWords * n) edges) → (s : List ℕ) (b : Bool) → b ≡ sameList s (fileOf n lst (take (rowWords * n) edges)) → b ≡ sameList s (release (graphIn n edges hidden))
   same-release w s b e = e ∙ visible-file n (take (rowWords * n) edges) hidden w s ∙ ap (λ (g : Graph). sameList s (release g)) (take-graph n edges hidden held-small)

@@ -20,7 +20,7 @@ use Rattle.visible.specs.Visible.{Within}
 use Rattle.reader.specs.Decoding.{graphIn, HoldsGraph}
 use Rattle.release.specs.Fill.{Copied, MarksPut}
 
-module _ (n : ℕ) {drawn hidden : List ℕ} (h : HoldsGraph n drawn hidden) (es ns : List ℕ) {es₁ ns₁ : List ℕ} (le : length es ≡ rowWords * n) (ln : length ns ≡ nodeNumbers * n) (a : Copied (length es) drawn es es₁) (w : Words es₁) (m : MarksPut n hidden ns ns₁) where
+module _ (n : ℕ) {drawn hidden : List ℕ} (h : HoldsGraph n drawn hidden) (es : List ℕ) {es₁ : List ℕ} (le : length es ≡ rowWords * n) (a : Copied (length es) drawn es es₁) (w : Words es₁) where
   abbrev g : Graph
   g = graphIn n drawn hidden
 
@@ -56,7 +56,7 @@ module _ (n : ℕ) {drawn hidden : List ℕ} (h : HoldsGraph n drawn hidden) (es
   pub filled-within : Within n es₁
   filled-within = record { small = small; edges-of = filled-edges ∙ unfold edgesOf rowOf graphIn in ap (λ (e : ℕ → ℕ → Bool). edgesOf (with e)) (sym same-edge) }
 
-  module _ {ks₁ : List ℕ} (k : ks₁ ≡ keysOf (rowsGraph n es₁)) where
+  module _ (ns : List ℕ) {ns₁ ks₁ : List ℕ} (ln : length ns ≡ nodeNumbers * n) (m : MarksPut n hidden ns ns₁) (k : ks₁ ≡ keysOf (rowsGraph n es₁)) where
     filled-keys : ks₁ ≡ keysOf (graphIn n drawn hidden)
     unfolding keysOf keyPair graphIn
     filled-keys = k ∙ ap (λ (e : ℕ → ℕ → Bool). keysOf (with e)) same-edge

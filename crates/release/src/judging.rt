@@ -5,7 +5,6 @@ ghost use Rattle.model.specs.Lists.{sameList};
 ghost use Rattle.model.specs.Release.{release};
 ghost use Rattle.reader.specs.Decoding.{HoldsGraph, graphIn};
 ghost use Rattle.release.specs.Release.{Judged};
-use crate::least_members;
 use reader::Decoded;
 use rows::Graph;
 
@@ -17,7 +16,7 @@ fn is_same(file: &[u8], edges: &[u64], hidden: &[u16], n: usize) -> bool
     let end = Graph::ROW_WORDS * n;
     let rows = &edges[..end];
     let mut least = [0u16; Graph::NODES];
-    least_members(rows, hidden, n, &mut least);
+    visible::find_groups(rows, hidden, n, &mut least);
     compare::same_file(n, &least, rows, file)
 }
 

@@ -22,7 +22,7 @@ sum-keys-requires c κs =
     let m = c .before .before .before .before in
     let e = m .before .before .before .before in
     let pre = e .before .before .before .before .before .before .before .pre in
-    (filled-within _ (pre .0) _ _ (pre .3 .edges) (pre .3 .nodes) (e .copy-words .ensures) (λ i. m .before .before .slice-known4 .given i .fits) (m .put-marks .ensures), pre .3 .keys)
+    (filled-within _ (pre .0) _ (pre .3 .edges) (e .copy-words .ensures) (λ i. m .before .before .slice-known4 .given i .fits), pre .3 .keys)
 
 build-requires : tie.Need-build-requires
 build-requires c κs =
@@ -30,7 +30,7 @@ build-requires c κs =
     let m = k .before .before .before .before .before in
     let e = m .before .before .before .before in
     let pre = e .before .before .before .before .before .before .before .pre in
-    filled-bare _ (pre .0) _ _ (pre .3 .edges) (pre .3 .nodes) (e .copy-words .ensures) (λ i. m .before .before .slice-known4 .given i .fits) (m .put-marks .ensures) (k .sum-keys .ensures)
+    filled-bare _ (pre .0) _ (pre .3 .edges) (e .copy-words .ensures) (λ i. m .before .before .slice-known4 .given i .fits) _ (pre .3 .nodes) (m .put-marks .ensures) (k .sum-keys .ensures)
 
 same-length : tie.Need-same-length
 same-length c = search needs
@@ -48,7 +48,7 @@ returns c =
     let m = k .before .before .before .before .before in
     let e = m .before .before .before .before in
     let pre = e .before .before .before .before .before .before .before .pre in
-    filled-tables _ (pre .0) _ _ (pre .3 .edges) (pre .3 .nodes) (e .copy-words .ensures) (λ i. m .before .before .slice-known4 .given i .fits) (m .put-marks .ensures) (k .sum-keys .ensures) (b .build .ensures)
+    filled-tables _ (pre .0) _ (pre .3 .edges) (e .copy-words .ensures) (λ i. m .before .before .slice-known4 .given i .fits) _ (pre .3 .nodes) (m .put-marks .ensures) (k .sum-keys .ensures) (b .build .ensures)
 
 pub fill-spec : {M : Type 1} → statement M
 fill-spec =
