@@ -7,7 +7,7 @@ use Prim.Native.Nat.{ℕ, _+_, _*_, _/_, _%_, _^_, _≤_, _<_}
 use native.Mathlib.Omega.{arith}
 use lib.Bits.{and-le-r, bitAnd}
 use lib.Dec.{eqb, ltb}
-use lib.ListN.{List·getD-eq-default, getD, length, length-set, set}
+use lib.ListN.{List·getD-eq-default, getD, getD-replicate, length, length-set, replicate, set}
 use lib.Pow.{pow-pos}
 use lib.Seq.{getD-set-other, getD-set-same}
 use borrow.Author.Tests.{eqb-false, eqb-true, lt-ltb, ltb-false, ltb-true}
@@ -26,7 +26,7 @@ use Rattle.rows.specs.Search.{edgesIn}
 use Rattle.rows.specs.EdgeLaws.{edges-by-bits}
 use Rattle.rows.specs.SearchLaws.{edges-in, ready}
 use Rattle.checks.specs.WalkLaws.{bit-zero}
-use Rattle.visible.specs.Visible.{Apart, Drawn, Within, keptWord, markedGraph, maskedWord, shown}
+use Rattle.visible.specs.Visible.{Apart, Drawn, RowPut, Within, cutWord, keptWord, markedGraph, maskedWord, shown}
 
 pub visible-is : (n : ℕ) (edges marks : List ℕ) (p : ℕ) → isVisible (markedGraph n edges marks) p ≡ (ltb p n && shown marks p)
 unfolding isVisible markedGraph shown
@@ -36,32 +36,57 @@ visible-is n edges marks p = once (ltb p n) (eqb (getD marks p 0) 1)
     once true w = refl
     once false w = refl
 
--- the branches of a masked word
-pub kept-shown : (mask marks : List ℕ) (p w : ℕ) (b : Bool) → b ≡ shown marks p → b ≡ true → getD mask w 0 ≡ keptWord mask marks p w
-unfolding keptWord
-kept-shown mask marks p w b e t = rw (sym e ∙ t)
+-- the words of a row, one after the other
+pub row-none : (p : ℕ) (word : ℕ → ℕ) (t : List ℕ) → RowPut p 0 word t t
+row-none p word t = record { size = refl; words = λ w h. absurd (omega arith); earlier = λ i h. refl }
 
-pub kept-hidden : (mask marks : List ℕ) (p w : ℕ) (b : Bool) → b ≡ shown marks p → b ≡ false → 0 ≡ keptWord mask marks p w
-unfolding keptWord
-kept-hidden mask marks p w b e t = rw (sym e ∙ t)
+pub row-more : {p w x : ℕ} {word : ℕ → ℕ} {t t₁ : List ℕ} → RowPut p w word t t₁ → 8 * p + w < length t → x ≡ word w → RowPut p (w + 1) word t (set t₁ (8 * p + w) x)
+row-more {p} {w} {x} {word} {t} {t₁} r l e = record {
+  size = length-set t₁ (8 * p + w) x ∙ r .size;
+  words = λ v h. step v h (decide (eqb v w));
+  earlier = λ i h. getD-set-other t₁ (8 * p + w) i x 0 (omega arith) ∙ r .earlier i h;
+}
+  where
+    step : (v : ℕ) → v < w + 1 → (eqb v w ≡ true) ⊎ (eqb v w ≡ false) → getD (set t₁ (8 * p + w) x) (8 * p + v) 0 ≡ word v
+    step v h (inl s) = rw (eqb-true v w s) (getD-set-same t₁ (8 * p + w) x 0 (omega (arith, r .size)) ∙ e)
+    step v h (inr s) =
+        let d : v ≡ w → ⊥ = eqb-false v w s in
+        getD-set-other t₁ (8 * p + w) (8 * p + v) x 0 (omega arith) ∙ r .words v (omega arith)
 
--- the first i words are masked
+pub row-cut : (edges kept : List ℕ) {p w : ℕ} {t t₁ : List ℕ} → RowPut p w (cutWord edges kept p) t t₁ → 8 * p + w < length t → RowPut p (w + 1) (cutWord edges kept p) t (set t₁ (8 * p + w) (bitAnd (getD edges (8 * p + w) 0) (getD kept w 0)))
+row-cut edges kept r l = row-more r l (unfold cutWord in refl)
+
+pub row-whole : {p k : ℕ} {word : ℕ → ℕ} {t after : List ℕ} → RowPut p k word t after → 8 ≤ k → RowPut p 8 word t after
+row-whole r l = record { size = r .size; words = λ w h. r .words w (omega arith); earlier = r .earlier }
+
+row-same : {p k : ℕ} {word other : ℕ → ℕ} {t after : List ℕ} → ((w : ℕ) → w < k → word w ≡ other w) → RowPut p k word t after → RowPut p k other t after
+row-same h r = record { size = r .size; words = λ w l. r .words w l ∙ h w l; earlier = r .earlier }
+
+-- a visible node's row, and a hidden one's
+pub row-shown : (edges mask marks : List ℕ) {t after : List ℕ} (p : ℕ) (b : Bool) → b ≡ shown marks p → b ≡ true → RowPut p 8 (cutWord edges mask p) t after → RowPut p 8 (maskedWord edges mask marks p) t after
+unfolding cutWord maskedWord keptWord
+row-shown edges mask marks p b e t = row-same (λ w l. rw (sym e ∙ t))
+
+pub row-hidden : (edges mask marks : List ℕ) {t after : List ℕ} (p : ℕ) (b : Bool) → b ≡ shown marks p → b ≡ false → RowPut p 8 (cutWord edges (replicate 8 0) p) t after → RowPut p 8 (maskedWord edges mask marks p) t after
+unfolding cutWord maskedWord keptWord
+row-hidden edges mask marks p b e t = row-same (λ w l. rw (sym e ∙ t) (ap (bitAnd (getD edges (8 * p + w) 0)) (getD-replicate 8 w 0 0 l)))
+
+-- the first i rows are masked
 pub record Masking (edges mask marks : List ℕ) (i : ℕ) (t after : List ℕ) : Type 0 where
   pub size : length after ≡ length t
-  pub words : (j : ℕ) → j < i → getD after j 0 ≡ maskedWord edges mask marks j
+  pub words : (p w : ℕ) → p < i → w < 8 → getD after (8 * p + w) 0 ≡ maskedWord edges mask marks p w
 
 pub masking-start : (edges mask marks t : List ℕ) → Masking edges mask marks 0 t t
-masking-start edges mask marks t = record { size = refl; words = λ j h. absurd (omega arith) }
+masking-start edges mask marks t = record { size = refl; words = λ p w h. absurd (omega arith) }
 
-pub masking-more : {edges mask marks : List ℕ} {i x : ℕ} {t t₁ : List ℕ} → Masking edges mask marks i t t₁ → i < length t → x ≡ keptWord mask marks (i / 8) (i % 8) → Masking edges mask marks (i + 1) t (set t₁ i (bitAnd (getD edges i 0) x))
-unfolding maskedWord
-masking-more {edges} {mask} {marks} {i} {x} {t} {t₁} m l e = record { size = length-set t₁ i (bitAnd (getD edges i 0) x) ∙ m .size; words = λ j h. step j h (decide (eqb j i)) }
+pub masking-more : {edges mask marks : List ℕ} {i : ℕ} {t t₁ t₂ : List ℕ} → Masking edges mask marks i t t₁ → RowPut i 8 (maskedWord edges mask marks i) t₁ t₂ → Masking edges mask marks (i + 1) t t₂
+masking-more {edges} {mask} {marks} {i} {t} {t₁} {t₂} m r = record { size = r .size ∙ m .size; words = λ p w h l. step p w h l (decide (eqb p i)) }
   where
-    step : (j : ℕ) → j < i + 1 → (eqb j i ≡ true) ⊎ (eqb j i ≡ false) → getD (set t₁ i (bitAnd (getD edges i 0) x)) j 0 ≡ bitAnd (getD edges j 0) (keptWord mask marks (j / 8) (j % 8))
-    step j h (inl s) = rw (eqb-true j i s) (getD-set-same t₁ i (bitAnd (getD edges i 0) x) 0 (omega (arith, m .size)) ∙ ap (bitAnd (getD edges i 0)) e)
-    step j h (inr s) =
-        let d : j ≡ i → ⊥ = eqb-false j i s in
-        getD-set-other t₁ i j (bitAnd (getD edges i 0) x) 0 d ∙ m .words j (omega arith)
+    step : (p w : ℕ) → p < i + 1 → w < 8 → (eqb p i ≡ true) ⊎ (eqb p i ≡ false) → getD t₂ (8 * p + w) 0 ≡ maskedWord edges mask marks p w
+    step p w h l (inl s) = rw (eqb-true p i s) (r .words w l)
+    step p w h l (inr s) =
+        let d : p ≡ i → ⊥ = eqb-false p i s in
+        r .earlier (8 * p + w) (omega arith) ∙ m .words p w (omega arith) l
 
 kept-lt : (mask marks : List ℕ) (p w : ℕ) → ((i : ℕ) → getD mask i 0 < 2 ^ 64) → keptWord mask marks p w < 2 ^ 64
 unfolding keptWord
@@ -83,7 +108,7 @@ module _ {n : ℕ} {edges marks : List ℕ} (d : Drawn n edges marks) where
   abbrev g : Graph
   g = markedGraph n edges marks
 
-  module _ {mask t after : List ℕ} {i : ℕ} (size : length t ≡ rowWords * n) (chosen : Marking (shown marks) mask n) (m : Masking edges mask marks i t after) (all : rowWords * n ≤ i) where
+  module _ {mask t after : List ℕ} {i : ℕ} (size : length t ≡ rowWords * n) (chosen : Marking (shown marks) mask n) (m : Masking edges mask marks i t after) (all : n ≤ i) where
     word-lt : (j : ℕ) → getD after j 0 < 2 ^ 64
     unfolding maskedWord
     word-lt j = step (decide (ltb j (8 * n)))
@@ -91,7 +116,8 @@ module _ {n : ℕ} {edges marks : List ℕ} (d : Drawn n edges marks) where
         step : (ltb j (8 * n) ≡ true) ⊎ (ltb j (8 * n) ≡ false) → getD after j 0 < 2 ^ 64
         step (inl s) =
             let l : j < 8 * n = ltb-true j (8 * n) s in
-            omega (arith, m .words j (omega arith), and-le-r (getD edges j 0) (keptWord mask marks (j / 8) (j % 8)), kept-lt mask marks (j / 8) (j % 8) (chosen .words))
+            let e : j ≡ 8 * (j / 8) + j % 8 = omega arith in
+            rw e (omega (arith, m .words (j / 8) (j % 8) (omega arith) (omega arith), and-le-r (getD edges (8 * (j / 8) + j % 8) 0) (keptWord mask marks (j / 8) (j % 8)), kept-lt mask marks (j / 8) (j % 8) (chosen .words)))
         step (inr s) = rw (List·getD-eq-default after 0 {n = j} (omega (arith, m .size, ltb-false j (8 * n) s))) (pow-pos 64)
 
     bit-is : (p q : ℕ) → p < n → q < 512 → edgeBit after p q ≡ visibleEdge (markedGraph n edges marks) p q
@@ -108,16 +134,13 @@ module _ {n : ℕ} {edges marks : List ℕ} (d : Drawn n edges marks) where
         sorted false true false v = refl
         sorted false false l v = refl
 
-        kept : bitAt (keptWord mask marks ((8 * p + q / 64) / 8) ((8 * p + q / 64) % 8)) (q % 64) ≡ (shown marks p && (ltb q n && shown marks q))
-        kept =
-            let x : (8 * p + q / 64) / 8 ≡ p = omega arith in
-            let y : (8 * p + q / 64) % 8 ≡ q / 64 = omega arith in
-            ap₂ (λ (a b : ℕ). bitAt (keptWord mask marks a b) (q % 64)) x y ∙ kept-bit mask marks p q ∙ ap (λ (b : Bool). shown marks p && b) (chosen .bits q hq)
+        kept : bitAt (keptWord mask marks p (q / 64)) (q % 64) ≡ (shown marks p && (ltb q n && shown marks q))
+        kept = kept-bit mask marks p q ∙ ap (λ (b : Bool). shown marks p && b) (chosen .bits q hq)
 
         word : edgeBit after p q ≡ (edgeBit edges p q && (shown marks p && (ltb q n && shown marks q)))
         word =
-            ap (λ (x : ℕ). bitAt x (q % 64)) (m .words (8 * p + q / 64) (omega arith))
-            ∙ bit-and (getD edges (8 * p + q / 64) 0) (keptWord mask marks ((8 * p + q / 64) / 8) ((8 * p + q / 64) % 8)) (q % 64)
+            ap (λ (x : ℕ). bitAt x (q % 64)) (m .words p (q / 64) (omega arith) (omega arith))
+            ∙ bit-and (getD edges (8 * p + q / 64) 0) (keptWord mask marks p (q / 64)) (q % 64)
             ∙ ap (λ (b : Bool). edgeBit edges p q && b) kept
 
     pub masking-done : after ≡ edgesOf (visiblePart (markedGraph n edges marks))

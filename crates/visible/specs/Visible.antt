@@ -2,7 +2,7 @@
 use mathlib.Core.Path.{_≡_}
 use mathlib.Core.Bool.{Bool, false, not, cond, _&&_}
 use mathlib.Core.List.{List}
-use Prim.Native.Nat.{ℕ, _+_, _*_, _/_, _%_, _^_, _≤_}
+use Prim.Native.Nat.{ℕ, _+_, _*_, _%_, _^_, _≤_, _<_}
 use lib.Bits.{bitAnd}
 use lib.Dec.{eqb, ltb}
 use lib.ListN.{length, getD, set}
@@ -27,13 +27,23 @@ pub record Drawn (n : ℕ) (edges marks : List ℕ) : Type 0 where
 unfoldable pub shown : List ℕ → ℕ → Bool
 shown marks q = not (eqb (getD marks q 0) 1)
 
+-- word w of node p's row, of which only the nodes of a set are kept
+unfoldable pub cutWord : List ℕ → List ℕ → ℕ → ℕ → ℕ
+cutWord edges set p w = bitAnd (getD edges (rowWords * p + w) 0) (getD set w 0)
+
 -- what word w of node p's row may keep, of the visible nodes as a set of bits
 unfoldable pub keptWord : List ℕ → List ℕ → ℕ → ℕ → ℕ
 keptWord set marks p w = cond (shown marks p) (getD set w 0) 0
 
--- word i of the edge table, masked
-unfoldable pub maskedWord : List ℕ → List ℕ → List ℕ → ℕ → ℕ
-maskedWord edges set marks i = bitAnd (getD edges i 0) (keptWord set marks (i / rowWords) (i % rowWords))
+-- word w of node p's row, masked
+unfoldable pub maskedWord : List ℕ → List ℕ → List ℕ → ℕ → ℕ → ℕ
+maskedWord edges set marks p w = bitAnd (getD edges (rowWords * p + w) 0) (keptWord set marks p w)
+
+-- the first k words of row p are written, the rows before it are as they were
+pub record RowPut (p k : ℕ) (word : ℕ → ℕ) (t after : List ℕ) : Type 0 where
+  pub size : length after ≡ length t
+  pub words : (w : ℕ) → w < k → getD after (rowWords * p + w) 0 ≡ word w
+  pub earlier : (i : ℕ) → i < rowWords * p → getD after i 0 ≡ getD t i 0
 
 -- an edge table without a bit for a number n or above
 pub record Within (n : ℕ) (edges : List ℕ) : Type 0 where

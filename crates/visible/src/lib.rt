@@ -11,7 +11,7 @@ ghost use Rattle.model.specs.Release.{visiblePart};
 ghost use Rattle.layout.specs.Truth.{Truth};
 ghost use Rattle.layout.specs.WordLaws.{Marking};
 ghost use Rattle.rows.specs.Search.{edgesIn, graphIn, ownBit};
-ghost use Rattle.visible.specs.Visible.{Apart, Drawn, KeysPut, Within, keptWord, leastVisible, markedGraph, shown};
+ghost use Rattle.visible.specs.Visible.{Apart, Drawn, KeysPut, RowPut, Within, cutWord, leastVisible, markedGraph, maskedWord, shown};
 ghost use Rattle.visible.specs.Chains.{Chains, Entered, Links, Met, Sought, alike, mix, slotOf, slots};
 use rows::Graph;
 
@@ -44,15 +44,27 @@ fn visible_set(hidden: &[u16], n: usize) -> [u64; 8]
     set
 }
 
-// What word w of node p's row may keep: the visible nodes if p is visible, nothing if not.
-fn kept(set: &[u64; 8], hidden: &[u16], p: usize, w: usize) -> u64
-    requires { ⌜ (w < rowWords) × (p < length (now hidden)) ⌝ }
-    ensures { λ r. ⌜ r ≡ keptWord (now (set .entry)) (now (hidden .entry)) p w ⌝ }
+// Row p, of which only the nodes of a set are kept.
+fn mask_row(edges: &[u64], set: &[u64; 8], p: usize, masked: &mut [u64])
+    requires { ⌜ (p < maxNodes) × (rowWords * p + rowWords ≤ length (now edges)) × (rowWords * p + rowWords ≤ length (now masked)) ⌝ }
+    ensures { λ _. ⌜ RowPut p rowWords (cutWord (now (edges .entry)) (now (set .entry)) p) (now (masked .entry)) (now (masked .exit)) ⌝ }
+{
+    let a = Graph::ROW_WORDS * p;
+    for w in 0..8 {
+        masked[a + w] = edges[a + w] & set[w];
+    }
+}
+
+// A visible node keeps its edges to visible nodes, a hidden one none.
+fn mask_node(edges: &[u64], hidden: &[u16], set: &[u64; 8], p: usize, masked: &mut [u64])
+    requires { ⌜ (p < maxNodes) × (p < length (now hidden)) × (rowWords * p + rowWords ≤ length (now edges)) × (rowWords * p + rowWords ≤ length (now masked)) ⌝ }
+    ensures { λ _. ⌜ RowPut p rowWords (maskedWord (now (edges .entry)) (now (set .entry)) (now (hidden .entry)) p) (now (masked .entry)) (now (masked .exit)) ⌝ }
 {
     if is_visible(hidden, p) {
-        return set[w];
+        mask_row(edges, set, p, masked);
+        return;
     }
-    0
+    mask_row(edges, &[0u64; 8], p, masked);
 }
 
 // The edges between visible nodes.
@@ -61,8 +73,8 @@ fn mask_edges(edges: &[u64], hidden: &[u16], n: usize, masked: &mut [u64])
     ensures { λ _. ⌜ now (masked .exit) ≡ edgesOf (visiblePart (markedGraph n (now (edges .entry)) (now (hidden .entry)))) ⌝ }
 {
     let set = visible_set(hidden, n);
-    for i in 0..Graph::ROW_WORDS * n {
-        masked[i] = edges[i] & kept(&set, hidden, i / Graph::ROW_WORDS, i % Graph::ROW_WORDS);
+    for p in 0..n {
+        mask_node(edges, hidden, &set, p, masked);
     }
 }
 

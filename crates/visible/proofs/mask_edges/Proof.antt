@@ -1,50 +1,37 @@
--- The invariant: the first i words are masked.
-use Prim.Native.Nat.{_*_, _-_, _≤_}
+-- The invariant: the first p rows are masked.
+use Prim.Native.Nat.{_-_, _≤_}
 use native.Mathlib.Omega.{arith}
 use Rattle.visible.specs.MaskLaws.{Masking, masking-done, masking-more, masking-start}
 use Rattle.visible.proofs.mask_edges.Statement.{statement}
 use Rattle.visible.proofs.mask_edges.Tie as tie
 
 abbrev Inv-loop : tie.InvT-loop
-Inv-loop edges hidden n masked₀ set i₀ i-end masked i = (i ≤ 8 * n) × Masking edges set hidden i masked₀ masked
+Inv-loop edges hidden n masked₀ set p₀ masked p = (p ≤ n) × Masking edges set hidden p masked₀ masked
 
 abbrev μ-loop : tie.MeasureT-loop
-μ-loop edges hidden n masked₀ set i₀ i-end masked i = 8 * n - i
+μ-loop edges hidden n masked₀ set p₀ masked p = n - p
 
 visible-set-requires : tie.Need-visible-set-requires Inv-loop μ-loop
 visible-set-requires c κs = let d = c .before .before .before .pre .0 in (d .small, d .marked)
 
-mul-i-end : tie.Need-mul-i-end Inv-loop μ-loop
-mul-i-end c = omega arith
-
 loop-holds : tie.Need-loop-holds Inv-loop μ-loop
 loop-holds c = (omega arith, masking-start _ _ _ _)
 
-mul-masked : tie.Need-mul-masked Inv-loop μ-loop
-mul-masked c = omega arith
+mask-node-requires : tie.Need-mask-node-requires Inv-loop μ-loop
+mask-node-requires c κs =
+    let head = c .before .before .before in
+    let pre = head .before .before .before .before .before .pre in
+    let l = c .before .before .loop-test .taken in
+    (omega (arith, pre .0 .small), omega (arith, pre .0 .marked), omega (arith, pre .0 .size), omega (arith, pre .1, head .loop .inv .1 .size))
 
-shared-slice-read-masked : tie.Need-shared-slice-read-masked Inv-loop μ-loop
-shared-slice-read-masked c = omega (arith, c .before .before .before .before .before .before .before .pre .0 .size)
-
-kept-requires : tie.Need-kept-requires Inv-loop μ-loop
-kept-requires c κs = (omega arith, omega (arith, c .before .before .before .before .before .before .before .before .pre .0 .marked))
-
-mul-masked-2 : tie.Need-mul-masked-2 Inv-loop μ-loop
-mul-masked-2 c = omega arith
-
-slice-write-masked : tie.Need-slice-write-masked Inv-loop μ-loop
-slice-write-masked c = omega (arith, c .before .before .before .before .loop .inv .1 .size, c .before .before .before .before .before .before .before .before .before .pre .1)
-
-add-i : tie.Need-add-i Inv-loop μ-loop
-add-i c = omega arith
+add-p : tie.Need-add-p Inv-loop μ-loop
+add-p c = omega arith
 
 loop-less : tie.Need-loop-less Inv-loop μ-loop
 loop-less c = omega arith
 
 loop-again : tie.Need-loop-again Inv-loop μ-loop
-loop-again c =
-    let head = c .before .before .before .before in
-    (omega arith, masking-more (head .loop .inv .1) (omega (arith, head .before .before .before .before .before .pre .1, c .before .before .before .loop-test .taken)) (c .kept .ensures))
+loop-again c = (omega arith, masking-more (c .before .before .before .before .before .before .loop .inv .1) (c .before .before .mask-node .ensures))
 
 same-length : tie.Need-same-length Inv-loop μ-loop
 same-length c = c .before .loop .inv .1 .size
@@ -62,14 +49,9 @@ mask-edges-spec =
     Inv-loop
     μ-loop
     visible-set-requires
-    mul-i-end
     loop-holds
-    mul-masked
-    shared-slice-read-masked
-    kept-requires
-    mul-masked-2
-    slice-write-masked
-    add-i
+    mask-node-requires
+    add-p
     loop-less
     loop-again
     same-length
