@@ -8,7 +8,7 @@ use native.Mathlib.Omega.{arith}
 use denote.Enum.Declared.{tagOf}
 use types.Run.{OneOf}
 use Rattle.reader.specs.declared.Record.{Record}
-use Rattle.reader.specs.declared.Record.the-variants.{Head, Group, Superedge, End}
+use Rattle.reader.specs.declared.Record.the-variants.{Head, Group, End}
 use Rattle.reader.proofs.Record.{the-type}
 
 -- by the numbers of their variants
@@ -18,17 +18,11 @@ not-a-group i t q count e = go (rw e at t)
     go : OneOf (0 ∷ 2 ∷ 3 ∷ 4 ∷ []) (tagOf the-type (Group q count)) → ⊥
     go = ⊎-elim (λ x. omega arith) (⊎-elim (λ x. omega arith) (⊎-elim (λ x. omega arith) (λ x. omega arith)))
 
-pub not-a-superedge : (r : Record) → OneOf (0 ∷ 1 ∷ 4 ∷ []) (tagOf the-type r) → (i j : ℕ) → r ≡ Superedge i j → ⊥
-not-a-superedge r t i j e = go (rw e at t)
-  where
-    go : OneOf (0 ∷ 1 ∷ 4 ∷ []) (tagOf the-type (Superedge i j)) → ⊥
-    go = ⊎-elim (λ x. omega arith) (⊎-elim (λ x. omega arith) (λ x. omega arith))
-
-pub not-the-end : (r : Record) → OneOf (0 ∷ 1 ∷ 4 ∷ []) (tagOf the-type r) → r ≡ End → ⊥
+pub not-the-end : (r : Record) → OneOf (0 ∷ 1 ∷ 2 ∷ 4 ∷ []) (tagOf the-type r) → r ≡ End → ⊥
 not-the-end r t e = go (rw e at t)
   where
-    go : OneOf (0 ∷ 1 ∷ 4 ∷ []) (tagOf the-type End) → ⊥
-    go = ⊎-elim (λ x. omega arith) (⊎-elim (λ x. omega arith) (λ x. omega arith))
+    go : OneOf (0 ∷ 1 ∷ 2 ∷ 4 ∷ []) (tagOf the-type End) → ⊥
+    go = ⊎-elim (λ x. omega arith) (⊎-elim (λ x. omega arith) (⊎-elim (λ x. omega arith) (λ x. omega arith)))
 
 pub not-a-head : (r : Record) → OneOf (1 ∷ 2 ∷ 3 ∷ 4 ∷ []) (tagOf the-type r) → (n m g : ℕ) → r ≡ Head n m g → ⊥
 not-a-head r t n m g e = go (rw e at t)

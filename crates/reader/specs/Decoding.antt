@@ -152,6 +152,10 @@ unfoldable pub superedgesFit : ℕ → Counts → List ℕ → ℕ → ℕ → �
 superedgesFit g c s last zero at = false
 superedgesFit g c s last (suc k) at = onSuperedge (itemIn (drop at s)) (λ i j. follows g last i j && superedgesFit g c s (keyOf i j) k (at + 6)) (spent c && eqb (at + 2) (length s))
 
+-- no superedge, and no more bytes or counts than the end record
+unfoldable pub endsAt : Counts → List ℕ → ℕ → Bool
+endsAt c s at = onSuperedge (itemIn (drop at s)) (λ i j. false) (spent c && eqb (at + 2) (length s))
+
 unfoldable pub pairsFrom : List ℕ → ℕ → ℕ → List (ℕ × ℕ)
 pairsFrom s at k = superedgesAt k (drop at s)
 

@@ -106,7 +106,7 @@ module _ (s : List ℕ) (at count : ℕ) where
 abbrev pub Fits : List ℕ → Record → Type 0
 Fits r (Head n m g) = (8 ≤ length r) × (n ≡ u16At r 2) × (m ≡ u16At r 4) × (g ≡ u16At r 6)
 Fits r (Group q count) = (4 ≤ length r) × (count ≡ u16At r 2) × (q ≡ eqb (getD r 1 0) 0x43)
-Fits r (Superedge i j) = (6 ≤ length r) × (i ≡ u16At r 2) × (j ≡ u16At r 4) × (getD r 0 0 ≡ 0x53)
+Fits r (Superedge i j) = (6 ≤ length r) × (i ≡ u16At r 2) × (j ≡ u16At r 4) × (getD r 0 0 ≡ 0x53) × (isMark r 0x53 0x45 ≡ true)
 Fits r End = (2 ≤ length r) × (getD r 0 0 ≡ 0x45)
 Fits r Malformed = Unit {0}
 
@@ -126,7 +126,7 @@ pub item-fits : (r : List ℕ) → Fits r (itemIn r)
 unfolding itemIn isMark superedgeItem groupItem headItem
 item-fits r =
     cond-fits r (ltb (length r) 2) Malformed _ (λ t. tt) (λ room.
-    cond-fits r (eqb (getD r 0 0) 0x53 && eqb (getD r 1 0) 0x45) (superedgeItem r) _ (λ t. whole-fits r 6 (Superedge (u16At r 2) (u16At r 4)) (λ l. (l, refl, refl, eqb-true (getD r 0 0) 0x53 (and-fst (eqb (getD r 0 0) 0x53) (eqb (getD r 1 0) 0x45) t)))) (λ _.
+    cond-fits r (eqb (getD r 0 0) 0x53 && eqb (getD r 1 0) 0x45) (superedgeItem r) _ (λ t. whole-fits r 6 (Superedge (u16At r 2) (u16At r 4)) (λ l. (l, refl, refl, eqb-true (getD r 0 0) 0x53 (and-fst (eqb (getD r 0 0) 0x53) (eqb (getD r 1 0) 0x45) t), t))) (λ _.
     cond-fits r (eqb (getD r 0 0) 0x47 && eqb (getD r 1 0) 0x49) (groupItem false r) _ (λ t. whole-fits r 4 (Group false (u16At r 2)) (λ l. (l, refl, sym (ne-eqb (getD r 1 0) 0x43 (λ e. omega (arith, eqb-true (getD r 1 0) 0x49 (and-snd (eqb (getD r 0 0) 0x47) (eqb (getD r 1 0) 0x49) t))))))) (λ _.
     cond-fits r (eqb (getD r 0 0) 0x47 && eqb (getD r 1 0) 0x43) (groupItem true r) _ (λ t. whole-fits r 4 (Group true (u16At r 2)) (λ l. (l, refl, sym (and-snd (eqb (getD r 0 0) 0x47) (eqb (getD r 1 0) 0x43) t)))) (λ _.
     cond-fits r (eqb (getD r 0 0) 0x48 && eqb (getD r 1 0) 0x44) (headItem r) _ (λ t. whole-fits r 8 (Head (u16At r 2) (u16At r 4) (u16At r 6)) (λ l. (l, refl, refl, refl))) (λ _.

@@ -1,20 +1,21 @@
 -- Laws of counts and records.
-use mathlib.Core.Path.{_≡_, sym, ap}
+use mathlib.Core.Path.{_≡_, sym, ap, _∙_}
 use mathlib.Core.Bool.{Bool, true, false}
 use mathlib.Core.List.{List, [], _∷_}
 use Prim.Native.Nat.{ℕ, suc, _+_, _*_, _-_, _≤_, _<_}
 use native.Mathlib.Omega.{arith}
-use lib.Dec.{eqb, ltb}
+use lib.Dec.{eqb, ltb, leb}
 use lib.ListN.{length, getD, drop, length-drop}
 use lib.Seq.{getD-drop}
-use borrow.Author.Tests.{eq-eqb, ne-eqb, le-leb, lt-leb, le-ltb, lt-ltb}
+use borrow.Author.Tests.{eq-eqb, ne-eqb, leb-true, le-leb, lt-leb, le-ltb, lt-ltb}
 use Rattle.model.specs.Reading.{u16At}
+use Rattle.model.specs.TestLaws.{and-fst, and-snd}
 use Rattle.reader.specs.declared.Counts.{Counts}
 use Rattle.reader.specs.declared.Lessened.the-variants.{Left, Over}
 use Rattle.reader.specs.declared.Record.{Record}
 use Rattle.reader.specs.declared.Record.the-variants.{Head, Group, Superedge, End, Malformed}
 use Rattle.reader.specs.declared.Read.{Read}
-use Rattle.reader.specs.Records.{lessMember, lessGroup, spent, isMark, whole, headItem, groupItem, superedgeItem, itemIn, sizeOf, readAs, markAt, malformedAt, headAt, groupAt, superedgeAt, recordAt}
+use Rattle.reader.specs.Records.{lessMember, lessGroup, spent, isMark, whole, headItem, groupItem, superedgeItem, itemIn, sizeOf, readAs, markAt, malformedAt, headAt, groupAt, superedgeAt, superedgeHere, recordAt}
 
 pub member-over : (c : Counts) → c .members ≡ 0 → Over ≡ lessMember c
 unfolding lessMember
@@ -131,3 +132,23 @@ module _ (s : List ℕ) (at : ℕ) where
     pub by-none : Marked false 0x53 0x45 → Marked false 0x47 0x49 → Marked false 0x47 0x43 → Marked false 0x48 0x44 → Marked false 0x45 0x4E → malformedAt at ≡ recordAt s at
     unfolding markAt malformedAt headAt groupAt superedgeAt recordAt itemIn
     by-none a b c d e = rw (roomy, ← a, ← b, ← c, ← d, ← e)
+
+  -- a superedge, tested and read in place
+  pub superedge-no : length s < at + 6 → false ≡ superedgeHere s at
+  unfolding superedgeHere
+  superedge-no h = rw (lt-leb (at + 6) (length s) h)
+
+  pub superedge-by : at + 6 ≤ length s → markAt s at (0x53 ∷ 0x45 ∷ []) ≡ superedgeHere s at
+  unfolding superedgeHere
+  superedge-by h = rw (le-leb (at + 6) (length s) h)
+
+  pub superedge-room : true ≡ superedgeHere s at → at + 6 ≤ length s
+  unfolding superedgeHere
+  superedge-room t = leb-true (at + 6) (length s) (and-fst (leb (at + 6) (length s)) (markAt s at (0x53 ∷ 0x45 ∷ [])) (sym t))
+
+  pub superedge-read : (i j : ℕ) → true ≡ superedgeHere s at → i ≡ u16At s (at + 2) → j ≡ u16At s (at + 4) → record { next = at + 6; item = Superedge i j } ≡ recordAt s at
+  unfolding superedgeHere
+  superedge-read i j t a b =
+      let room = superedge-room t in
+      superedge-full i j room a b
+      ∙ by-superedge (omega arith) (sym (and-snd (leb (at + 6) (length s)) (markAt s at (0x53 ∷ 0x45 ∷ [])) (sym t)))

@@ -1,6 +1,6 @@
 -- Document 01, "Release file": the record at the front of bytes, and the head's counts used up one by one.
 use mathlib.Core.Bool.{Bool, true, false, _&&_, cond}
-use mathlib.Core.List.{List}
+use mathlib.Core.List.{List, [], _∷_}
 use Prim.Native.Nat.{ℕ, _+_, _-_}
 use lib.Dec.{eqb, ltb, leb}
 use lib.ListN.{length, getD, drop}
@@ -78,3 +78,7 @@ superedgeAt s at = readAs at (superedgeItem (drop at s))
 
 unfoldable pub recordAt : List ℕ → ℕ → Read
 recordAt s at = readAs at (itemIn (drop at s))
+
+-- a superedge's mark at a place, with all six bytes of the record
+unfoldable pub superedgeHere : List ℕ → ℕ → Bool
+superedgeHere s at = leb (at + 6) (length s) && markAt s at (0x53 ∷ 0x45 ∷ [])

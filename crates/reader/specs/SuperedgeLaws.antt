@@ -1,24 +1,25 @@
 -- Laws of the superedges of a file, read one after the other up to its end.
-use mathlib.Core.Path.{_≡_, refl, sym, ap, _∙_}
+use mathlib.Core.Path.{_≡_, refl, sym, ap, subst, _∙_}
 use mathlib.Core.Bool.{Bool, true, false, _&&_, _||_}
 use mathlib.Core.List.{List, [], _∷_}
 use Prim.Native.Nat.{ℕ, zero, suc, _+_, _*_, _-_, _≤_, _<_}
 use native.Mathlib.Omega.{arith}
 use lib.Dec.{eqb, ltb}
-use lib.ListN.{length, getD, drop, drop-of-length-le}
+use lib.ListN.{length, getD, drop, drop-of-length-le, length-drop}
 use lib.Seq.{drop-drop}
-use borrow.Author.Tests.{eq-eqb, ne-eqb, lt-ltb, le-ltb, ltb-true}
+use borrow.Author.Tests.{eq-eqb, ne-eqb, lt-ltb, le-leb, le-ltb, ltb-true}
 use Rattle.model.specs.Reading.{superedgesAt, u16At}
-use Rattle.model.specs.TestLaws.{and-fst, and-snd, differ}
+use Rattle.model.specs.TestLaws.{and-fst, and-snd, and-true, differ}
 use Rattle.reader.specs.declared.Counts.{Counts}
 use Rattle.reader.specs.declared.Record.{Record}
 use Rattle.reader.specs.declared.Record.the-variants.{Head, Group, Superedge, End, Malformed}
 use Rattle.reader.specs.declared.Read.{Read}
-use Rattle.reader.specs.Records.{itemIn, recordAt, sizeOf, spent}
+use Rattle.reader.specs.Records.{itemIn, markAt, recordAt, sizeOf, spent, superedgeHere}
 use Rattle.reader.specs.Drawing.{Added, joined, membersAt}
-use Rattle.reader.specs.Decoding.{Found, SuperedgesLeft, SuperedgesRead, crossed, follows, keyOf, pairsFrom, superedgesFit}
+use Rattle.reader.specs.Decoding.{Found, SuperedgesLeft, SuperedgesRead, crossed, endsAt, follows, keyOf, pairsFrom, superedgesFit}
 use Rattle.reader.specs.DrawingLaws.{adding-done, adding-start, adding-step}
-use Rattle.reader.specs.DecodingLaws.{fits-at, item-is, next-is}
+use Rattle.reader.specs.DecodingLaws.{Fits, item-fits, item-is, next-is}
+use Rattle.reader.specs.RecordLaws.{superedge-read, superedge-room}
 
 -- the order, tested one condition after the other
 pub not-upward : (g last i j : ℕ) → j ≤ i → false ≡ follows g last i j
@@ -62,82 +63,113 @@ superedges-start g c s gs from edges = record {
 pub superedges-refused : (g : ℕ) (c : Counts) (s : List ℕ) (gs : List (Bool × List ℕ)) (from : ℕ) (edges₀ edges : List ℕ) → length edges ≡ length edges₀ → false ≡ superedgesFit g c s 0 (length s) from → SuperedgesRead g c s gs from edges₀ edges false
 superedges-refused g c s gs from edges₀ edges size e = record { result = e; size = size; drawn = λ t. differ t refl }
 
-module _ (g : ℕ) (c : Counts) (s : List ℕ) (gs : List (Bool × List ℕ)) (from last at : ℕ) (edges₀ edges : List ℕ) where
-  -- past the end of the bytes
-  pub superedges-past : length s ≤ at → SuperedgesLeft g c s gs from last at edges₀ edges → SuperedgesRead g c s gs from edges₀ edges false
-  superedges-past l x = superedges-refused g c s gs from edges₀ edges (x .drawn .size) (sym (none (x .most)) ∙ x .result)
+-- the end record, judged by the record just read
+module _ (c : Counts) (s : List ℕ) (at : ℕ) (r : Read) (read : r ≡ recordAt s at) where
+  pub ends-other : (r .item ≡ End → ⊥) → false ≡ endsAt c s at
+  ends-other h = by-kind (r .item) refl
     where
-      none : (k : ℕ) → superedgesFit g c s last k at ≡ false
-      none zero = unfold superedgesFit in refl
-      none (suc k) = unfold superedgesFit in rw (drop-of-length-le s l) (unfold itemIn in refl)
+      by-kind : (i : Record) → r .item ≡ i → false ≡ endsAt c s at
+      by-kind (Superedge i j) e = unfold endsAt in rw (← item-is s at r read, e)
+      by-kind End e = absurd (h e)
+      by-kind (Head x y z) e = unfold endsAt in rw (← item-is s at r read, e)
+      by-kind (Group x y) e = unfold endsAt in rw (← item-is s at r read, e)
+      by-kind Malformed e = unfold endsAt in rw (← item-is s at r read, e)
 
-  module _ (more : at < length s) (r : Read) (read : r ≡ recordAt s at) (before : SuperedgesLeft g c s gs from last at edges₀ edges) where
-    abbrev f : ℕ
-    f = before .most - 1
+  module _ (end : r .item ≡ End) where
+    pub ends-unspent : false ≡ spent c → false ≡ endsAt c s at
+    unfolding endsAt
+    ends-unspent e = rw (← item-is s at r read, end, ← e)
 
-    is-item : (i : Record) → r .item ≡ i → itemIn (drop at s) ≡ i
-    is-item i e = sym (item-is s at r read) ∙ e
+    pub ends-spent : true ≡ spent c → eqb (r .next) (length s) ≡ endsAt c s at
+    unfolding endsAt
+    ends-spent e =
+        let two : r .next ≡ at + 2 = unfold sizeOf in (next-is s at r read ∙ ap (λ (x : Record). at + sizeOf x) end) in
+        rw (← item-is s at r read, end, ← e, two)
+
+-- where the superedges end
+module _ (s : List ℕ) (at : ℕ) where
+  told-by : (i : Record) → itemIn (drop at s) ≡ i → Fits (drop at s) i
+  told-by i e = subst (Fits (drop at s)) e (item-fits (drop at s))
+
+  no-item : length s ≤ at → itemIn (drop at s) ≡ Malformed
+  no-item l = ap itemIn (drop-of-length-le s l) ∙ (unfold itemIn in refl)
+
+  no-superedge : false ≡ superedgeHere s at → (i j : ℕ) → itemIn (drop at s) ≡ Superedge i j → ⊥
+  unfolding superedgeHere markAt
+  no-superedge h i j e =
+      let f = told-by (Superedge i j) e in
+      differ (and-true (le-leb (at + 6) (length s) (omega (arith, f .0, length-drop at s))) (f .4)) (sym h)
+
+  module _ (c : Counts) where
+    fit-ends : (g last k : ℕ) → length s ≤ at + k → false ≡ superedgeHere s at → superedgesFit g c s last k at ≡ endsAt c s at
+    fit-ends g last zero l h = unfold superedgesFit endsAt in rw (no-item (omega arith))
+    fit-ends g last (suc k) l h = by-kind (itemIn (drop at s)) refl
+      where
+        by-kind : (i : Record) → itemIn (drop at s) ≡ i → superedgesFit g c s last (suc k) at ≡ endsAt c s at
+        by-kind (Superedge i j) e = absurd (no-superedge h i j e)
+        by-kind End e = unfold superedgesFit endsAt in rw e
+        by-kind (Head x y z) e = unfold superedgesFit endsAt in rw e
+        by-kind (Group x y) e = unfold superedgesFit endsAt in rw e
+        by-kind Malformed e = unfold superedgesFit endsAt in rw e
+
+    is-end : endsAt c s at ≡ true → itemIn (drop at s) ≡ End
+    is-end t = by-kind (itemIn (drop at s)) refl
+      where
+        by-kind : (i : Record) → itemIn (drop at s) ≡ i → itemIn (drop at s) ≡ End
+        by-kind (Superedge i j) e = differ t (unfold endsAt in rw e)
+        by-kind End e = e
+        by-kind (Head x y z) e = differ t (unfold endsAt in rw e)
+        by-kind (Group x y) e = differ t (unfold endsAt in rw e)
+        by-kind Malformed e = differ t (unfold endsAt in rw e)
+
+module _ (g : ℕ) (c : Counts) (s : List ℕ) (gs : List (Bool × List ℕ)) (from last at : ℕ) (edges₀ edges : List ℕ) (before : SuperedgesLeft g c s gs from last at edges₀ edges) where
+  abbrev f : ℕ
+  f = before .most - 1
+
+  -- no superedge more: the end record decides
+  pub superedges-end : (r : Bool) → false ≡ superedgeHere s at → r ≡ endsAt c s at → SuperedgesRead g c s gs from edges₀ edges r
+  superedges-end r h e = record {
+    result = e ∙ sym (fit-ends s at c g last (before .most) (before .enough) h) ∙ before .result;
+    size = before .drawn .size;
+    drawn =
+        λ t.
+        let ended = told-by s at End (is-end s at c (sym e ∙ t)) in
+        let most-is : before .most ≡ suc f = omega (arith, before .enough, ended .0, length-drop at s) in
+        adding-done (before .drawn) (λ a b. ap (λ (l : List (ℕ × ℕ)). crossed gs l a b) (ap (pairsFrom s at) most-is ∙ pairs-end s at f (ended .1)) ∙ (unfold crossed in refl));
+  }
+
+  -- a superedge
+  module _ (here : true ≡ superedgeHere s at) (i j : ℕ) (first : i ≡ u16At s (at + 2)) (second : j ≡ u16At s (at + 4)) where
+    is-item : itemIn (drop at s) ≡ Superedge i j
+    is-item = sym (item-is s at (record { next = at + 6; item = Superedge i j }) (superedge-read s at i j here first second))
+
+    told : Fits (drop at s) (Superedge i j)
+    told = told-by s at (Superedge i j) is-item
 
     most-is : before .most ≡ suc f
-    most-is = omega (arith, before .enough)
+    most-is = omega (arith, before .enough, superedge-room s at here)
 
     step : superedgesFit g c s last (suc f) at ≡ superedgesFit g c s 0 (length s) from
     step = rw most-is at (before .result)
 
-    pub other-record : ((i j : ℕ) → r .item ≡ Superedge i j → ⊥) → (r .item ≡ End → ⊥) → SuperedgesRead g c s gs from edges₀ edges false
-    other-record h k = superedges-refused g c s gs from edges₀ edges (before .drawn .size) (sym (by-kind (r .item) refl) ∙ step)
+    goes : superedgesFit g c s last (suc f) at ≡ (follows g last i j && superedgesFit g c s (keyOf i j) f (at + 6))
+    goes = unfold superedgesFit in rw is-item
+
+    pub out-of-order : false ≡ follows g last i j → SuperedgesRead g c s gs from edges₀ edges false
+    out-of-order e = superedges-refused g c s gs from edges₀ edges (before .drawn .size) (sym (goes ∙ rw (← e)) ∙ step)
+
+    pub superedge-more : (n : ℕ) (starts edges′ : List ℕ) → true ≡ follows g last i j → Found n s gs starts g → Added (joined (membersAt s (getD starts i 0)) (membersAt s (getD starts j 0))) edges edges′ → SuperedgesLeft g c s gs from (i * 65536 + j) (at + 6) edges₀ edges′
+    superedge-more n starts edges′ e found x = record {
+      most = f;
+      enough = omega (arith, before .enough);
+      result = unfold keyOf in (sym (goes ∙ rw (← e)) ∙ step);
+      drawn = adding-step (before .drawn) x (λ a b. ap (λ (l : List (ℕ × ℕ)). crossed gs l a b) cons ∙ more-edges a b);
+    }
       where
-        by-kind : (i : Record) → r .item ≡ i → superedgesFit g c s last (suc f) at ≡ false
-        by-kind (Superedge i j) e = absurd (h i j e)
-        by-kind End e = absurd (k e)
-        by-kind (Head x y z) e = unfold superedgesFit in rw (is-item (Head x y z) e)
-        by-kind (Group x y) e = unfold superedgesFit in rw (is-item (Group x y) e)
-        by-kind Malformed e = unfold superedgesFit in rw (is-item Malformed e)
+        cons : pairsFrom s at (before .most) ≡ (i, j) ∷ pairsFrom s (at + 6) f
+        cons = ap (pairsFrom s at) most-is ∙ pairs-step s at f i j (told .3) (told .1) (told .2)
 
-    -- the end record
-    module _ (end : r .item ≡ End) where
-      ends : superedgesFit g c s last (suc f) at ≡ (spent c && eqb (at + 2) (length s))
-      ends = unfold superedgesFit in rw (is-item End end)
-
-      pub not-spent : false ≡ spent c → SuperedgesRead g c s gs from edges₀ edges false
-      not-spent e = superedges-refused g c s gs from edges₀ edges (before .drawn .size) (sym (ends ∙ rw (← e)) ∙ step)
-
-      pub at-end : true ≡ spent c → SuperedgesRead g c s gs from edges₀ edges (eqb (r .next) (length s))
-      at-end e = record {
-        result = sym (ends ∙ rw (← e, ← two)) ∙ step;
-        size = before .drawn .size;
-        drawn = λ t. adding-done (before .drawn) (λ a b. ap (λ (l : List (ℕ × ℕ)). crossed gs l a b) (ap (pairsFrom s at) most-is ∙ pairs-end s at f (fits-at s at r read End end .1)) ∙ (unfold crossed in refl));
-      }
-        where
-          two : r .next ≡ at + 2
-          two = unfold sizeOf in (next-is s at r read ∙ ap (λ (x : Record). at + sizeOf x) end)
-
-    -- a superedge
-    module _ (i j : ℕ) (item : r .item ≡ Superedge i j) where
-      goes : superedgesFit g c s last (suc f) at ≡ (follows g last i j && superedgesFit g c s (keyOf i j) f (at + 6))
-      goes = unfold superedgesFit in rw (is-item (Superedge i j) item)
-
-      pub next-six : r .next ≡ at + 6
-      next-six = unfold sizeOf in (next-is s at r read ∙ ap (λ (x : Record). at + sizeOf x) item)
-
-      pub out-of-order : false ≡ follows g last i j → SuperedgesRead g c s gs from edges₀ edges false
-      out-of-order e = superedges-refused g c s gs from edges₀ edges (before .drawn .size) (sym (goes ∙ rw (← e)) ∙ step)
-
-      pub superedge-more : (n : ℕ) (starts edges′ : List ℕ) → true ≡ follows g last i j → Found n s gs starts g → Added (joined (membersAt s (getD starts i 0)) (membersAt s (getD starts j 0))) edges edges′ → SuperedgesLeft g c s gs from (i * 65536 + j) (r .next) edges₀ edges′
-      superedge-more n starts edges′ e found x = record {
-        most = f;
-        enough = omega (arith, before .enough, next-six);
-        result = rw next-six (unfold keyOf in (sym (goes ∙ rw (← e)) ∙ step));
-        drawn = adding-step (before .drawn) x (λ a b. ap (λ (l : List (ℕ × ℕ)). crossed gs l a b) cons ∙ more-edges a b);
-      }
-        where
-          told : (6 ≤ length (drop at s)) × (i ≡ u16At (drop at s) 2) × (j ≡ u16At (drop at s) 4) × (getD (drop at s) 0 0 ≡ 0x53)
-          told = fits-at s at r read (Superedge i j) item
-
-          cons : pairsFrom s at (before .most) ≡ (i, j) ∷ pairsFrom s (r .next) f
-          cons = ap (pairsFrom s at) most-is ∙ pairs-step s at f i j (told .3) (told .1) (told .2) ∙ ap (λ (y : ℕ). (i, j) ∷ pairsFrom s y f) (sym next-six)
-
-          more-edges : (a b : ℕ) → crossed gs ((i, j) ∷ pairsFrom s (r .next) f) a b ≡ (joined (membersAt s (getD starts i 0)) (membersAt s (getD starts j 0)) a b || crossed gs (pairsFrom s (r .next) f) a b)
-          more-edges a b =
-              unfold crossed in
-              rw (found .members i (omega (arith, upward g last i j e, positioned g last i j e)), found .members j (positioned g last i j e))
+        more-edges : (a b : ℕ) → crossed gs ((i, j) ∷ pairsFrom s (at + 6) f) a b ≡ (joined (membersAt s (getD starts i 0)) (membersAt s (getD starts j 0)) a b || crossed gs (pairsFrom s (at + 6) f) a b)
+        more-edges a b =
+            unfold crossed in
+            rw (found .members i (omega (arith, upward g last i j e, positioned g last i j e)), found .members j (positioned g last i j e))

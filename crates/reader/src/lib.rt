@@ -7,8 +7,8 @@ ghost use lib.ListN.{length, replicate};
 ghost use Rattle.model.specs.Reading.{u16At};
 ghost use Rattle.model.specs.Graph.{rowWords};
 ghost use Rattle.reader.specs.Drawing.{Added, oneBit, oneEdge, onePair, oneRow, rowTo, rowWord, fanTo, across, joined, inner, countAt, membersAt, GroupHere};
-ghost use Rattle.reader.specs.Decoding.{numbersAt, MembersRead, GroupTaken, GroupsRead, groupsFrom, Found, follows, SuperedgesRead, sized, Drawn, Decodes, AfterHead};
-ghost use Rattle.reader.specs.Records.{lessMember, lessGroup, spent, markAt, malformedAt, headAt, groupAt, superedgeAt, recordAt};
+ghost use Rattle.reader.specs.Decoding.{numbersAt, MembersRead, GroupTaken, GroupsRead, groupsFrom, Found, follows, SuperedgesRead, endsAt, sized, Drawn, Decodes, AfterHead};
+ghost use Rattle.reader.specs.Records.{lessMember, lessGroup, spent, markAt, malformedAt, headAt, groupAt, superedgeAt, recordAt, superedgeHere};
 
 // What the head still promises: members and groups not yet read.
 pub struct Counts {
@@ -465,7 +465,7 @@ fn read_groups(
 
 // Whether a superedge stands after the last one, between two different groups, the lower position first.
 fn in_order(g: usize, last: usize, i: usize, j: usize) -> bool
-    requires { ⌜ (i < 65536) × (j < 65536) ⌝ }
+    requires { ⌜ g ≤ 512 ⌝ }
     ensures { λ r. ⌜ r ≡ follows g last i j ⌝ }
 {
     if i >= j {
@@ -477,7 +477,35 @@ fn in_order(g: usize, last: usize, i: usize, j: usize) -> bool
     last < i * 65536 + j
 }
 
-// The superedges of a file up to its end record, where the counts and the bytes end too.
+// Whether a superedge stands at a place, with all its six bytes.
+fn is_superedge(file: &[u8], at: usize) -> bool
+    ensures { λ r. ⌜ r ≡ superedgeHere (now (file .entry)) at ⌝ }
+{
+    if file.len() < 6 {
+        return false;
+    }
+    if file.len() - 6 < at {
+        return false;
+    }
+    is_mark(file, at, b"SE")
+}
+
+// Whether the end record stands at a place, where the counts and the bytes end too.
+fn is_end(file: &[u8], at: usize, counts: Counts) -> bool
+    ensures { λ r. ⌜ r ≡ endsAt counts (now (file .entry)) at ⌝ }
+{
+    let read = read_record(file, at);
+    let item = read.item;
+    let Record::End = item else {
+        return false;
+    };
+    if !counts.is_spent() {
+        return false;
+    }
+    read.next == file.len()
+}
+
+// The superedges of a file up to its end record.
 fn read_superedges(
     file: &[u8],
     from: usize,
@@ -487,37 +515,22 @@ fn read_superedges(
     starts: &[usize],
     edges: &mut [u64],
 ) -> bool
-    requires { ⌜ (n ≤ 512) × (g ≤ length (now starts)) × (4096 ≤ length (now edges)) × Found n (now file) (groupsFrom (now file) 8 g) (now starts) g ⌝ }
+    requires { ⌜ (n ≤ 512) × (g ≤ 512) × (g ≤ length (now starts)) × (4096 ≤ length (now edges)) × Found n (now file) (groupsFrom (now file) 8 g) (now starts) g ⌝ }
     ensures { λ r. ⌜ SuperedgesRead g counts (now (file .entry)) (groupsFrom (now (file .entry)) 8 g) from (now (edges .entry)) (now (edges .exit)) r ⌝ }
 {
     let mut at = from;
     let mut last = 0;
-    while at < file.len() {
-        let read = read_record(file, at);
-        let item = read.item;
-        match item {
-            Record::Superedge { first, second } => {
-                let i = first as usize;
-                let j = second as usize;
-                if !in_order(g, last, i, j) {
-                    return false;
-                }
-                draw_superedge(edges, file, starts[i], starts[j]);
-                last = i * 65536 + j;
-                at = read.next;
-            }
-            Record::End => {
-                if !counts.is_spent() {
-                    return false;
-                }
-                return read.next == file.len();
-            }
-            _ => {
-                return false;
-            }
+    while is_superedge(file, at) {
+        let i = node_at(file, at + 2);
+        let j = node_at(file, at + 4);
+        if !in_order(g, last, i, j) {
+            return false;
         }
+        draw_superedge(edges, file, starts[i], starts[j]);
+        last = i * 65536 + j;
+        at += 6;
     }
-    false
+    is_end(file, at, counts)
 }
 
 // The graph that a file tells, in the lent arrays, or bytes that are no release.

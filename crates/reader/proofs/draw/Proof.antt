@@ -30,7 +30,7 @@ slice-aggregate-read-superedges : tie.Need-slice-aggregate-read-superedges
 slice-aggregate-read-superedges c = search needs
 
 read-superedges-requires : tie.Need-read-superedges-requires
-read-superedges-requires c κs = (omega arith, omega (arith, c .before .before .before .before .before .before .before .before .before .before .read-groups .ensures .places), omega (arith, c .before .before .before .before .before .before .before .before .before .before .read-groups .ensures .rows), body-found _ _ _ _ _ _ _ _ _ _ _ _ (c .before .before .before .before .before .before .before .before .before .before .before .before .before .before .before .before .before .pre .0) (c .before .before .before .before .before .before .before .before .before .before .read-groups .ensures) _ _ (c .before .before .before .next .given .1))
+read-superedges-requires c κs = (omega arith, omega arith, omega (arith, c .before .before .before .before .before .before .before .before .before .before .read-groups .ensures .places), omega (arith, c .before .before .before .before .before .before .before .before .before .before .read-groups .ensures .rows), body-found _ _ _ _ _ _ _ _ _ _ _ _ (c .before .before .before .before .before .before .before .before .before .before .before .before .before .before .before .before .before .pre .0) (c .before .before .before .before .before .before .before .before .before .before .read-groups .ensures) _ _ (c .before .before .before .next .given .1))
 
 same-length-3 : tie.Need-same-length-3
 same-length-3 c = search needs

@@ -5,10 +5,10 @@ use borrow.Author.Tests.{not-false, not-true}
 use lib.ListN.{length}
 use mathlib.Core.Path.{_∙_, sym}
 use native.Mathlib.Omega.{arith}
-use Rattle.reader.proofs.Tags.{not-a-superedge, not-the-end}
 use Rattle.reader.specs.Decoding.{SuperedgesLeft, groupsFrom}
 use Rattle.reader.specs.DrawingLaws.{here-most}
-use Rattle.reader.specs.SuperedgeLaws.{at-end, next-six, not-spent, other-record, out-of-order, positioned, superedge-more, superedges-past, superedges-start, upward}
+use Rattle.reader.specs.RecordLaws.{superedge-room}
+use Rattle.reader.specs.SuperedgeLaws.{out-of-order, positioned, superedge-more, superedges-end, superedges-start, upward}
 use Rattle.reader.proofs.read_superedges.Statement.{statement}
 use Rattle.reader.proofs.read_superedges.Tie as tie
 
@@ -21,88 +21,73 @@ abbrev μ-loop : tie.MeasureT-loop
 loop-holds : tie.Need-loop-holds Inv-loop μ-loop
 loop-holds c = superedges-start _ _ _ _ _ _
 
-read-record-requires : tie.Need-read-record-requires Inv-loop μ-loop
-read-record-requires c κs = search needs
+is-superedge-requires : tie.Need-is-superedge-requires Inv-loop μ-loop
+is-superedge-requires c κs = search needs
 
-enum-known-item : tie.Need-enum-known-item Inv-loop μ-loop
-enum-known-item c = c .match .keys1
+add-node-at : tie.Need-add-node-at Inv-loop μ-loop
+add-node-at c = let room = superedge-room _ _ (sym (c .if1 .taken) ∙ c .before .is-superedge .ensures) in omega arith
 
-cast-i : tie.Need-cast-i Inv-loop μ-loop
-cast-i c = search needs
+node-at-requires : tie.Need-node-at-requires Inv-loop μ-loop
+node-at-requires c κs = let room = superedge-room _ _ (sym (c .if1 .taken) ∙ c .before .is-superedge .ensures) in omega arith
 
-cast-j : tie.Need-cast-j Inv-loop μ-loop
-cast-j c = search needs
+add-node-at-2 : tie.Need-add-node-at-2 Inv-loop μ-loop
+add-node-at-2 c = let room = superedge-room _ _ (sym (c .before .if1 .taken) ∙ c .before .before .is-superedge .ensures) in omega arith
+
+node-at-requires-2 : tie.Need-node-at-requires-2 Inv-loop μ-loop
+node-at-requires-2 c κs = let room = superedge-room _ _ (sym (c .before .if1 .taken) ∙ c .before .before .is-superedge .ensures) in omega arith
 
 in-order-requires : tie.Need-in-order-requires Inv-loop μ-loop
 in-order-requires c κs = search needs
 
 same-length : tie.Need-same-length Inv-loop μ-loop
-same-length c = c .before .before .before .before .before .before .before .loop .inv .drawn .size
+same-length c = c .before .before .before .before .before .before .loop .inv .drawn .size
 
 returns : tie.Need-returns Inv-loop μ-loop
-returns c = out-of-order _ _ _ _ _ _ _ _ _ (c .before .before .before .before .before .before .loop-test .taken) _ (c .before .before .before .before .before .read-record .ensures) (c .before .before .before .before .before .before .before .loop .inv) _ _ (c .before .before .before .item .given .1) (sym (not-true _ (c .if1 .taken)) ∙ c .before .in-order .ensures)
+returns c = out-of-order _ _ _ _ _ _ _ _ _ (c .before .before .before .before .before .before .loop .inv) (sym (c .before .before .before .before .if1 .taken) ∙ c .before .before .before .before .before .is-superedge .ensures) _ _ (c .before .before .before .node-at .ensures) (c .before .before .node-at2 .ensures) (sym (not-true _ (c .if2 .taken)) ∙ c .before .in-order .ensures)
 
 mul-draw-superedge : tie.Need-mul-draw-superedge Inv-loop μ-loop
-mul-draw-superedge c = let e = sym (not-false _ (c .before .if1 .left)) ∙ c .before .before .in-order .ensures in omega (arith, upward _ _ _ _ e, positioned _ _ _ _ e, c .before .before .before .before .before .before .before .before .before .before .before .before .pre .1)
+mul-draw-superedge c = let e = sym (not-false _ (c .before .if2 .left)) ∙ c .before .before .in-order .ensures in omega (arith, upward _ _ _ _ e, positioned _ _ _ _ e, c .before .before .before .before .before .before .before .before .before .before .before .pre .2)
 
 shared-slice-read-draw-superedge : tie.Need-shared-slice-read-draw-superedge Inv-loop μ-loop
-shared-slice-read-draw-superedge c = let e = sym (not-false _ (c .before .before .if1 .left)) ∙ c .before .before .before .in-order .ensures in omega (arith, upward _ _ _ _ e, positioned _ _ _ _ e, c .before .before .before .before .before .before .before .before .before .before .before .before .before .pre .1)
+shared-slice-read-draw-superedge c = let e = sym (not-false _ (c .before .before .if2 .left)) ∙ c .before .before .before .in-order .ensures in omega (arith, upward _ _ _ _ e, positioned _ _ _ _ e, c .before .before .before .before .before .before .before .before .before .before .before .before .pre .2)
 
 mul-draw-superedge-2 : tie.Need-mul-draw-superedge-2 Inv-loop μ-loop
-mul-draw-superedge-2 c = let e = sym (not-false _ (c .before .before .if1 .left)) ∙ c .before .before .before .in-order .ensures in omega (arith, upward _ _ _ _ e, positioned _ _ _ _ e, c .before .before .before .before .before .before .before .before .before .before .before .before .before .pre .1)
+mul-draw-superedge-2 c = let e = sym (not-false _ (c .before .before .if2 .left)) ∙ c .before .before .before .in-order .ensures in omega (arith, upward _ _ _ _ e, positioned _ _ _ _ e, c .before .before .before .before .before .before .before .before .before .before .before .before .pre .2)
 
 shared-slice-read-draw-superedge-2 : tie.Need-shared-slice-read-draw-superedge-2 Inv-loop μ-loop
-shared-slice-read-draw-superedge-2 c = let e = sym (not-false _ (c .before .before .before .if1 .left)) ∙ c .before .before .before .before .in-order .ensures in omega (arith, positioned _ _ _ _ e, c .before .before .before .before .before .before .before .before .before .before .before .before .before .before .pre .1)
+shared-slice-read-draw-superedge-2 c = let e = sym (not-false _ (c .before .before .before .if2 .left)) ∙ c .before .before .before .before .in-order .ensures in omega (arith, positioned _ _ _ _ e, c .before .before .before .before .before .before .before .before .before .before .before .before .before .pre .2)
 
 draw-superedge-requires : tie.Need-draw-superedge-requires Inv-loop μ-loop
-draw-superedge-requires c κs = let e = sym (not-false _ (c .before .before .before .if1 .left)) ∙ c .before .before .before .before .in-order .ensures in
-    let f = c .before .before .before .before .before .before .before .before .before .before .before .before .before .before .pre .3 in (
-      omega (arith, c .before .before .before .before .before .before .before .before .before .before .loop .inv .drawn .size, c .before .before .before .before .before .before .before .before .before .before .before .before .before .before .pre .2),
-      here-most _ _ _ (c .before .before .before .before .before .before .before .before .before .before .before .before .before .before .pre .0) (f .here _ (omega (arith, upward _ _ _ _ e, positioned _ _ _ _ e))),
-      here-most _ _ _ (c .before .before .before .before .before .before .before .before .before .before .before .before .before .before .pre .0) (f .here _ (positioned _ _ _ _ e)),
+draw-superedge-requires c κs = let e = sym (not-false _ (c .before .before .before .if2 .left)) ∙ c .before .before .before .before .in-order .ensures in
+    let f = c .before .before .before .before .before .before .before .before .before .before .before .before .before .pre .4 in (
+      omega (arith, c .before .before .before .before .before .before .before .before .before .loop .inv .drawn .size, c .before .before .before .before .before .before .before .before .before .before .before .before .before .pre .3),
+      here-most _ _ _ (c .before .before .before .before .before .before .before .before .before .before .before .before .before .pre .0) (f .here _ (omega (arith, upward _ _ _ _ e, positioned _ _ _ _ e))),
+      here-most _ _ _ (c .before .before .before .before .before .before .before .before .before .before .before .before .before .pre .0) (f .here _ (positioned _ _ _ _ e)),
     )
 
 mul-last : tie.Need-mul-last Inv-loop μ-loop
-mul-last c = search needs
+mul-last c = let e = sym (not-false _ (c .before .before .before .before .before .before .if2 .left)) ∙ c .before .before .before .before .before .before .before .in-order .ensures in omega (arith, upward _ _ _ _ e, positioned _ _ _ _ e, c .before .before .before .before .before .before .before .before .before .before .before .before .before .before .before .before .pre .1)
 
 add-last : tie.Need-add-last Inv-loop μ-loop
-add-last c = search needs
+add-last c = let e = sym (not-false _ (c .before .before .before .before .before .before .if2 .left)) ∙ c .before .before .before .before .before .before .before .in-order .ensures in omega (arith, upward _ _ _ _ e, positioned _ _ _ _ e, c .before .before .before .before .before .before .before .before .before .before .before .before .before .before .before .before .pre .1)
+
+add-at : tie.Need-add-at Inv-loop μ-loop
+add-at c = let room = superedge-room _ _ (sym (c .before .before .before .before .before .before .before .before .before .before .if1 .taken) ∙ c .before .before .before .before .before .before .before .before .before .before .before .is-superedge .ensures) in omega arith
 
 loop-less : tie.Need-loop-less Inv-loop μ-loop
-loop-less c = omega (arith, next-six _ _ _ _ _ _ _ _ _ (c .before .before .before .before .before .before .before .before .before .before .before .before .loop-test .taken) _ (c .before .before .before .before .before .before .before .before .before .before .before .read-record .ensures) (c .before .before .before .before .before .before .before .before .before .before .before .before .before .loop .inv) _ _ (c .before .before .before .before .before .before .before .before .before .item .given .1))
+loop-less c = let room = superedge-room _ _ (sym (c .before .before .before .before .before .before .before .before .before .before .if1 .taken) ∙ c .before .before .before .before .before .before .before .before .before .before .before .is-superedge .ensures) in omega arith
 
 loop-again : tie.Need-loop-again Inv-loop μ-loop
-loop-again c = superedge-more _ _ _ _ _ _ _ _ _ (c .before .before .before .before .before .before .before .before .before .before .before .before .loop-test .taken) _ (c .before .before .before .before .before .before .before .before .before .before .before .read-record .ensures) (c .before .before .before .before .before .before .before .before .before .before .before .before .before .loop .inv) _ _ (c .before .before .before .before .before .before .before .before .before .item .given .1) _ _ _ (sym (not-false _ (c .before .before .before .before .before .before .if1 .left)) ∙ c .before .before .before .before .before .before .before .in-order .ensures) (c .before .before .before .before .before .before .before .before .before .before .before .before .before .before .before .before .before .pre .3) (c .before .before .draw-superedge .ensures)
+loop-again c = superedge-more _ _ _ _ _ _ _ _ _ (c .before .before .before .before .before .before .before .before .before .before .before .before .loop .inv) (sym (c .before .before .before .before .before .before .before .before .before .before .if1 .taken) ∙ c .before .before .before .before .before .before .before .before .before .before .before .is-superedge .ensures) _ _ (c .before .before .before .before .before .before .before .before .before .node-at .ensures) (c .before .before .before .before .before .before .before .before .node-at2 .ensures) _ _ _ (sym (not-false _ (c .before .before .before .before .before .before .if2 .left)) ∙ c .before .before .before .before .before .before .before .in-order .ensures) (c .before .before .before .before .before .before .before .before .before .before .before .before .before .before .before .before .pre .4) (c .before .before .draw-superedge .ensures)
 
-enum-told : tie.Need-enum-told Inv-loop μ-loop
-enum-told c = c .match .keys2
-
-is-spent-requires : tie.Need-is-spent-requires Inv-loop μ-loop
-is-spent-requires c κs = search needs
+is-end-requires : tie.Need-is-end-requires Inv-loop μ-loop
+is-end-requires c κs = search needs
 
 same-length-2 : tie.Need-same-length-2 Inv-loop μ-loop
-same-length-2 c = c .before .before .before .before .before .before .loop .inv .drawn .size
+same-length-2 c = c .before .before .before .loop .inv .drawn .size
 
 returns-2 : tie.Need-returns-2 Inv-loop μ-loop
-returns-2 c = not-spent _ _ _ _ _ _ _ _ _ (c .before .before .before .before .before .loop-test .taken) _ (c .before .before .before .before .read-record .ensures) (c .before .before .before .before .before .before .loop .inv) (c .before .before .enum-told .given .1) (sym (not-true _ (c .if2 .taken)) ∙ c .before .is-spent .ensures)
-
-same-length-3 : tie.Need-same-length-3 Inv-loop μ-loop
-same-length-3 c = c .before .before .before .before .before .before .before .loop .inv .drawn .size
-
-returns-3 : tie.Need-returns-3 Inv-loop μ-loop
-returns-3 c = at-end _ _ _ _ _ _ _ _ _ (c .before .before .before .before .before .before .loop-test .taken) _ (c .before .before .before .before .before .read-record .ensures) (c .before .before .before .before .before .before .before .loop .inv) (c .before .before .before .enum-told .given .1) (sym (not-false _ (c .before .if2 .left)) ∙ c .before .before .is-spent .ensures)
-
-same-length-4 : tie.Need-same-length-4 Inv-loop μ-loop
-same-length-4 c = c .before .before .before .loop .inv .drawn .size
-
-returns-4 : tie.Need-returns-4 Inv-loop μ-loop
-returns-4 c = other-record _ _ _ _ _ _ _ _ _ (c .before .before .loop-test .taken) _ (c .before .read-record .ensures) (c .before .before .before .loop .inv) (not-a-superedge _ (c .match .keys3)) (not-the-end _ (c .match .keys3))
-
-same-length-5 : tie.Need-same-length-5 Inv-loop μ-loop
-same-length-5 c = c .before .loop .inv .drawn .size
-
-returns-5 : tie.Need-returns-5 Inv-loop μ-loop
-returns-5 c = superedges-past _ _ _ _ _ _ _ _ _ (c .loop-test .left) (c .before .loop .inv)
+returns-2 c = superedges-end _ _ _ _ _ _ _ _ _ (c .before .before .before .loop .inv) _ (sym (c .before .if1 .left) ∙ c .before .before .is-superedge .ensures) (c .is-end .ensures)
 
 pub read-superedges-spec : {M : Type 1} → statement M
 read-superedges-spec =
@@ -111,10 +96,11 @@ read-superedges-spec =
     Inv-loop
     μ-loop
     loop-holds
-    read-record-requires
-    enum-known-item
-    cast-i
-    cast-j
+    is-superedge-requires
+    add-node-at
+    node-at-requires
+    add-node-at-2
+    node-at-requires-2
     in-order-requires
     same-length
     returns
@@ -125,15 +111,9 @@ read-superedges-spec =
     draw-superedge-requires
     mul-last
     add-last
+    add-at
     loop-less
     loop-again
-    enum-told
-    is-spent-requires
+    is-end-requires
     same-length-2
-    returns-2
-    same-length-3
-    returns-3
-    same-length-4
-    returns-4
-    same-length-5
-    returns-5)
+    returns-2)
