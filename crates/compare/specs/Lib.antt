@@ -1,3 +1,4 @@
 pub mod Agree
 pub mod AgreeLaws
 pub mod PairLaws
+pub mod ToldGroupLaws
