@@ -10,4 +10,6 @@ pub mod SuperedgeLaws
 pub mod DecodedLaws
 pub mod ToldLaws
 pub mod AcceptLaws
+pub mod Bytes
+pub mod BytesLaws
 pub mod HeldLaws

@@ -83,7 +83,7 @@ across-first : (ms ls : List ℕ) (a b : ℕ) → across ms ls a b ≡ true → 
 unfolding across
 across-first ms ls a b t = and-fst (member a ms) _ t
 
-placed-at : (gs : List (Bool × List ℕ)) (i p : ℕ) → member p (membersOf gs i) ≡ true → placed gs p ≡ true
+pub placed-at : (gs : List (Bool × List ℕ)) (i p : ℕ) → member p (membersOf gs i) ≡ true → placed gs p ≡ true
 unfolding placed membersOf
 placed-at [] i p t = unfold member any in t
 placed-at (g ∷ gs) zero p t = or-left (placed gs p) t
@@ -151,28 +151,30 @@ pub record Accepted (s : List ℕ) : Type 0 where
   pub small : u16At s 2 ≤ maxNodes
   pub next : ℕ
   pub left : Counts
+  pub head : itemIn s ≡ Head (u16At s 2) (u16At s 4) (u16At s 6)
   pub groups : groupsRead (u16At s 2) (u16At s 6) (record { members = u16At s 4; groups = u16At s 6 }) s 8 ≡ Whole next left
+  pub superedges : superedgesFit (u16At s 6) left s 0 (length s) next ≡ true
 
 pub accepted-out : (s : List ℕ) → accepted s ≡ true → Accepted s
 unfolding accepted
-accepted-out s t = by-kind (itemIn s) (item-fits s) t
+accepted-out s t = by-kind (itemIn s) refl (item-fits s) t
   where
-    by-groups : (n m g : ℕ) (r : Groups) → groupsRead n g (record { members = m; groups = g }) s 8 ≡ r → n ≤ maxNodes → n ≡ u16At s 2 → m ≡ u16At s 4 → g ≡ u16At s 6 → onWhole r (λ next left. superedgesFit g left s 0 (length s) next) ≡ true → Accepted s
-    by-groups n m g (Whole next left) e l a b d u = record { small = rw a at l; next = next; left = left; groups = rw (a, b, d) at e }
-    by-groups n m g Broken e l a b d u = differ u refl
+    by-groups : (n m g : ℕ) (r : Groups) → itemIn s ≡ Head n m g → groupsRead n g (record { members = m; groups = g }) s 8 ≡ r → n ≤ maxNodes → n ≡ u16At s 2 → m ≡ u16At s 4 → g ≡ u16At s 6 → onWhole r (λ next left. superedgesFit g left s 0 (length s) next) ≡ true → Accepted s
+    by-groups n m g (Whole next left) h e l a b d u = record { small = rw a at l; next = next; left = left; head = rw (a, b, d) at h; groups = rw (a, b, d) at e; superedges = rw d at u }
+    by-groups n m g Broken h e l a b d u = differ u refl
 
-    by-kind : (i : Record) → Fits s i → onHead i (λ n m g. sized n m g && bodyFits s n m g) false ≡ true → Accepted s
-    by-kind (Head n m g) f u =
-        by-groups n m g (groupsRead n g (record { members = m; groups = g }) s 8) refl
+    by-kind : (i : Record) → itemIn s ≡ i → Fits s i → onHead i (λ n m g. sized n m g && bodyFits s n m g) false ≡ true → Accepted s
+    by-kind (Head n m g) h f u =
+        by-groups n m g (groupsRead n g (record { members = m; groups = g }) s 8) h refl
         (leb-true n maxNodes (and-fst (leb n maxNodes) (leb m n && leb g m) (unfold sized in and-fst (sized n m g) (bodyFits s n m g) u)))
         (f .1)
         (f .2)
         (f .3)
         (unfold bodyFits in and-snd (sized n m g) (bodyFits s n m g) u)
-    by-kind (Group x y) f u = differ u refl
-    by-kind (Superedge x y) f u = differ u refl
-    by-kind End f u = differ u refl
-    by-kind Malformed f u = differ u refl
+    by-kind (Group x y) h f u = differ u refl
+    by-kind (Superedge x y) h f u = differ u refl
+    by-kind End h f u = differ u refl
+    by-kind Malformed h f u = differ u refl
 
 -- an edge that is told is one of nodes that groups have
 pub told-placed : (s : List ℕ) (a b : ℕ) → toldEdge s a b ≡ true → placed (toldGroups s) a ≡ true

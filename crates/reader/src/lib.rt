@@ -226,7 +226,7 @@ pub fn read_record(file: &[u8], at: usize) -> Read
 }
 
 // The number at a place, as an index.
-fn node_at(file: &[u8], at: usize) -> usize
+pub fn node_at(file: &[u8], at: usize) -> usize
     requires { ⌜ at + 2 ≤ length (now file) ⌝ }
     ensures { λ r. ⌜ r ≡ u16At (now (file .entry)) at ⌝ }
 {
