@@ -2,3 +2,6 @@ pub mod Agree
 pub mod AgreeLaws
 pub mod PairLaws
 pub mod ToldGroupLaws
+pub mod Told
+pub mod WalkLaws
+pub mod SameLaws

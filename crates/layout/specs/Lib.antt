@@ -10,5 +10,3 @@ pub mod Words
 pub mod WordLaws
 pub mod Truth
 pub mod TruthLaws
-pub mod Matches
-pub mod MatchLaws

@@ -121,13 +121,17 @@ module _ (g : Graph) (lst edges : List ℕ) (t : Truth g lst edges) where
   below-n : (p : ℕ) → p ∈ vs → p < n
   below-n p m = visible-inside g p (out-vs p m)
 
-  visible-is : visibleOf n lst ≡ vs
-  unfolding visibleOf inGroup visible
-  visible-is = scan-nodes (λ p. ltb (getD lst p 0) n) n ∙ filter-cong _ (isVisible g) (nodes n) (λ p m. step p (nodes-out n p m) (decide (isVisible g p)))
+  pub visible-in : (p : ℕ) → p < n → inGroup lst n p ≡ isVisible g p
+  unfolding inGroup
+  visible-in p h = step (decide (isVisible g p))
     where
-      step : (p : ℕ) → p < n → (isVisible g p ≡ true) ⊎ (isVisible g p ≡ false) → ltb (getD lst p 0) n ≡ isVisible g p
-      step p h (inl k) = lt-ltb (getD lst p 0) n (omega (arith, t .visible-least p k, below-n _ (least-in vs r eq asc p (in-vs p k)))) ∙ sym k
-      step p h (inr k) = le-ltb (getD lst p 0) n (t .hidden-least p h k) ∙ sym k
+      step : (isVisible g p ≡ true) ⊎ (isVisible g p ≡ false) → ltb (getD lst p 0) n ≡ isVisible g p
+      step (inl k) = lt-ltb (getD lst p 0) n (omega (arith, t .visible-least p k, below-n _ (least-in vs r eq asc p (in-vs p k)))) ∙ sym k
+      step (inr k) = le-ltb (getD lst p 0) n (t .hidden-least p h k) ∙ sym k
+
+  visible-is : visibleOf n lst ≡ vs
+  unfolding visibleOf visible
+  visible-is = scan-nodes (inGroup lst n) n ∙ filter-cong (inGroup lst n) (isVisible g) (nodes n) (λ p m. visible-in p (nodes-out n p m))
 
   leaders-is : leadersOf n lst ≡ leaders vs r
   unfolding leadersOf leads leaders visible

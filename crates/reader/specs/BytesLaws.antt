@@ -3,16 +3,17 @@ use mathlib.Core.Path.{_≡_, refl, sym, ap, ap₂, subst, _∙_}
 use mathlib.Core.Bool.{Bool, true, false, _&&_, cond}
 use mathlib.Core.List.{List, [], _∷_, _++_, map, append-assoc}
 use mathlib.Core.Logic.{_⊎_, inl, inr}
-use Prim.Native.Nat.{ℕ, zero, suc, _+_, _*_, _-_, _/_, _%_, _≤_, _<_}
+use Prim.Native.Nat.{ℕ, zero, suc, _+_, _*_, _-_, _≤_, _<_}
 use native.Mathlib.Omega.{arith}
 use lib.Dec.{eqb, ltb, leb}
 use lib.ListN.{length, getD, drop, length-append, length-drop, drop-of-length-le}
 use lib.Seq.{drop-drop, getD-drop}
 use borrow.Author.Tests.{eqb-true, eqb-false, ltb-false, leb-true}
-use Rattle.model.specs.Lists.{concat, member}
+use Rattle.model.specs.Lists.{_∈_, concat}
 use Rattle.model.specs.Release.{endRecord, headRecord, superedgeRecord, u16}
 use Rattle.model.specs.Reading.{groupsAt, superedgesAt, u16At, u16s}
 use Rattle.model.specs.TestLaws.{and-fst, and-snd, decide, differ}
+use Rattle.model.specs.ListLaws.{member-intro}
 use Rattle.reader.specs.declared.Counts.{Counts}
 use Rattle.reader.specs.declared.Lessened.{Lessened}
 use Rattle.reader.specs.declared.Lessened.the-variants.{Left, Over}
@@ -20,15 +21,15 @@ use Rattle.reader.specs.declared.Record.{Record}
 use Rattle.reader.specs.declared.Record.the-variants.{Head, Group, Superedge, End, Malformed}
 use Rattle.reader.specs.declared.Grouped.{Grouped}
 use Rattle.reader.specs.declared.Grouped.the-variants.{Taken, Missing}
-use Rattle.reader.specs.declared.Groups.the-variants.{Whole, Broken}
+use Rattle.reader.specs.declared.Groups.the-variants.{Whole}
 use Rattle.reader.specs.Records.{groupItem, headItem, isMark, itemIn, lessGroup, lessMember, spent, superedgeItem, whole}
 use Rattle.reader.specs.Drawing.{countAt, membersAt}
-use Rattle.reader.specs.Decoding.{accepted, follows, groupBy, groupTaken, groupsFrom, groupsRead, keyOf, membersRead, numbersAt, onLess, onSuperedge, onTaken, pairsFrom, restFrom, superedgesFit, toldGroups, toldPairs}
+use Rattle.reader.specs.Decoding.{accepted, follows, groupBy, groupTaken, groupsFrom, groupsRead, keyOf, membersOf, membersRead, numbersAt, onLess, onSuperedge, onTaken, pairsFrom, restFrom, superedgesFit, toldGroups, toldPairs}
 use Rattle.reader.specs.RecordLaws.{u16-drop}
 use Rattle.reader.specs.DecodingLaws.{Fits, item-fits, numbers-members}
 use Rattle.reader.specs.GroupLaws.{Told, groups-step, rest-none, rest-step, taken-told}
 use Rattle.reader.specs.SuperedgeLaws.{pairs-end, pairs-step}
-use Rattle.reader.specs.ToldLaws.{Accepted, Ordered, accepted-out}
+use Rattle.reader.specs.ToldLaws.{Accepted, Ordered, accepted-out, placed-at, placed-small}
 use Rattle.reader.specs.Bytes.{Bytes, BytesTold, GroupsHere, membersIn, recordOf}
 
 bytes-after : (s : List ℕ) (at : ℕ) → Bytes s → Bytes (drop at s)
@@ -105,6 +106,9 @@ module _ (r : List ℕ) (b : Bytes r) where
       cond-written r (isMark r 0x47 0x43) (groupItem true r) _ (λ t. whole-written r 4 (Group true (u16At r 2)) (group-written 0x43 t)) (λ _.
       cond-written r (isMark r 0x48 0x44) (headItem r) _ (λ t. whole-written r 8 (Head (u16At r 2) (u16At r 4) (u16At r 6)) (head-written t)) (λ _.
       cond-written r (isMark r 0x45 0x4E) End Malformed (λ t. end-written t (ltb-false (length r) 2 room)) (λ _. tt))))))
+
+pub head-room : (s : List ℕ) → accepted s ≡ true → 8 ≤ length s
+head-room s ok = subst (Fits s) (accepted-out s ok .head) (item-fits s) .0
 
 -- members that were taken are counted
 members-counted : (n : ℕ) (ms : List ℕ) (c d : Counts) → membersRead n c ms ≡ Left d → c .members ≡ length ms + d .members
@@ -197,7 +201,7 @@ end-alone : (r : List ℕ) → r ≡ [] → endRecord ++ r ≡ concat (map super
 unfolding endRecord concat
 end-alone r e = rw e
 
-length-numbers : (k : ℕ) (r : List ℕ) → length (u16s k r) ≡ k
+pub length-numbers : (k : ℕ) (r : List ℕ) → length (u16s k r) ≡ k
 unfolding u16s
 length-numbers zero r = refl
 length-numbers (suc k) r = ap suc (length-numbers k (drop 2 r))
@@ -293,8 +297,10 @@ module _ (s : List ℕ) (b : Bytes s) where
     pub groups-here : GroupsHere (u16At s 2) s 8 (u16At s 6)
     groups-here = groups .here
 
-    pub head-room : 8 ≤ length s
-    head-room = subst (Fits s) (known .head) (item-fits s) .0
+    -- every member is a node
+    pub told-node : (i p : ℕ) → p ∈ membersOf (toldGroups s) i → p < u16At s 2
+    unfolding toldGroups
+    told-node i p m = placed-small (u16At s 2) (u16At s 6) counts s 8 (known .next) (known .left) (known .groups) p (placed-at (groupsFrom s 8 (u16At s 6)) i p (member-intro p (membersOf (groupsFrom s 8 (u16At s 6)) i) m))
 
     pub bytes-told : BytesTold s
     bytes-told = record { bytes = bytes; ordered = subst (Ordered (u16At s 6) 0) pairs (superedges .1) }

@@ -13,7 +13,7 @@ use Rattle.model.specs.Reading.{decode, isRelease}
 use Rattle.model.specs.Calls.{Listed, listRefused, onto, Released, releaseRefused, released}
 use Rattle.reader.specs.declared.Decoded.{Decoded}
 use Rattle.reader.specs.declared.Decoded.the-variants as answer
-use Rattle.reader.specs.Decoding.{graphIn, HoldsGraph}
+use Rattle.reader.specs.Decoding.{Decodes, graphIn, HoldsGraph}
 
 -- the release of a graph into a buffer, or 18
 unfoldable pub told : Graph → List ℕ → Released
@@ -22,6 +22,10 @@ told g out = cond (ltb (length out) (length (release g))) (releaseRefused out 18
 -- the marks of n nodes, in a list of their own
 pub record Marks (n : ℕ) (nodes hidden : List ℕ) : Type 0 where
   pub same : (p : ℕ) → p < n → getD hidden p 0 ≡ nodeNumber nodes p 3
+
+-- a file was decoded as a graph of n nodes
+abbrev pub DecodedAs : ℕ → List ℕ → List ℕ → List ℕ → Type 0
+DecodedAs n s edges hidden = Decodes s edges hidden (answer.Graph n)
 
 -- a file is judged: it is no release, or its graph stands in the arrays
 pub record Judged (s edges hidden : List ℕ) (r : Decoded) : Type 0 where

@@ -15,14 +15,14 @@ use Rattle.model.specs.Lists.{sameList}
 use Rattle.model.specs.Tables.{Tables, tablesOf, graphOf, edgeBit, bitAt, nodeNumber, holds}
 use Rattle.model.specs.Refusals.{Reasons, firstOf, lengths, wrongSize}
 use Rattle.model.specs.Release.{release, isVisible, visibleEdge}
-use Rattle.model.specs.Reading.{decode, isRelease}
+use Rattle.model.specs.Reading.{decode, isRelease, u16At}
 use Rattle.model.specs.Queries.{neighbours}
 use Rattle.model.specs.Calls.{released, releaseReasons, releaseRefused, releaseCall, Opened, openRefused, readReasons, readCall, listRefused, fileNeighboursReasons, fileNeighboursCall, onto}
 use Rattle.model.specs.TestLaws.{decide}
 use Rattle.reader.specs.declared.Decoded.{Decoded}
 use Rattle.reader.specs.declared.Decoded.the-variants as answer
-use Rattle.reader.specs.Decoding.{graphIn, HoldsGraph, Decodes}
-use Rattle.reader.specs.HeldLaws.{decodes-simple, refused-is-none, release-read, release-compared}
+use Rattle.reader.specs.Decoding.{accepted, graphIn, HoldsGraph, Decodes, placed, toldGroups}
+use Rattle.reader.specs.HeldLaws.{answer-accepts, decodes-simple, refused-is-none, release-read, release-compared}
 use Rattle.index.specs.Index.{opened, listed, tableReasons}
 use Rattle.index.specs.IndexLaws.{table-refused, table-rest, call-refused, call-done}
 use Rattle.index.specs.Update.{Held}
@@ -30,11 +30,12 @@ use Rattle.index.specs.UpdateLaws.{held-sized}
 use Rattle.rows.specs.Rows.{Words}
 use Rattle.rows.specs.Search.{edgesIn}
 use Rattle.visible.specs.Visible.{Apart, Drawn, markedGraph, shown}
-use Rattle.layout.specs.File.{Partition, fileOf, writtenFile}
+use Rattle.layout.specs.File.{Partition, fileOf, inGroup, writtenFile}
 use Rattle.layout.specs.Truth.{Truth}
-use Rattle.layout.specs.TruthLaws.{truth-partition, written-is, file-is}
+use Rattle.layout.specs.TruthLaws.{truth-partition, visible-in, written-is, file-is}
+use Rattle.compare.specs.Told.{Told}
 use Rattle.model.specs.ReadBackLaws.{visible-inside}
-use Rattle.release.specs.Release.{told, Marks, Judged}
+use Rattle.release.specs.Release.{told, DecodedAs, Marks, Judged}
 use Rattle.release.specs.Fill.{Copied, MarksTaken}
 use Rattle.release.specs.TableLaws.{filled-within}
 
@@ -81,6 +82,9 @@ judged-none s edges hidden {r} d e = record {
   where
     never : {X : Type 0} (n : ℕ) → answer.NoRelease ≡ answer.Graph n → X
     never n z = let w : _≡_ {A = ℕ} 0 1 = cc in absurd (omega arith)
+
+pub decoded-as : (s edges hidden : List ℕ) (n : ℕ) {r : Decoded} → Decodes s edges hidden r → r ≡ answer.Graph n → DecodedAs n s edges hidden
+decoded-as s edges hidden n d e = rw e at d
 
 module _ (s edges hidden : List ℕ) (n : ℕ) {r : Decoded} (d₀ : Decodes s edges hidden r) (told-n : r ≡ answer.Graph n) (b : Bool) (c : b ≡ sameList s (release (graphIn n edges hidden))) where
   d : Decodes s edges hidden (answer.Graph n)
@@ -232,3 +236,25 @@ module _ (n : ℕ) {edges hidden : List ℕ} (h : HoldsGraph n edges hidden) (l 
 
   pub same-release : {lst : List ℕ} → Truth (markedGraph n (take (rowWords * n) edges) hidden) lst (take (rowWords * n) edges) → (s : List ℕ) (b : Bool) → b ≡ sameList s (fileOf n lst (take (rowWords * n) edges)) → b ≡ sameList s (release (graphIn n edges hidden))
   same-release w s b e = e ∙ visible-file n (take (rowWords * n) edges) hidden w s ∙ ap (λ (g : Graph). sameList s (release g)) (take-graph n edges hidden held-small)
+
+  -- what is compared with the tables is what they were decoded from
+  pub file-told-by : (s : List ℕ) {lst : List ℕ} → DecodedAs n s edges hidden → Truth (markedGraph n (take (rowWords * n) edges) hidden) lst (take (rowWords * n) edges) → Told n lst (take (rowWords * n) edges) s
+  file-told-by s {lst} read t = record {
+    read = ok .0;
+    count = ok .1;
+    edge = λ a b x y. take-bit n edges a b x (omega (arith, held-small)) ∙ read .bits (ok .0) a b (omega (arith, held-small));
+    visible = λ p x. shown p x ∙ mark p x;
+  }
+    where
+      ok : (accepted s ≡ true) × (n ≡ u16At s 2)
+      ok = answer-accepts s n (read .result)
+
+      shown : (p : ℕ) → p < n → inGroup lst n p ≡ isVisible (markedGraph n (take (rowWords * n) edges) hidden) p
+      shown p x = unfold markedGraph in visible-in (markedGraph n (take (rowWords * n) edges) hidden) lst (take (rowWords * n) edges) t p x
+
+      unmarked : (b : Bool) → not (eqb (cond b 0 1) 1) ≡ b
+      unmarked true = refl
+      unmarked false = refl
+
+      mark : (p : ℕ) → p < n → isVisible (markedGraph n (take (rowWords * n) edges) hidden) p ≡ placed (toldGroups s) p
+      mark p x = unfold isVisible markedGraph in rw (lt-ltb p n x, read .marks (ok .0) p (omega (arith, held-small))) (unmarked (placed (toldGroups s) p))

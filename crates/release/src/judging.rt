@@ -1,16 +1,16 @@
-// Whether bytes are a release: what they tell, released again, must give the same bytes.
+// Whether bytes are a release: their groups must be those of the graph that they tell.
 ghost use mathlib.Core.Path.{_≡_};
 ghost use lib.ListN.{length, replicate};
 ghost use Rattle.model.specs.Lists.{sameList};
 ghost use Rattle.model.specs.Release.{release};
 ghost use Rattle.reader.specs.Decoding.{HoldsGraph, graphIn};
-ghost use Rattle.release.specs.Release.{Judged};
+ghost use Rattle.release.specs.Release.{DecodedAs, Judged};
 use reader::Decoded;
 use rows::Graph;
 
 // Whether the file is the release of the graph that it was decoded as.
 fn is_same(file: &[u8], edges: &[u64], hidden: &[u16], n: usize) -> bool
-    requires { ⌜ HoldsGraph n (now edges) (now hidden) × (length (now edges) ≡ 4096) × (length (now hidden) ≡ 512) ⌝ }
+    requires { ⌜ HoldsGraph n (now edges) (now hidden) × (length (now edges) ≡ 4096) × (length (now hidden) ≡ 512) × DecodedAs n (now file) (now edges) (now hidden) ⌝ }
     ensures { λ r. ⌜ r ≡ sameList (now (file .entry)) (release (graphIn n (now (edges .entry)) (now (hidden .entry)))) ⌝ }
 {
     let end = Graph::ROW_WORDS * n;

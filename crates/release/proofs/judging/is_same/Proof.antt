@@ -1,5 +1,5 @@
 use native.Mathlib.Omega.{arith}
-use Rattle.release.specs.ReleaseLaws.{held-small, taken-size, apart-decoded, same-release, visible-parts}
+use Rattle.release.specs.ReleaseLaws.{held-small, taken-size, apart-decoded, file-told-by, same-release, visible-parts}
 use borrow.Author.Needs.{needs}
 use Rattle.release.proofs.judging.is_same.Statement.{statement}
 use Rattle.release.proofs.judging.is_same.Tie as tie
@@ -29,7 +29,10 @@ slice-aggregate-same-file : tie.Need-slice-aggregate-same-file
 slice-aggregate-same-file c = search needs
 
 same-file-requires : tie.Need-same-file-requires
-same-file-requires c κs = visible-parts _ _ _ (c .before .before .find-groups .ensures)
+same-file-requires c κs =
+    let l = c .before .before in
+    let pre = l .before .before .before .before .before .before .pre in
+    (visible-parts _ _ _ (l .find-groups .ensures), file-told-by _ (pre .0) (pre .1) (pre .2) _ (pre .3) (l .find-groups .ensures))
 
 returns : tie.Need-returns
 returns c =

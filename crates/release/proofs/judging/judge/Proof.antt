@@ -1,7 +1,7 @@
 use native.Mathlib.Omega.{arith}
 use borrow.Author.Tests.{not-true, not-false}
 use Rattle.reader.specs.HeldLaws.{decodes-simple}
-use Rattle.release.specs.ReleaseLaws.{judged-none, judged-other, judged-release}
+use Rattle.release.specs.ReleaseLaws.{decoded-as, judged-none, judged-other, judged-release}
 use borrow.Author.Needs.{needs}
 use Rattle.release.proofs.judging.judge.Statement.{statement}
 use Rattle.release.proofs.judging.judge.Tie as tie
@@ -31,7 +31,7 @@ returns c = judged-none _ _ _ (c .before .before .before .before .before .before
 is-same-requires : tie.Need-is-same-requires
 is-same-requires c κs =
     let d = c .before .before .before .before .before .before .before .before .before .decode .ensures in
-    (decodes-simple _ _ _ _ _ d (c .before .before .before .told .given .1), d .rows, d .size)
+    (decodes-simple _ _ _ _ _ d (c .before .before .before .told .given .1), d .rows, d .size, decoded-as _ _ _ _ d (c .before .before .before .told .given .1))
 
 same-length-3 : tie.Need-same-length-3
 same-length-3 c = search needs
