@@ -12,16 +12,16 @@ ghost use Rattle.layout.specs.Words.{Leading, Marked, Placed, Rowed, laterWord,
 ghost use Rattle.writer.specs.Written.{Measured, answer};
 
 // Stands for no node: after the last member of a group, and at hidden nodes.
-pub const NONE: u16 = 65535;
+const NONE: u16 = 65535;
 
-pub fn wide(x: u16) -> usize
+fn wide(x: u16) -> usize
     ensures { λ r. ⌜ r ≡ x ⌝ }
 {
     x as usize
 }
 
 // The two bytes of a mark; the place after them.
-pub fn put_mark(out: &mut [u8], at: usize, mark: &[u8; 2]) -> usize
+fn put_mark(out: &mut [u8], at: usize, mark: &[u8; 2]) -> usize
     requires { ⌜ at + 2 ≤ length (now out) ⌝ }
     ensures { λ r. ⌜ Wrote (now (out .entry)) at (getD (now (mark .entry)) 0 0 ∷ getD (now (mark .entry)) 1 0 ∷ []) (now (out .exit)) r ⌝ }
 {
@@ -41,7 +41,7 @@ fn put_u16(out: &mut [u8], at: usize, v: usize) -> usize
 }
 
 // The head: nodes n, visible nodes m, groups g.
-pub fn write_head(out: &mut [u8], at: usize, n: usize, m: usize, g: usize) -> usize
+fn write_head(out: &mut [u8], at: usize, n: usize, m: usize, g: usize) -> usize
     requires { ⌜ (n < 65536) × (m < 65536) × (g < 65536) × (at + 8 ≤ length (now out)) ⌝ }
     ensures { λ r. ⌜ Wrote (now (out .entry)) at (headRecord n m g) (now (out .exit)) r ⌝ }
 {
@@ -99,14 +99,7 @@ fn is_clique(next: &[u16], n: usize, edges: &[u64], l: usize) -> bool
 }
 
 // The group whose least member is l. Its count is known once the members stand.
-pub fn write_group(
-    out: &mut [u8],
-    at: usize,
-    next: &[u16],
-    n: usize,
-    edges: &[u64],
-    l: usize,
-) -> usize
+fn write_group(out: &mut [u8], at: usize, next: &[u16], n: usize, edges: &[u64], l: usize) -> usize
     requires { ⌜ Ahead n (now next) ⌝ }
     requires { ⌜ (l < n) × (8 * n ≤ length (now edges)) ⌝ }
     requires { ⌜ at + length (groupBytes (edgeBit (now edges)) (chain n (now next) n l)) ≤ length (now out) ⌝ }
@@ -166,7 +159,7 @@ fn write_word(out: &mut [u8], at: usize, position: &[u16], i: usize, b: usize, x
 }
 
 // The superedges of the i-th group to later groups, word by word of its leader's row.
-pub fn write_superedges_of(
+fn write_superedges_of(
     out: &mut [u8],
     at: usize,
     edges: &[u64],
@@ -232,7 +225,7 @@ fn count_superedges_of(edges: &[u64], leaders: &[u16], set: &[u64; 8], i: usize)
 }
 
 // All superedges.
-pub fn count_superedges(edges: &[u64], leaders: &[u16], set: &[u64; 8]) -> usize
+fn count_superedges(edges: &[u64], leaders: &[u16], set: &[u64; 8]) -> usize
     requires { ⌜ Rowed (now edges) (now leaders) ⌝ }
     requires { ⌜ Marked (now leaders) (now set) ⌝ }
     ensures { λ r. ⌜ (r ≡ superedgeTotal (edgeBit (now (edges .entry))) (now (leaders .entry))) × (r ≤ 262144) ⌝ }
@@ -245,7 +238,7 @@ pub fn count_superedges(edges: &[u64], leaders: &[u16], set: &[u64; 8]) -> usize
 }
 
 // The visible nodes.
-pub fn count_visible(least: &[u16], n: usize) -> usize
+fn count_visible(least: &[u16], n: usize) -> usize
     requires { ⌜ (n ≤ 512) × (n ≤ length (now least)) ⌝ }
     ensures { λ r. ⌜ r ≡ length (scan (inGroup (now (least .entry)) n) n 0) ⌝ }
 {
@@ -259,7 +252,7 @@ pub fn count_visible(least: &[u16], n: usize) -> usize
 }
 
 // The least members of the groups, ascending; how many.
-pub fn collect_leaders(least: &[u16], n: usize, leaders: &mut [u16]) -> usize
+fn collect_leaders(least: &[u16], n: usize, leaders: &mut [u16]) -> usize
     requires { ⌜ (n ≤ 512) × (n ≤ length (now least)) × (n ≤ length (now leaders)) ⌝ }
     ensures { λ r. ⌜ Wrote (now (leaders .entry)) 0 (scan (leads (now (least .entry))) n 0) (now (leaders .exit)) r ⌝ }
 {
@@ -274,7 +267,7 @@ pub fn collect_leaders(least: &[u16], n: usize, leaders: &mut [u16]) -> usize
 }
 
 // The least members as a set of bits.
-pub fn leader_set(least: &[u16], n: usize) -> [u64; 8]
+fn leader_set(least: &[u16], n: usize) -> [u64; 8]
     requires { ⌜ (n ≤ 512) × (n ≤ length (now least)) ⌝ }
     ensures { λ r. ⌜ Marked (leadersOf n (now (least .entry))) r ⌝ }
 {
@@ -289,7 +282,7 @@ pub fn leader_set(least: &[u16], n: usize) -> [u64; 8]
 }
 
 // The position of each leader.
-pub fn positions_of(leaders: &[u16]) -> [u16; 512]
+fn positions_of(leaders: &[u16]) -> [u16; 512]
     requires { ⌜ Leading (now leaders) ⌝ }
     ensures { λ r. ⌜ Placed (now (leaders .entry)) r ⌝ }
 {
@@ -301,7 +294,7 @@ pub fn positions_of(leaders: &[u16]) -> [u16; 512]
 }
 
 // The next greater member of each node's group, NONE after the last and at nodes of no group.
-pub fn link(least: &[u16], n: usize, next: &mut [u16])
+fn link(least: &[u16], n: usize, next: &mut [u16])
     requires { ⌜ (n ≤ 512) × (n ≤ length (now least)) × (n ≤ length (now next)) ⌝ }
     ensures { λ _. ⌜ Linked n (now (least .entry)) (now (next .exit)) ⌝ }
 {
@@ -354,7 +347,7 @@ pub struct Sizes {
 }
 
 // A file measured, and the least members in a list.
-pub fn measure(n: usize, least: &[u16], edges: &[u64], leaders: &mut [u16]) -> Sizes
+fn measure(n: usize, least: &[u16], edges: &[u64], leaders: &mut [u16]) -> Sizes
     requires { ⌜ Partition n (now least) (now edges) × (length (now leaders) ≡ 512) ⌝ }
     ensures { λ r. ⌜ Measured n (now (least .entry)) (now (edges .entry)) (now (leaders .exit)) r ⌝ }
 {
