@@ -24,12 +24,11 @@ use Rattle.rows.specs.KeyLaws.{keyOf, keys-at}
 use Rattle.rows.specs.SearchLaws.{first-none, meets-by, meets-words, ready}
 use Rattle.rows.specs.TwinRowLaws.{false-meet, meet-false, meet-true, true-meet}
 use Rattle.rings.specs.Ring.{Of, Parts, Table}
-use Rattle.rings.specs.NodesLaws.{graph-parts, is-nodes, of-nodes}
-use Rattle.groups.specs.Groups.{Bare}
+use Rattle.rings.specs.Steps.{Follows}
+use Rattle.rings.specs.NodesLaws.{graph-parts, is-nodes, mark-read, of-nodes}
+use Rattle.rings.specs.CertificateLaws.{Led, certified, led, ringed}
 use Rattle.groups.specs.GroupLaws.{first-cases}
-use Rattle.groups.specs.ChangeLaws.{bare-mark}
 use Rattle.checks.specs.Checks.{agrees, alone, bitHolds, follows, keysHold, leadersApart, mirrored, nodeHolds, nodesHold, rowHolds, rowsHold, twinOf, twinsHold}
-use Rattle.checks.specs.CertificateLaws.{Follows, Led, certified, led, ringed}
 
 both-false : (a b : Bool) {c : Bool} → c ≡ false → (a && (b && c)) ≡ false
 both-false true true e = e
@@ -345,9 +344,6 @@ module _ (n : ℕ) (t : Tables) (small : n ≤ maxNodes) (size : length (t .edge
       same-keys : t .keys ≡ keysOf graph
       same-keys = rows-keys n t small size size-k words hr
 
-      bare : Bare n t
-      bare = record { proper = proper; edges = same-edges; keys = same-keys; size = size-n; marks = marks-by-tests n (t .nodes) hn }
-
       parts : Parts n (Of n (similar (nodes n) (edgesIn n (t .edges))))
       parts = unfold edgesIn in graph-parts graph proper
 
@@ -355,7 +351,7 @@ module _ (n : ℕ) (t : Tables) (small : n ≤ maxNodes) (size : length (t .edge
       table = certified parts (t .nodes) (led-by-tests n (t .edges) (t .nodes) (t .keys) (rows-ready n t small size size-k words hr) ht hl) (rings-by-tests n (t .nodes) hn)
 
       same-nodes : t .nodes ≡ nodesOf graph
-      same-nodes = is-nodes graph proper (unfold edgesIn in table) size-n (bare-mark bare)
+      same-nodes = is-nodes graph proper (unfold edgesIn in table) size-n (λ p l. mark-read n p (nodeNumber (t .nodes) p 3) l (marks-by-tests n (t .nodes) hn p l))
 
   -- every part passes where tables hold a graph
   module _ (h : holds n t ≡ true) where

@@ -4,7 +4,6 @@ pub mod WalkLaws
 pub mod SlotLaws
 pub mod SumLaws
 pub mod StepLaws
-pub mod CertificateLaws
 pub mod HoldLaws
 pub mod Dense
 pub mod BlockLaws

@@ -1,4 +1,4 @@
--- The three tables before, within and after the update of an edge, and the table built from nothing.
+-- The three tables before, within and after the update of an edge.
 use mathlib.Core.Path.{_≡_, refl, sym, subst, _∙_, ap}
 use mathlib.Core.Logic.{_≢_, _⊎_, inl, inr}
 use mathlib.Core.Bool.{Bool, true, false, cond}
@@ -22,12 +22,10 @@ use Rattle.rows.specs.Search.{Ready, edgesIn}
 use Rattle.rows.specs.SearchLaws.{edges-in, ready}
 use Rattle.rows.specs.EdgeLaws.{edges-updated}
 use Rattle.rows.specs.KeyLaws.{keys-updated}
-use Rattle.rings.specs.Steps.{Back, Lone, Parted, Sound, Taken}
+use Rattle.rings.specs.Steps.{Back, Parted, Sound, Taken}
 use Rattle.rings.specs.UpdateLaws.{sound₀, sound₁, sound₂, sound₃}
-use Rattle.rings.specs.BuildLaws.{Built, built-more, built-none, built-sound}
-use Rattle.rings.specs.NodesLaws.{graph-parts}
-use Rattle.rings.specs.GraphLaws.{EdgeUpdate, Ends, build-nodes, update-answer, update-nodes, update-shift}
-use Rattle.groups.specs.Groups.{Asked, Bare, edgeUpdate, similarIn}
+use Rattle.rings.specs.GraphLaws.{EdgeUpdate, Ends, update-answer, update-nodes, update-shift}
+use Rattle.groups.specs.Groups.{Asked, edgeUpdate, similarIn}
 
 edge-kind : (insert : Bool) (u v : ℕ) → onEdge (edgeUpdate insert u v) ≡ true
 edge-kind true u v = refl
@@ -116,17 +114,17 @@ module _ {n u v : ℕ} {insert : Bool} {t : Tables} (a : Asked n u v insert t) w
           unfolding graphOf updated
           alike p = ap (λ (s : List ℕ). similar (nodes n) (edgesIn n s) p) edges-after ∙ ap (λ (f : ℕ → ℕ → Bool). similar (nodes n) f p) (edges-in (updated g c) new)
 
-          module _ {z₃ : ℕ} {t₃ : List ℕ} (x₃ : Back n n x y z₃ (similarIn n es x) t₂ t₃) where
-            back₃ : Back n n x y z₃ (similar (nodes n) (updated (graphOf n t) (edgeUpdate insert u v) .edge) x) t₂ t₃
-            back₃ = subst (λ s. Back n n x y z₃ s t₂ t₃) (alike x) x₃
+          module _ {z₃ : ℕ} {t₃ : List ℕ} (x₃ : Back n x y z₃ (similarIn n es x) t₂ t₃) where
+            back₃ : Back n x y z₃ (similar (nodes n) (updated (graphOf n t) (edgeUpdate insert u v) .edge) x) t₂ t₃
+            back₃ = subst (λ s. Back n x y z₃ s t₂ t₃) (alike x) x₃
 
             pub asked₃ : Sound n t₃
             unfolding graphOf
             asked₃ = sound₃ (update-shift (asked-update lx my)) x₁ x₂ back₃
 
-            module _ {z₄ : ℕ} {t₄ : List ℕ} (x₄ : Back n n y y z₄ (similarIn n es y) t₃ t₄) where
-              back₄ : Back n n y y z₄ (similar (nodes n) (updated (graphOf n t) (edgeUpdate insert u v) .edge) y) t₃ t₄
-              back₄ = subst (λ s. Back n n y y z₄ s t₃ t₄) (alike y) x₄
+            module _ {z₄ : ℕ} {t₄ : List ℕ} (x₄ : Back n y y z₄ (similarIn n es y) t₃ t₄) where
+              back₄ : Back n y y z₄ (similar (nodes n) (updated (graphOf n t) (edgeUpdate insert u v) .edge) y) t₃ t₄
+              back₄ = subst (λ s. Back n y y z₄ s t₃ t₄) (alike y) x₄
 
               pub asked-tables : lent es t₄ ks ≡ tablesOf (updated (graphOf n t) (edgeUpdate insert u v))
               unfolding graphOf tablesOf
@@ -139,43 +137,3 @@ module _ {n u v : ℕ} {insert : Bool} {t : Tables} (a : Asked n u v insert t) w
               pub asked-answer : {z₁ z₂ : ℕ} → Parted (nodeNumber (t .nodes) x 1) x z₁ → Parted (nodeNumber t₁ y 1) y z₂ → subℕ (z₁ + z₂) (z₃ + z₄) ≡ answer (graphOf n t) (edgeUpdate insert u v)
               unfolding graphOf
               asked-answer p₁ p₂ = update-answer (asked-update lx my) x₁ x₂ back₃ back₄ p₁ p₂
-
--- the table built from nothing
-module _ {n : ℕ} {t : Tables} (a : Bare n t) where
-  pub bare-ready : Ready n (t .edges) (t .keys)
-  unfolding graphOf
-  bare-ready = rw (a .edges, a .keys) (ready (graphOf n t) (a .proper))
-
-  pub bare-small : n ≤ maxNodes
-  unfolding graphOf
-  bare-small = a .proper .small
-
-  alike-bare : similar (nodes n) (graphOf n t .edge) ≡ similarIn n (t .edges)
-  unfolding graphOf edgesIn
-  alike-bare = refl
-
-  pub bare-mark : (p : ℕ) → p < n → nodeNumber (t .nodes) p 3 ≡ cond (graphOf n t .hidden p) 1 0
-  unfolding graphOf
-  bare-mark p hp = step (lt-ltb p n hp) (decide (eqb (nodeNumber (t .nodes) p 3) 1))
-    where
-      step : ltb p n ≡ true → (eqb (nodeNumber (t .nodes) p 3) 1 ≡ true) ⊎ (eqb (nodeNumber (t .nodes) p 3) 1 ≡ false) → nodeNumber (t .nodes) p 3 ≡ cond (graphOf n t .hidden p) 1 0
-      step l (inl e) = rw (l, e) (eqb-true _ _ e)
-      step l (inr e) = rw (l, e) (omega (arith, a .marks p hp, eqb-false (nodeNumber (t .nodes) p 3) 1 e))
-
-  module _ {t₁ : List ℕ} (l : Lone n (t .nodes) t₁) where
-    pub bare-start : Built n 0 (similarIn n (t .edges)) t₁ t₁
-    unfolding graphOf edgesIn
-    bare-start = built-none _ (graph-parts (graphOf n t) (a .proper)) bare-small (a .size) l
-
-    module _ {m : ℕ} {t₂ : List ℕ} (b : Built n m (similarIn n (t .edges)) t₁ t₂) where
-      pub bare-sound : m < n → Sound n t₂
-      unfolding graphOf edgesIn
-      bare-sound h = built-sound _ (graph-parts (graphOf n t) (a .proper)) b h
-
-      pub bare-more : m < n → {z : ℕ} {t₃ : List ℕ} → Back n m m m z (similarIn n (t .edges) m) t₂ t₃ → Built n (m + 1) (similarIn n (t .edges)) t₁ t₃
-      unfolding graphOf edgesIn
-      bare-more h x = built-more _ (graph-parts (graphOf n t) (a .proper)) b h x
-
-      pub bare-done : n ≤ m → t₂ ≡ nodesOf (graphOf n t)
-      unfolding graphOf edgesIn
-      bare-done h = build-nodes (graphOf n t) (a .proper) l b h bare-mark

@@ -35,7 +35,7 @@ first-cases P q (suc k) = step (P q) refl (first-cases P (suc q) k)
     step false e (inr x) = inr (omega (arith, x .0), λ p h h′. later e (x .1) p h h′ (ℕ-discrete p q))
 
 -- what the search returns
-module _ (n m u w : ℕ) (edges t : List ℕ) where
+module _ (n u w : ℕ) (edges t : List ℕ) where
   fit : (q : ℕ) → joins n edges t u w q ≡ true → Fit u w (similarIn n edges u) t q
   unfolding joins
   fit q h =
@@ -52,12 +52,12 @@ module _ (n m u w : ℕ) (edges t : List ℕ) where
   unfolding joins
   unfit q h x = differ (and-true (ap not (ne-eqb q u (x .not-u))) (and-true (ap not (ne-eqb q w (x .not-w))) (and-true (eq-eqb (nodeNumber t q 0) q (x .leads)) (x .alike)))) h
 
-  pub found : {r : ℕ} → r ≡ firstFrom (joins n edges t u w) 0 m → Found m u w (similarIn n edges u) t r
-  found {r} e = subst (λ x. Found m u w (similarIn n edges u) t x) (sym e) (step (first-cases (joins n edges t u w) 0 m))
+  pub found : {r : ℕ} → r ≡ firstFrom (joins n edges t u w) 0 n → Found n u w (similarIn n edges u) t r
+  found {r} e = subst (λ x. Found n u w (similarIn n edges u) t x) (sym e) (step (first-cases (joins n edges t u w) 0 n))
     where
       f : ℕ
-      f = firstFrom (joins n edges t u w) 0 m
+      f = firstFrom (joins n edges t u w) 0 n
 
-      step : ((f < 0 + m) × (joins n edges t u w f ≡ true)) ⊎ ((f ≡ 0 + m) × ((p : ℕ) → 0 ≤ p → p < 0 + m → joins n edges t u w p ≡ false)) → Found m u w (similarIn n edges u) t f
+      step : ((f < 0 + n) × (joins n edges t u w f ≡ true)) ⊎ ((f ≡ 0 + n) × ((p : ℕ) → 0 ≤ p → p < 0 + n → joins n edges t u w p ≡ false)) → Found n u w (similarIn n edges u) t f
       step (inl x) = at (omega (arith, x .0)) (fit f (x .1))
       step (inr x) = nowhere (omega (arith, x .0)) (λ p h. unfit p (x .1 p (omega arith) (omega arith)))

@@ -15,14 +15,6 @@ use Rattle.rows.specs.Search.{edgesIn}
 abbrev pub similarIn : ℕ → List ℕ → ℕ → ℕ → Bool
 similarIn n edges = similar (nodes n) (edgesIn n edges)
 
--- edges and keys are those of the graph that edges and marks tell; the other numbers of the node table are free
-pub record Bare (n : ℕ) (t : Tables) : Type 0 where
-  pub proper : Proper (graphOf n t)
-  pub edges : t .edges ≡ edgesOf (graphOf n t)
-  pub keys : t .keys ≡ keysOf (graphOf n t)
-  pub size : length (t .nodes) ≡ nodeNumbers * n
-  pub marks : (p : ℕ) → p < n → nodeNumber (t .nodes) p 3 < 2
-
 -- the update that inserts or deletes the edge between u and v
 abbrev pub edgeUpdate : Bool → ℕ → ℕ → Update
 edgeUpdate insert u v = record { kind = cond insert 1 2; u = u; v = v }

@@ -5,25 +5,28 @@ ghost use Prim.Native.Nat.{_+_, _*_, _≤_, _<_, min, max};
 ghost use lib.ListN.{length};
 ghost use lib.IntN.{subℕ};
 ghost use Rattle.model.specs.Graph.{maxNodes, nodeNumbers};
-ghost use Rattle.model.specs.Tables.{graphOf, nodeNumber, nodesOf, tablesOf};
+ghost use Rattle.model.specs.Tables.{graphOf, nodeNumber, tablesOf};
 ghost use Rattle.model.specs.Updates.{answer, updated};
 ghost use Rattle.rows.specs.Rows.{lent};
 ghost use Rattle.rows.specs.Search.{Ready};
 ghost use Rattle.rings.specs.Steps.{
   Back,
   Before,
+  Built,
   Heir,
+  Kept,
+  Leading,
   Linked,
-  Lone,
   Parted,
   Placed,
   Renamed,
+  Rings,
   Sound,
   Stored,
   Taken,
   rising,
 };
-ghost use Rattle.groups.specs.Groups.{Asked, Bare, edgeUpdate, similarIn};
+ghost use Rattle.groups.specs.Groups.{Asked, edgeUpdate, similarIn};
 use rows::Graph;
 
 // The numbers of a node.
@@ -159,46 +162,49 @@ fn put_in(nodes: &mut [u16], n: usize, u: usize, g: usize)
     link(nodes, n, u, b);
 }
 
-// Every node is alone.
-fn part_all(nodes: &mut [u16], n: usize)
-    requires { ⌜ (n ≤ maxNodes) × (length (now nodes) ≡ nodeNumbers * n) ⌝ }
-    ensures { λ _. ⌜ Lone n (now (nodes .entry)) (now (nodes .exit)) ⌝ }
-{
-    for p in 0..n {
-        store(nodes, p, LEAST, p);
-        link(nodes, n, p, p);
-    }
-}
-
-// u, which is alone, joins its group, if one is led by a node below m other than w. 1 if it does, else 0.
+// u, which is alone, joins its group, if one is led by a node other than w. 1 if it does, else 0.
 pub fn put_back(
     edges: &[u64],
     nodes: &mut [u16],
     keys: &[u32],
     n: usize,
-    m: usize,
     u: usize,
     w: usize,
 ) -> usize
-    requires { ⌜ Sound n (now nodes) × Ready n (now edges) (now keys) × (m ≤ n) × (u < n) × (w < n) ⌝ }
-    ensures { λ r. ⌜ Back n m u w r (similarIn n (now (edges .entry)) u) (now (nodes .entry)) (now (nodes .exit)) ⌝ }
+    requires { ⌜ Sound n (now nodes) × Ready n (now edges) (now keys) × (u < n) × (w < n) ⌝ }
+    ensures { λ r. ⌜ Back n u w r (similarIn n (now (edges .entry)) u) (now (nodes .entry)) (now (nodes .exit)) ⌝ }
 {
-    let g = rows::find_group(edges, nodes, keys, n, m, u, w);
-    if g < m {
+    let g = rows::find_group(edges, nodes, keys, n, n, u, w);
+    if g < n {
         put_in(nodes, n, u, g);
         return 1;
     }
     0
 }
 
-// The groups made from nothing: whatever stood there, and the marks kept.
-pub fn build(edges: &[u64], nodes: &mut [u16], keys: &[u32], n: usize)
-    requires { ⌜ Bare n (lent (now edges) (now nodes) (now keys)) ⌝ }
-    ensures { λ _. ⌜ now (nodes .exit) ≡ nodesOf (graphOf n (lent (now (edges .entry)) (now (nodes .entry)) (now (keys .entry)))) ⌝ }
+// p joins the group of its least member: it is the last of the ring, or leads one of its own.
+fn append(nodes: &mut [u16], least: &[u16], n: usize, p: usize)
+    requires { ⌜ (n ≤ maxNodes) × (length (now nodes) ≡ nodeNumbers * n) × Leading n (now least) × Rings p (now least) (now nodes) × (p < n) ⌝ }
+    ensures { λ _. ⌜ Rings (p + 1) (now (least .entry)) (now (nodes .exit)) × Kept (now (nodes .entry)) (now (nodes .exit)) ⌝ }
 {
-    part_all(nodes, n);
-    for u in 0..n {
-        let _ = put_back(edges, nodes, keys, n, u, u, u);
+    let l = rows::wide(least[p]);
+    store(nodes, p, LEAST, l);
+    if l == p {
+        link(nodes, n, p, p);
+        return;
+    }
+    let a = number(nodes, l, PREVIOUS);
+    link(nodes, n, a, p);
+    link(nodes, n, p, l);
+}
+
+// The node table of a graph, from the least members of its groups: whatever stood there, and the marks kept.
+pub fn build(nodes: &mut [u16], least: &[u16], n: usize)
+    requires { ⌜ (n ≤ maxNodes) × (length (now nodes) ≡ nodeNumbers * n) × Leading n (now least) ⌝ }
+    ensures { λ _. ⌜ Built n (now (least .entry)) (now (nodes .entry)) (now (nodes .exit)) ⌝ }
+{
+    for p in 0..n {
+        append(nodes, least, n, p);
     }
 }
 
@@ -229,8 +235,8 @@ pub fn update_edge(
     let b_left = take_out(nodes, n, b);
     rows::change_edge(edges, u, v);
     rows::change_keys(keys, u, v, insert);
-    let a_joined = put_back(edges, nodes, keys, n, n, a, b);
-    let b_joined = put_back(edges, nodes, keys, n, n, b, b);
+    let a_joined = put_back(edges, nodes, keys, n, a, b);
+    let b_joined = put_back(edges, nodes, keys, n, b, b);
     let left = a_left + b_left;
     let joined = a_joined + b_joined;
     difference(left, joined)

@@ -15,10 +15,12 @@ use Rattle.rows.specs.Rows.{lent, Words}
 use Rattle.rows.specs.Search.{edgesIn, graphIn as rowsGraph}
 use Rattle.rows.specs.EdgeLaws.{edges-by-bits}
 use Rattle.rows.specs.SearchLaws.{edges-in}
-use Rattle.groups.specs.Groups.{Bare}
+use Rattle.rings.specs.Steps.{Built, Grouped, Leading}
+use Rattle.rings.specs.BuildLaws.{grouped-leading}
+use Rattle.rings.specs.NodesLaws.{mark-read}
 use Rattle.visible.specs.Visible.{Within}
 use Rattle.reader.specs.Decoding.{graphIn, HoldsGraph}
-use Rattle.release.specs.Fill.{Copied, MarksPut}
+use Rattle.release.specs.Fill.{Copied, LeastTold, MarksPut}
 
 module _ (n : ℕ) {drawn hidden : List ℕ} (h : HoldsGraph n drawn hidden) (es : List ℕ) {es₁ : List ℕ} (le : length es ≡ rowWords * n) (a : Copied (length es) drawn es es₁) (w : Words es₁) where
   abbrev g : Graph
@@ -56,28 +58,30 @@ module _ (n : ℕ) {drawn hidden : List ℕ} (h : HoldsGraph n drawn hidden) (es
   pub filled-within : Within n es₁
   filled-within = record { small = small; edges-of = filled-edges ∙ unfold edgesOf rowOf graphIn in ap (λ (e : ℕ → ℕ → Bool). edgesOf (with e)) (sym same-edge) }
 
-  module _ (ns : List ℕ) {ns₁ ks₁ : List ℕ} (ln : length ns ≡ nodeNumbers * n) (m : MarksPut n hidden ns ns₁) (k : ks₁ ≡ keysOf (rowsGraph n es₁)) where
-    filled-keys : ks₁ ≡ keysOf (graphIn n drawn hidden)
-    unfolding keysOf keyPair graphIn
-    filled-keys = k ∙ ap (λ (e : ℕ → ℕ → Bool). keysOf (with e)) same-edge
+  pub filled-proper : Proper (rowsGraph n es₁)
+  filled-proper = record { small = small; symmetric = λ p q. rw same-edge (unfold graphIn in h .proper .symmetric p q); irreflexive = λ p. rw same-edge (unfold graphIn in h .proper .irreflexive p); inside = λ p q. rw same-edge (unfold graphIn in h .proper .inside p q); held = λ p x. absurd (differ x refl) }
 
-    same : graphOf n (lent es₁ ns₁ ks₁) ≡ graphIn n drawn hidden
-    unfolding graphOf graphIn edgesIn
-    same = λ i. record { nodeCount = n; edge = same-edge i; hidden = fun-ext (λ p. mark p (decide (ltb p n))) i }
-      where
-        mark : (p : ℕ) → (ltb p n ≡ true) ⊎ (ltb p n ≡ false) → (ltb p n && eqb (nodeNumber ns₁ p 3) 1) ≡ (ltb p n && eqb (getD hidden p 0) 1)
-        mark p (inl x) = rw (m .marks p (ltb-true p n x))
-        mark p (inr x) = rw x
-
-    pub filled-bare : Bare n (lent es₁ ns₁ ks₁)
-    filled-bare = record {
-      proper = rw same (h .proper);
-      edges = filled-edges ∙ ap edgesOf (sym same);
-      keys = filled-keys ∙ ap keysOf (sym same);
-      size = m .size ∙ ln;
-      marks = λ p l. omega (arith, m .marks p l, h .marks p (omega (arith, small)));
+  module _ (ns : List ℕ) {ns₁ : List ℕ} (ln : length ns ≡ nodeNumbers * n) (m : MarksPut n hidden ns ns₁) where
+    -- the node table is built from the least members
+    pub filled-grouped : {lst : List ℕ} → LeastTold n es₁ lst → Grouped (graphIn n drawn hidden) lst ns₁
+    filled-grouped {lst} t = record {
+      proper = h .proper;
+      least = unfold graphIn in (λ p l. t .told p l ∙ rw same-edge refl);
+      size = unfold graphIn in m .size ∙ ln;
+      marks = unfold graphIn in (λ p l. m .marks p l ∙ mark-read n p (getD hidden p 0) l (omega (arith, h .marks p (omega (arith, small)))));
     }
 
-    pub filled-tables : {ns₂ : List ℕ} → ns₂ ≡ nodesOf (graphOf n (lent es₁ ns₁ ks₁)) → lent es₁ ns₂ ks₁ ≡ tablesOf (graphIn n drawn hidden)
-    unfolding tablesOf
-    filled-tables e = λ i. record { edges = filled-edges i; nodes = (e ∙ ap nodesOf same) i; keys = filled-keys i }
+    pub filled-leading : {lst : List ℕ} → LeastTold n es₁ lst → Leading n lst
+    unfolding graphIn
+    filled-leading t = grouped-leading (filled-grouped t) (t .size)
+
+    module _ {ks₁ : List ℕ} (k : ks₁ ≡ keysOf (rowsGraph n es₁)) where
+      filled-keys : ks₁ ≡ keysOf (graphIn n drawn hidden)
+      unfolding keysOf keyPair graphIn
+      filled-keys = k ∙ ap (λ (e : ℕ → ℕ → Bool). keysOf (with e)) same-edge
+
+      pub filled-tables : {lst ns₂ : List ℕ} → LeastTold n es₁ lst → Built n lst ns₁ ns₂ → lent es₁ ns₂ ks₁ ≡ tablesOf (graphIn n drawn hidden)
+      unfolding tablesOf
+      filled-tables t b =
+          let e : _ ≡ nodesOf (graphIn n drawn hidden) = b .nodes (graphIn n drawn hidden) (unfold graphIn in refl) (filled-grouped t) in
+          λ i. record { edges = filled-edges i; nodes = e i; keys = filled-keys i }

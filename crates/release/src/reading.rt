@@ -1,11 +1,26 @@
 // A release read back into tables.
 ghost use mathlib.Core.Path.{_≡_};
+ghost use Prim.Native.Nat.{_≤_};
 ghost use lib.ListN.{length};
+ghost use Rattle.model.specs.Graph.{Proper};
 ghost use Rattle.model.specs.Tables.{tablesOf};
 ghost use Rattle.rows.specs.Rows.{lent};
+ghost use Rattle.rows.specs.Search.{graphIn as rowsGraph};
+ghost use Rattle.visible.specs.Visible.{Within};
 ghost use Rattle.reader.specs.Decoding.{HoldsGraph, graphIn};
 ghost use Rattle.index.specs.Index.{Sized};
+ghost use Rattle.release.specs.Fill.{LeastTold};
 use crate::copies;
+use rows::Graph;
+
+// The least members of the groups of all nodes: none is marked as hidden.
+fn group_all(edges: &[u64], n: usize, least: &mut [u16])
+    requires { ⌜ Within n (now edges) × Proper (rowsGraph n (now edges)) × (n ≤ length (now least)) ⌝ }
+    ensures { λ _. ⌜ LeastTold n (now (edges .entry)) (now (least .exit)) ⌝ }
+{
+    let marks = [0u16; Graph::NODES];
+    visible::find_groups(edges, &marks, n, least);
+}
 
 // The tables of the graph that stands in arrays.
 pub fn fill(
@@ -22,5 +37,7 @@ pub fn fill(
     copies::copy_words(drawn, edges);
     copies::put_marks(hidden, n, nodes);
     visible::sum_keys(edges, keys, n);
-    groups::build(edges, nodes, keys, n);
+    let mut least = [0u16; Graph::NODES];
+    group_all(edges, n, &mut least);
+    groups::build(nodes, &least, n);
 }

@@ -1,123 +1,156 @@
--- A table made from nothing: every node alone, and then one node after the other put to those before it.
-use mathlib.Core.Path.{_≡_, refl, sym, subst, _∙_}
-use mathlib.Core.Logic.{_⊎_, inl, inr, ⊎-elim}
-use mathlib.Core.Bool.{Bool}
+-- A node table made from least members: each node is put at the end of its leader's ring.
+use mathlib.Core.Path.{_≡_, refl, sym, subst, _∙_, ap}
+use mathlib.Core.Logic.{_≢_, _⊎_, inl, inr}
 use mathlib.Core.List.{List}
 use Prim.Native.Nat.{ℕ, _+_, _*_, _≤_, _<_}
 use native.Mathlib.Omega.{arith}
 use native.Mathlib.Decide.{ℕ-discrete}
-use lib.ListN.{length}
-use Rattle.model.specs.Graph.{maxNodes, nodeNumbers}
-use Rattle.model.specs.Tables.{nodeNumber}
-use Rattle.rings.specs.Ring.{up, Parts, Best, Out, Ring, Table, Of}
-use Rattle.rings.specs.Steps.{Sound, Stored, Linked, Back, Lone}
+use lib.ListN.{length, getD}
+use Rattle.model.specs.Lists.{nodes}
+use Rattle.model.specs.Graph.{Graph, nodeNumbers}
+use Rattle.model.specs.Grouping.{similar}
+use Rattle.model.specs.Tables.{nodeNumber, nodesOf}
+use Rattle.model.specs.TableLaws.{least-at}
+use Rattle.rings.specs.Ring.{Of, Parts}
+use Rattle.rings.specs.Steps.{Built, Follows, Grouped, Kept, Leading, Linked, Rings, Stored}
 use Rattle.rings.specs.StoreLaws.{at, off, beside, size}
-use Rattle.rings.specs.MoveLaws.{sound}
-use Rattle.rings.specs.UpdateLaws.{back, back-size, back-rest, same}
+use Rattle.rings.specs.NodesLaws.{graph-parts, is-nodes, of-nodes}
+use Rattle.rings.specs.CertificateLaws.{Led, certified, led}
 
--- the groups of the nodes below m, and the others alone
-abbrev Upto : ℕ → (ℕ → ℕ → Type 0) → ℕ → ℕ → Type 0
-Upto m R p q = R p q × ((p ≡ q) ⊎ ((p < m) × (q < m)))
+pub rings-none : (lst t : List ℕ) → Rings 0 lst t
+rings-none lst t = record { least = λ p h. absurd (omega arith); follows = λ p h. absurd (omega arith) }
 
-upto-parts : {n : ℕ} {R : ℕ → ℕ → Type 0} → Parts n R → (m : ℕ) → Parts n (Upto m R)
-upto-parts k m =
-    record {
-      below = λ x. k .below (x .0);
-      own = λ h. (k .own h, inl refl);
-      back = λ x. (k .back (x .0), ⊎-elim (λ e. inl (sym e)) (λ h. inr (h .1, h .0)) (x .1));
-      on = λ {p} {q} {r} x y. (k .on (x .0) (y .0), on p q r (x .1) (y .1));
-    }
-  where
-    on : (p q r : ℕ) → (p ≡ q) ⊎ ((p < m) × (q < m)) → (q ≡ r) ⊎ ((q < m) × (r < m)) → (p ≡ r) ⊎ ((p < m) × (r < m))
-    on p q r (inl e) (inl f) = inl (e ∙ f)
-    on p q r (inl e) (inr h) = inr (omega arith, omega arith)
-    on p q r (inr h) (inl f) = inr (omega arith, omega arith)
-    on p q r (inr h) (inr h′) = inr (h .0, h′ .1)
+pub kept-none : (t : List ℕ) → Kept t t
+kept-none t = record { marks = λ p. refl; size = refl }
 
-pub lone-none : (t : List ℕ) → Lone 0 t t
-lone-none t = record { least = λ p h. absurd (omega arith); next = λ p h. absurd (omega arith); prev = λ p h. absurd (omega arith); rest = λ p k h h′. refl; size = refl }
+pub kept-more : {t t₁ t₂ : List ℕ} → Kept t t₁ → Kept t₁ t₂ → Kept t t₂
+kept-more a b = record { marks = λ p. b .marks p ∙ a .marks p; size = b .size ∙ a .size }
 
-module _ {n i : ℕ} {t t₁ t₂ t₃ : List ℕ} (l : length t ≡ nodeNumbers * n) (h : i < n) (a : Lone i t t₁) (e : Stored i 0 i t₁ t₂) (f : Linked i i t₂ t₃) where
-  pub lone-more : Lone (i + 1) t t₃
-  lone-more =
-      record {
-        least = λ p hp. f .least p ∙ least p hp (ℕ-discrete p i);
-        next = λ p hp. next p hp (ℕ-discrete p i);
-        prev = λ p hp. prev p hp (ℕ-discrete p i);
-        rest = λ p k h₁ h₂. f .rest p k h₁ h₂ ∙ beside e p k h₂ (omega arith) (omega arith) ∙ a .rest p k h₁ h₂;
-        size = f .size ∙ size e ∙ a .size;
-      }
+-- p follows a
+by-previous : {n p : ℕ} (a : ℕ) {t : List ℕ} → nodeNumber t p 2 ≡ a → a < n → nodeNumber t a 0 ≡ nodeNumber t p 0 → nodeNumber t a 1 ≡ p → (nodeNumber t p 0 ≡ p) ⊎ (a < p) → Follows n t p
+by-previous {n} {p} a {t} e h f g o = record { below = rw e h; fellow = rw e f; next = rw e g; order = rw e o }
+
+-- node i is put at the end of the ring of l
+module _ {n i l : ℕ} {lst t t₁ : List ℕ} (k : Leading n lst) (s : length t ≡ nodeNumbers * n) (h : i < n) (r : Rings i lst t) (el : l ≡ getD lst i 0) (e : Stored i 0 l t t₁) where
+  pub end-before : l ≢ i → l < i
+  end-before d = omega (arith, k .low i h)
+
+  -- it leads the ring
+  pub leader-put : {t₂ : List ℕ} → l ≡ i → Linked i i t₁ t₂ → Rings (i + 1) lst t₂ × Kept t t₂
+  leader-put {t₂} d f = (record { least = λ p hp. least p hp (ℕ-discrete p i); follows = λ p hp. follows p hp (ℕ-discrete p i) }, record { marks = λ p. f .rest p 3 (omega arith) (omega arith) ∙ beside e p 3 (omega arith) (omega arith) (omega arith); size = f .size ∙ size e })
     where
-      least : (p : ℕ) → p < i + 1 → Dec (p ≡ i) → nodeNumber t₂ p 0 ≡ p
-      least p hp (yes d) = rw d (at e (omega (arith, a .size)))
-      least p hp (no d) = off e p 0 (omega arith) (omega arith) d ∙ a .least p (omega arith)
+      here : nodeNumber t₂ i 0 ≡ l
+      here = f .least i ∙ at e (omega arith)
 
-      next : (p : ℕ) → p < i + 1 → Dec (p ≡ i) → nodeNumber t₃ p 1 ≡ p
-      next p hp (yes d) = rw d (f .next-at)
-      next p hp (no d) = f .next-off p d ∙ beside e p 1 (omega arith) (omega arith) (omega arith) ∙ a .next p (omega arith)
+      old : (p : ℕ) → p ≢ i → nodeNumber t₂ p 0 ≡ nodeNumber t p 0
+      old p ne = f .least p ∙ off e p 0 (omega arith) (omega arith) ne
 
-      prev : (p : ℕ) → p < i + 1 → Dec (p ≡ i) → nodeNumber t₃ p 2 ≡ p
-      prev p hp (yes d) = rw d (f .prev-at)
-      prev p hp (no d) = f .prev-off p d ∙ beside e p 2 (omega arith) (omega arith) (omega arith) ∙ a .prev p (omega arith)
+      least : (p : ℕ) → p < i + 1 → Dec (p ≡ i) → nodeNumber t₂ p 0 ≡ getD lst p 0
+      least p hp (yes j) = rw j (here ∙ el)
+      least p hp (no j) = old p j ∙ r .least p (omega arith)
 
-pub lone-all : {n i : ℕ} {t t′ : List ℕ} → Lone i t t′ → n ≤ i → Lone n t t′
-lone-all a h = record { least = λ p hp. a .least p (omega arith); next = λ p hp. a .next p (omega arith); prev = λ p hp. a .prev p (omega arith); rest = a .rest; size = a .size }
+      follows : (p : ℕ) → p < i + 1 → Dec (p ≡ i) → Follows (i + 1) t₂ p
+      follows p hp (yes j) = rw j (by-previous i (f .prev-at) (omega arith) refl (f .next-at) (inl (here ∙ d)))
+      follows p hp (no j) =
+          let w = r .follows p (omega arith) in
+          let b = w .below in
+          by-previous (nodeNumber t p 2)
+          (f .prev-off p j ∙ beside e p 2 (omega arith) (omega arith) (omega arith)) (omega arith)
+          (old (nodeNumber t p 2) (omega arith) ∙ w .fellow ∙ sym (old p j))
+          (f .next-off (nodeNumber t p 2) (omega arith) ∙ beside e (nodeNumber t p 2) 1 (omega arith) (omega arith) (omega arith) ∙ w .next)
+          (subst (λ x. (x ≡ p) ⊎ (nodeNumber t p 2 < p)) (sym (old p j)) (w .order))
 
--- the nodes below m are done
-pub record Built (n m : ℕ) (sim : ℕ → ℕ → Bool) (t t′ : List ℕ) : Type 0 where
-  pub table : Table n (Upto m (Of n sim)) t′
-  pub rest : (p k : ℕ) → p < n → 3 ≤ k → k < nodeNumbers → nodeNumber t′ p k ≡ nodeNumber t p k
-  pub size : length t′ ≡ nodeNumbers * n
-  pub small : n ≤ maxNodes
-  pub within : m ≤ n
+  -- it follows a, the last member so far
+  module _ {a : ℕ} (d : l ≢ i) (ea : a ≡ nodeNumber t₁ l 2) where
+    hl : l < i
+    hl = end-before d
 
-module _ {n : ℕ} (sim : ℕ → ℕ → Bool) (k : Parts n (Of n sim)) where
-  pub built-none : {t t′ : List ℕ} → n ≤ maxNodes → length t ≡ nodeNumbers * n → Lone n t t′ → Built n 0 sim t′ t′
-  built-none {t} {t′} s l a =
-      record {
-        table = record { least = ring (λ p q. q) (a .least); next = ring (λ p q. up n p q) (a .next); prev = ring (λ p q. up n q p) (a .prev) };
-        rest = λ p k hp h3 hk. refl;
-        size = a .size ∙ l;
-        small = s;
-        within = omega arith;
-      }
-    where
-      ring : (δ : ℕ → ℕ → ℕ) {N : ℕ → ℕ} → ((p : ℕ) → p < n → N p ≡ p) → Ring n (Upto 0 (Of n sim)) δ N
-      ring δ {N} h p hp =
-          subst (λ v. Best (Upto 0 (Of n sim) p) (δ p) v) (sym (h p hp))
-          (record {
-            mem = (k .own hp, inl refl);
-            near = λ r x. ⊎-elim (λ e. subst (λ v. δ p p ≤ δ p v) e (omega arith)) (λ i. absurd (omega arith)) (x .1);
-          })
+    last : Follows i t l
+    last = r .follows l hl
 
-  module _ {m : ℕ} {t t₁ : List ℕ} (a : Built n m sim t t₁) (hm : m < n) where
-    pub built-sound : Sound n t₁
-    built-sound = sound (upto-parts k m) (a .table) (a .small) (a .size)
+    is-last : nodeNumber t l 2 ≡ a
+    is-last = sym (ea ∙ beside e l 2 (omega arith) (omega arith) (omega arith))
 
-    pub built-more : {z : ℕ} {t₂ : List ℕ} → Back n m m m z (sim m) t₁ t₂ → Built n (m + 1) sim t t₂
-    built-more b =
-        record {
-          table = back (upto-parts k (m + 1)) hm (same out in-out (a .table))
-              (λ r hr nm nm′ s. ((hm, omega arith, s), inr (omega arith, omega arith)))
-              (λ r x nm. (⊎-elim (λ e. absurd (nm (sym e))) (λ h. omega arith) (x .1), nm, x .0 .2))
-              b;
-          rest = λ p k hp h3 hk. back-rest b p k hp h3 hk ∙ a .rest p k hp h3 hk;
-          size = back-size b ∙ a .size;
-          small = a .small;
-          within = omega arith;
-        }
+    pub end-inside : a < i
+    end-inside = omega (arith, last .below, is-last)
+
+    leads : nodeNumber t l 0 ≡ l
+    leads = r .least l hl ∙ ap (λ (x : ℕ). getD lst x 0) el ∙ k .leads i h ∙ sym el
+
+    pub member-put : {t₂ t₃ : List ℕ} → Linked a i t₁ t₂ → Linked i l t₂ t₃ → Rings (i + 1) lst t₃ × Kept t t₃
+    member-put {t₂} {t₃} f g = (
+      record { least = λ p hp. least p hp (ℕ-discrete p i); follows = λ p hp. follows p hp (ℕ-discrete p i) (ℕ-discrete p l) },
+      record { marks = λ p. g .rest p 3 (omega arith) (omega arith) ∙ f .rest p 3 (omega arith) (omega arith) ∙ beside e p 3 (omega arith) (omega arith) (omega arith); size = g .size ∙ f .size ∙ size e },
+    )
       where
-        out : (p q : ℕ) → Upto m (Of n sim) p q → Out m (Upto (m + 1) (Of n sim)) p q
-        out p q x = ⊎-elim (λ e. ((x .0, inl e), (λ i. sym e ∙ i), (λ i. e ∙ i))) (λ h. ((x .0, inr (omega arith, omega arith)), (λ i. absurd (omega arith)), (λ i. absurd (omega arith)))) (x .1)
+        ha : a < i
+        ha = end-inside
 
-        in-out : (p q : ℕ) → Out m (Upto (m + 1) (Of n sim)) p q → Upto m (Of n sim) p q
-        in-out p q x = (x .0 .0, ⊎-elim (λ e. inl e) (λ h. go h (ℕ-discrete p m) (ℕ-discrete q m)) (x .0 .1))
-          where
-            go : (p < m + 1) × (q < m + 1) → Dec (p ≡ m) → Dec (q ≡ m) → (p ≡ q) ⊎ ((p < m) × (q < m))
-            go h (yes e) d = inl (e ∙ sym (x .1 e))
-            go h (no e) (yes f) = absurd (e (x .2 f))
-            go h (no e) (no f) = inr (omega arith, omega arith)
+        here : nodeNumber t₃ i 0 ≡ l
+        here = g .least i ∙ f .least i ∙ at e (omega arith)
 
-  -- all nodes are done
-  pub built : {m : ℕ} {t t′ : List ℕ} → Built n m sim t t′ → n ≤ m → Table n (Of n sim) t′
-  built a h = same (λ p q x. x .0) (λ p q x. (x, inr (omega (arith, x .0), omega (arith, x .1)))) (a .table)
+        old : (p : ℕ) → p ≢ i → nodeNumber t₃ p 0 ≡ nodeNumber t p 0
+        old p ne = g .least p ∙ f .least p ∙ off e p 0 (omega arith) (omega arith) ne
+
+        last-leads : nodeNumber t a 0 ≡ l
+        last-leads = rw is-last at (last .fellow) ∙ leads
+
+        last-next : nodeNumber t a 1 ≡ l
+        last-next = rw is-last at (last .next)
+
+        least : (p : ℕ) → p < i + 1 → Dec (p ≡ i) → nodeNumber t₃ p 0 ≡ getD lst p 0
+        least p hp (yes j) = rw j (here ∙ el)
+        least p hp (no j) = old p j ∙ r .least p (omega arith)
+
+        follows : (p : ℕ) → p < i + 1 → Dec (p ≡ i) → Dec (p ≡ l) → Follows (i + 1) t₃ p
+        follows p hp (yes j) y = rw j (by-previous a (g .prev-off i (omega arith) ∙ f .prev-at) (omega (arith, ha)) (old a (omega (arith, ha)) ∙ last-leads ∙ sym here) (g .next-off a (omega (arith, ha)) ∙ f .next-at) (inr ha))
+        follows p hp (no j) (yes y) = rw y (by-previous i (g .prev-at) (omega arith) (here ∙ sym (old l (omega arith) ∙ leads)) (g .next-at) (inl (old l (omega arith) ∙ leads)))
+        follows p hp (no j) (no y) =
+            let w = r .follows p (omega arith) in
+            let b = w .below in
+            let c : nodeNumber t p 2 ≢ a = λ x. y (sym (w .next) ∙ ap (λ (z : ℕ). nodeNumber t z 1) x ∙ last-next) in
+            by-previous (nodeNumber t p 2)
+            (g .prev-off p y ∙ f .prev-off p j ∙ beside e p 2 (omega arith) (omega arith) (omega arith)) (omega arith)
+            (old (nodeNumber t p 2) (omega arith) ∙ w .fellow ∙ sym (old p j))
+            (g .next-off (nodeNumber t p 2) (omega arith) ∙ f .next-off (nodeNumber t p 2) c ∙ beside e (nodeNumber t p 2) 1 (omega arith) (omega arith) (omega arith) ∙ w .next)
+            (subst (λ x. (x ≡ p) ⊎ (nodeNumber t p 2 < p)) (sym (old p j)) (w .order))
+
+-- what a table must have of the model's: the least members
+led-same : {n : ℕ} {R : ℕ → ℕ → Type 0} (t : List ℕ) {t′ : List ℕ} → Parts n R → Led n R t → ((p : ℕ) → p < n → nodeNumber t′ p 0 ≡ nodeNumber t p 0) → Led n R t′
+led-same {n} {R} t {t′} k a s = record {
+  low = λ p hp. omega (arith, s p hp, a .low p hp);
+  leads = λ p hp. rw (s p hp) (s (nodeNumber t p 0) (k .below (a .alike p hp)) ∙ a .leads p hp);
+  alike = λ p hp. rw (s p hp) (a .alike p hp);
+  apart = λ u q l eu eq x. a .apart u q l (sym (s u (k .below (k .back x))) ∙ eu) (sym (s q (k .below x)) ∙ eq) x;
+}
+
+-- lst has the least members of the groups, so the table is the model's
+module _ {g : Graph} {lst t : List ℕ} (a : Grouped g lst t) where
+  abbrev R : ℕ → ℕ → Type 0
+  R = Of (g .nodeCount) (similar (nodes (g .nodeCount)) (g .edge))
+
+  parts : Parts (g .nodeCount) (Of (g .nodeCount) (similar (nodes (g .nodeCount)) (g .edge)))
+  parts = graph-parts g (a .proper)
+
+  model : Led (g .nodeCount) (Of (g .nodeCount) (similar (nodes (g .nodeCount)) (g .edge))) (nodesOf g)
+  model = led parts (nodesOf g) (of-nodes g (a .proper))
+
+  is-least : (p : ℕ) → p < g .nodeCount → getD lst p 0 ≡ nodeNumber (nodesOf g) p 0
+  is-least p hp = a .least p hp ∙ sym (least-at g p hp)
+
+  pub grouped-leading : g .nodeCount ≤ length lst → Leading (g .nodeCount) lst
+  grouped-leading s = record {
+    size = s;
+    low = λ p hp. omega (arith, is-least p hp, model .low p hp);
+    leads = λ p hp. rw (is-least p hp) (is-least (nodeNumber (nodesOf g) p 0) (omega (arith, model .low p hp)) ∙ model .leads p hp);
+  }
+
+  pub grouped-nodes : {t′ : List ℕ} → Rings (g .nodeCount) lst t′ → Kept t t′ → t′ ≡ nodesOf g
+  grouped-nodes {t′} r x =
+      is-nodes g (a .proper)
+      (certified parts t′ (led-same (nodesOf g) parts model (λ p hp. r .least p hp ∙ is-least p hp)) (r .follows))
+      (x .size ∙ a .size)
+      (λ p hp. x .marks p ∙ a .marks p hp)
+
+pub built : {n i : ℕ} {lst t t′ : List ℕ} → Rings i lst t′ → Kept t t′ → i ≡ n → Built n lst t t′
+built {n} {i} {lst} {t} {t′} r x e = record { nodes = λ g c a. grouped-nodes a (subst (λ z. Rings z lst t′) (e ∙ sym c) r) x }

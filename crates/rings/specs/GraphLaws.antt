@@ -22,10 +22,9 @@ use Rattle.model.specs.TableLaws.{least-at, length-nodes-of, mark-at, proper-si
 use Rattle.model.specs.BoundLaws.{similar-cong}
 use Rattle.model.specs.UpdateLaws.{answer-accepted, apart, proper-updated, rows-kept, u-inside, v-inside}
 use Rattle.rings.specs.Ring.{Table, Of}
-use Rattle.rings.specs.Steps.{Back, Lone, Parted, Taken}
+use Rattle.rings.specs.Steps.{Back, Parted, Taken}
 use Rattle.rings.specs.CountLaws.{bit, count, count-same, leads}
 use Rattle.rings.specs.UpdateLaws.{Shift, counted, moved, moved-rest, moved-size}
-use Rattle.rings.specs.BuildLaws.{Built, built}
 use Rattle.rings.specs.NodesLaws.{graph-parts, is-nodes, of-nodes}
 
 count-from : (f : ℕ → Bool) (a k : ℕ) → length (filter f (from a k)) + count a f ≡ count (a + k) f
@@ -120,8 +119,8 @@ module _ {g : Graph} {c : Update} {u v : ℕ} {t : List ℕ} (a : EdgeUpdate g c
       }
 
   module _ {t₁ t₂ t₃ t₄ : List ℕ} {z₃ z₄ : ℕ} (x₁ : Taken (g .nodeCount) u t t₁) (x₂ : Taken (g .nodeCount) v t₁ t₂)
-      (x₃ : Back (g .nodeCount) (g .nodeCount) u v z₃ (similar (nodes (g .nodeCount)) (updated g c .edge) u) t₂ t₃)
-      (x₄ : Back (g .nodeCount) (g .nodeCount) v v z₄ (similar (nodes (g .nodeCount)) (updated g c .edge) v) t₃ t₄) where
+      (x₃ : Back (g .nodeCount) u v z₃ (similar (nodes (g .nodeCount)) (updated g c .edge) u) t₂ t₃)
+      (x₄ : Back (g .nodeCount) v v z₄ (similar (nodes (g .nodeCount)) (updated g c .edge) v) t₃ t₄) where
     pub update-nodes : t₄ ≡ nodesOf (updated g c)
     unfolding updated
     update-nodes =
@@ -138,10 +137,3 @@ module _ {g : Graph} {c : Update} {u v : ℕ} {t : List ℕ} (a : EdgeUpdate g c
         let d = count-groups (updated g c) new (moved update-shift x₁ x₂ x₃ x₄) in
         let s = counted update-shift x₁ x₂ x₃ x₄ refl p₁ refl p₂ in
         sym (same-difference (groupCount (updated g c)) (groupCount g) (z₁ + z₂) (z₃ + z₄) (omega arith)) ∙ sym (answer-accepted g c (a .accepted))
-
--- the table built from nothing
-pub build-nodes : (g : Graph) → Proper g → {m : ℕ} {t t₁ t′ : List ℕ} → Lone (g .nodeCount) t t₁ → Built (g .nodeCount) m (similar (nodes (g .nodeCount)) (g .edge)) t₁ t′ → g .nodeCount ≤ m
-    → ((p : ℕ) → p < g .nodeCount → nodeNumber t p 3 ≡ cond (g .hidden p) 1 0) → t′ ≡ nodesOf g
-build-nodes g h {m} {t} b a l ms =
-    is-nodes g h (built (similar (nodes (g .nodeCount)) (g .edge)) (graph-parts g h) a l) (a .size)
-    (λ p hp. a .rest p 3 hp (omega arith) (omega arith) ∙ b .rest p 3 (omega arith) (omega arith) ∙ ms p hp)

@@ -5,6 +5,7 @@ pub mod StoreLaws
 pub mod MoveLaws
 pub mod CountLaws
 pub mod UpdateLaws
-pub mod BuildLaws
 pub mod NodesLaws
 pub mod GraphLaws
+pub mod CertificateLaws
+pub mod BuildLaws

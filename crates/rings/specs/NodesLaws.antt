@@ -1,19 +1,20 @@
 -- The node table that the model demands of a graph is the one table that holds the graph's groups, with its marks.
 use mathlib.Core.Path.{_≡_, refl, sym, subst, _∙_, ap}
 use mathlib.Core.Logic.{_⊎_, inl, inr, ⊎-elim}
-use mathlib.Core.Bool.{Bool, cond}
+use mathlib.Core.Bool.{Bool, true, false, cond, _&&_}
 use mathlib.Core.List.{List, [], _∷_, List·Memᴰ·head, List·Memᴰ·tail, List·Memᴰ·cases-cons, List·Memᴰ·not-nil}
 use Prim.Native.Nat.{ℕ, suc, zero, _+_, _*_, _/_, _%_, _≤_, _<_}
 use native.Mathlib.Omega.{arith}
 use native.Mathlib.Nat.{le-antisymm}
-use lib.Dec.{ltb}
+use lib.Dec.{eqb, ltb}
 use lib.ListN.{length, getD}
 use lib.Seq.{ext-getD}
-use borrow.Author.Tests.{ltb-true, lt-ltb}
+use borrow.Author.Tests.{eqb-true, eqb-false, ltb-true, lt-ltb}
 use Rattle.model.specs.Lists.{_∈_, filter, headOr, lastOr, nodes}
 use Rattle.model.specs.Graph.{Graph, Proper, nodeNumbers}
 use Rattle.model.specs.Grouping.{group, least, similar}
 use Rattle.model.specs.Tables.{groupIn, nextIn, nodeNumber, nodeOf, nodesOf, prevIn}
+use Rattle.model.specs.TestLaws.{decide}
 use Rattle.model.specs.ListLaws.{Ascending, filter-ascending, filter-elim, filter-intro, headOr-in, headOr-le, nodes-ascending, nodes-in, nodes-out}
 use Rattle.model.specs.TwinLaws.{Simple, similar-refl, similar-sym, similar-trans}
 use Rattle.model.specs.TableLaws.{getD-blocks, getD-nodes, length-nodes, length-nodes-of, mark-at, proper-simple}
@@ -101,6 +102,14 @@ module _ {n : ℕ} (l : List ℕ) (asc : Ascending l) (within : (q : ℕ) → q 
           first r m h hz hr (over j e) (over j′ e′) = omega (arith, high r m j′)
           first r m h hz hr (over j e) (round j′ e′) = omega arith
           first r m h hz hr (round j e) w = absurd (omega arith)
+
+-- a mark of 0 or 1 is what it is read as
+pub mark-read : (n p x : ℕ) → p < n → x < 2 → x ≡ cond (ltb p n && eqb x 1) 1 0
+mark-read n p x h l = step (decide (eqb x 1))
+  where
+    step : (eqb x 1 ≡ true) ⊎ (eqb x 1 ≡ false) → x ≡ cond (ltb p n && eqb x 1) 1 0
+    step (inl e) = rw (lt-ltb p n h, e) (eqb-true x 1 e)
+    step (inr e) = rw (lt-ltb p n h, e) (omega (arith, eqb-false x 1 e))
 
 -- there is one nearest
 best-one : {n : ℕ} {δ : ℕ → ℕ → ℕ} → Circle n δ → {R : ℕ → ℕ → Type 0} → Parts n R → {p q q′ : ℕ} → p < n → Best (R p) (δ p) q → Best (R p) (δ p) q′ → q ≡ q′

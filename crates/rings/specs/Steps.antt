@@ -1,13 +1,15 @@
 -- What each step of an update does to the node table, column by column.
 use mathlib.Core.Path.{_≡_}
-use mathlib.Core.Logic.{_≢_}
+use mathlib.Core.Logic.{_≢_, _⊎_}
 use mathlib.Core.Bool.{Bool, true, cond}
 use mathlib.Core.List.{List}
 use Prim.Native.Nat.{ℕ, _+_, _*_, _≤_, _<_, min}
 use lib.Dec.{ltb}
-use lib.ListN.{length, set}
-use Rattle.model.specs.Graph.{maxNodes, nodeNumbers}
-use Rattle.model.specs.Tables.{nodeNumber}
+use lib.ListN.{length, getD, set}
+use Rattle.model.specs.Lists.{nodes}
+use Rattle.model.specs.Graph.{Graph, Proper, maxNodes, nodeNumbers}
+use Rattle.model.specs.Grouping.{least, similar}
+use Rattle.model.specs.Tables.{nodeNumber, nodesOf}
 
 -- what the steps ask of a table
 pub record Sound (n : ℕ) (t : List ℕ) : Type 0 where
@@ -104,14 +106,40 @@ pub record Fit (u w : ℕ) (S : ℕ → Bool) (t : List ℕ) (p : ℕ) : Type 0 
   pub alike : S p ≡ true
 
 -- u is put back: into the group of a least member that the test S holds of, or nowhere if there is none
-pub data Back (n m u w z : ℕ) (S : ℕ → Bool) (t t′ : List ℕ) : Type 0 where
-  joined : (g : ℕ) → g < m → Fit u w S t g → Placed n u g t t′ → z ≡ 1 → Back n m u w z S t t′
-  alone : ((p : ℕ) → p < m → ¬ Fit u w S t p) → t′ ≡ t → z ≡ 0 → Back n m u w z S t t′
+pub data Back (n u w z : ℕ) (S : ℕ → Bool) (t t′ : List ℕ) : Type 0 where
+  joined : (g : ℕ) → g < n → Fit u w S t g → Placed n u g t t′ → z ≡ 1 → Back n u w z S t t′
+  alone : ((p : ℕ) → p < n → ¬ Fit u w S t p) → t′ ≡ t → z ≡ 0 → Back n u w z S t t′
 
--- p is alone
-pub record Lone (n : ℕ) (t t′ : List ℕ) : Type 0 where
-  pub least : (p : ℕ) → p < n → nodeNumber t′ p 0 ≡ p
-  pub next : (p : ℕ) → p < n → nodeNumber t′ p 1 ≡ p
-  pub prev : (p : ℕ) → p < n → nodeNumber t′ p 2 ≡ p
-  pub rest : (p k : ℕ) → 3 ≤ k → k < nodeNumbers → nodeNumber t′ p k ≡ nodeNumber t p k
+-- lst tells for each of n nodes one that is not above it, and that leads itself
+pub record Leading (n : ℕ) (lst : List ℕ) : Type 0 where
+  pub size : n ≤ length lst
+  pub low : (p : ℕ) → p < n → getD lst p 0 ≤ p
+  pub leads : (p : ℕ) → p < n → getD lst (getD lst p 0) 0 ≡ getD lst p 0
+
+-- lst has the least member of each node's group, and t the marks
+pub record Grouped (g : Graph) (lst t : List ℕ) : Type 0 where
+  pub proper : Proper g
+  pub least : (p : ℕ) → p < g .nodeCount → getD lst p 0 ≡ least (nodes (g .nodeCount)) (similar (nodes (g .nodeCount)) (g .edge)) p
+  pub size : length t ≡ nodeNumbers * g .nodeCount
+  pub marks : (p : ℕ) → p < g .nodeCount → nodeNumber t p 3 ≡ cond (g .hidden p) 1 0
+
+-- t′ is the node table of the graph whose least members and marks they are
+pub record Built (n : ℕ) (lst t t′ : List ℕ) : Type 0 where
+  pub nodes : (g : Graph) → g .nodeCount ≡ n → Grouped g lst t → t′ ≡ nodesOf g
+
+-- p's previous member has the same least member, is followed by p, and is below p unless p is the least
+pub record Follows (n : ℕ) (t : List ℕ) (p : ℕ) : Type 0 where
+  pub below : nodeNumber t p 2 < n
+  pub fellow : nodeNumber t (nodeNumber t p 2) 0 ≡ nodeNumber t p 0
+  pub next : nodeNumber t (nodeNumber t p 2) 1 ≡ p
+  pub order : (nodeNumber t p 0 ≡ p) ⊎ (nodeNumber t p 2 < p)
+
+-- the first i nodes have the least members that lst tells, and stand in rings
+pub record Rings (i : ℕ) (lst t : List ℕ) : Type 0 where
+  pub least : (p : ℕ) → p < i → nodeNumber t p 0 ≡ getD lst p 0
+  pub follows : (p : ℕ) → p < i → Follows i t p
+
+-- the marks stay
+pub record Kept (t t′ : List ℕ) : Type 0 where
+  pub marks : (p : ℕ) → nodeNumber t′ p 3 ≡ nodeNumber t p 3
   pub size : length t′ ≡ length t

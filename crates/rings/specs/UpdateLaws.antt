@@ -16,24 +16,24 @@ use Rattle.rings.specs.Steps.{Sound, Taken, Parted, stayed, left, Fit, B
 use Rattle.rings.specs.MoveLaws.{sound, taken, placed}
 use Rattle.rings.specs.CountLaws.{count, leads, count-taken, count-joined}
 
--- the search for a group among the nodes below m: r is the one, or none is
-pub data Found (m u w : ℕ) (S : ℕ → Bool) (t : List ℕ) (r : ℕ) : Type 0 where
-  at : r < m → Fit u w S t r → Found m u w S t r
-  nowhere : r ≡ m → ((p : ℕ) → p < m → ¬ Fit u w S t p) → Found m u w S t r
+-- the search for a group among n nodes: r is the one, or none is
+pub data Found (n u w : ℕ) (S : ℕ → Bool) (t : List ℕ) (r : ℕ) : Type 0 where
+  at : r < n → Fit u w S t r → Found n u w S t r
+  nowhere : r ≡ n → ((p : ℕ) → p < n → ¬ Fit u w S t p) → Found n u w S t r
 
-pub found-at : {m u w : ℕ} {S : ℕ → Bool} {t : List ℕ} {r : ℕ} → Found m u w S t r → r < m → Fit u w S t r
+pub found-at : {n u w : ℕ} {S : ℕ → Bool} {t : List ℕ} {r : ℕ} → Found n u w S t r → r < n → Fit u w S t r
 found-at (at h x) i = x
 found-at (nowhere e f) i = absurd (omega arith)
 
-pub found-none : {m u w : ℕ} {S : ℕ → Bool} {t : List ℕ} {r : ℕ} → Found m u w S t r → m ≤ r → (p : ℕ) → p < m → ¬ Fit u w S t p
+pub found-none : {n u w : ℕ} {S : ℕ → Bool} {t : List ℕ} {r : ℕ} → Found n u w S t r → n ≤ r → (p : ℕ) → p < n → ¬ Fit u w S t p
 found-none (at h x) i = absurd (omega arith)
 found-none (nowhere e f) i = f
 
-pub back-size : {n m u w z : ℕ} {S : ℕ → Bool} {t t′ : List ℕ} → Back n m u w z S t t′ → length t′ ≡ length t
+pub back-size : {n u w z : ℕ} {S : ℕ → Bool} {t t′ : List ℕ} → Back n u w z S t t′ → length t′ ≡ length t
 back-size (joined g h f x i) = x .put .size
 back-size (alone f e i) = ap length e
 
-pub back-rest : {n m u w z : ℕ} {S : ℕ → Bool} {t t′ : List ℕ} → Back n m u w z S t t′ → (p k : ℕ) → p < n → 3 ≤ k → k < nodeNumbers → nodeNumber t′ p k ≡ nodeNumber t p k
+pub back-rest : {n u w z : ℕ} {S : ℕ → Bool} {t t′ : List ℕ} → Back n u w z S t t′ → (p k : ℕ) → p < n → 3 ≤ k → k < nodeNumbers → nodeNumber t′ p k ≡ nodeNumber t p k
 back-rest (joined g h f x i) p k hp h3 hk = x .put .rest p k hp h3 hk
 back-rest (alone f e i) p k hp h3 hk = ap (λ x. nodeNumber x p k) e
 
@@ -41,7 +41,7 @@ pub parted-small : {b u r : ℕ} → Parted b u r → r ≤ 1
 parted-small (stayed e i) = omega arith
 parted-small (left e i) = omega arith
 
-pub back-small : {n m u w z : ℕ} {S : ℕ → Bool} {t t′ : List ℕ} → Back n m u w z S t t′ → z ≤ 1
+pub back-small : {n u w z : ℕ} {S : ℕ → Bool} {t t′ : List ℕ} → Back n u w z S t t′ → z ≤ 1
 back-small (joined g h f x i) = omega arith
 back-small (alone f e i) = omega arith
 
@@ -53,8 +53,8 @@ same {n} {R} {R′} f g a = record { least = ring (a .least); next = ring (a .ne
     ring h p hp = record { mem = f p _ (h p hp .mem); near = λ r x. h p hp .near r (g p r x) }
 
 -- how many groups there are once u is put back
-pub back-count : {n : ℕ} {R : ℕ → ℕ → Type 0} → Parts n R → {u : ℕ} {t : List ℕ} → Table n (Out u R) t → {m w z : ℕ} {S : ℕ → Bool} {t′ : List ℕ}
-    → ((r : ℕ) → r < m → r ≢ u → r ≢ w → S r ≡ true → R u r) → Back n m u w z S t t′ → count n (leads t′) + z ≡ count n (leads t)
+pub back-count : {n : ℕ} {R : ℕ → ℕ → Type 0} → Parts n R → {u : ℕ} {t : List ℕ} → Table n (Out u R) t → {w z : ℕ} {S : ℕ → Bool} {t′ : List ℕ}
+    → ((r : ℕ) → r < n → r ≢ u → r ≢ w → S r ≡ true → R u r) → Back n u w z S t t′ → count n (leads t′) + z ≡ count n (leads t)
 back-count k a f (joined r hr y x i) =
     let c = count-joined k (f r hr (y .not-u) (y .not-w) (y .alike)) (y .not-u) a (y .leads) x in
     omega arith
@@ -71,9 +71,9 @@ module _ {n : ℕ} {R : ℕ → ℕ → Type 0} (k : Parts n R) {u : ℕ} (hu : 
       let l′ = a .least (nodeNumber t q 0) (o .below (l .mem)) in
       le-antisymm (l′ .near (nodeNumber t q 0) (o .own (o .below (l .mem)))) (l .near _ (o .on (l .mem) (l′ .mem)))
 
-  pub back : {m w z : ℕ} {S : ℕ → Bool} {t′ : List ℕ}
-      → ((r : ℕ) → r < m → r ≢ u → r ≢ w → S r ≡ true → R u r) → ((r : ℕ) → R u r → r ≢ u → (r < m) × (r ≢ w) × (S r ≡ true))
-      → Back n m u w z S t t′ → Table n R t′
+  pub back : {w z : ℕ} {S : ℕ → Bool} {t′ : List ℕ}
+      → ((r : ℕ) → r < n → r ≢ u → r ≢ w → S r ≡ true → R u r) → ((r : ℕ) → R u r → r ≢ u → (r < n) × (r ≢ w) × (S r ≡ true))
+      → Back n u w z S t t′ → Table n R t′
   back f g (joined r hr y x i) = placed k (f r hr (y .not-u) (y .not-w) (y .alike)) (y .not-u) a (y .leads) x
   back f g (alone no-one e o) =
       subst (λ v. Table n R v) (sym e)
@@ -137,7 +137,7 @@ module _ {n u v : ℕ} {sim sim′ : ℕ → ℕ → Bool} {t : List ℕ} (a : S
       pub sound₂ : Sound n t₂
       sound₂ = sound (out-parts (out-parts (a .parts′) v) u) table₂ (a .small) (x₂ .size ∙ x₁ .size ∙ a .size)
 
-      module _ {z₃ : ℕ} {t₃ : List ℕ} (x₃ : Back n n u v z₃ (sim′ u) t₂ t₃) where
+      module _ {z₃ : ℕ} {t₃ : List ℕ} (x₃ : Back n u v z₃ (sim′ u) t₂ t₃) where
         table₃ : Table n (Out v (Of n sim′)) t₃
         table₃ =
             back (out-parts (a .parts′) v) (a .hu) table₂
@@ -148,7 +148,7 @@ module _ {n u v : ℕ} {sim sim′ : ℕ → ℕ → Bool} {t : List ℕ} (a : S
         pub sound₃ : Sound n t₃
         sound₃ = sound (out-parts (a .parts′) v) table₃ (a .small) (back-size x₃ ∙ x₂ .size ∙ x₁ .size ∙ a .size)
 
-        module _ {z₄ : ℕ} {t₄ : List ℕ} (x₄ : Back n n v v z₄ (sim′ v) t₃ t₄) where
+        module _ {z₄ : ℕ} {t₄ : List ℕ} (x₄ : Back n v v z₄ (sim′ v) t₃ t₄) where
           pub moved : Table n (Of n sim′) t₄
           moved = back (a .parts′) (a .hv) table₃ (λ r hr nv nv′ s. (a .hv, hr, s)) (λ r x nv. (x .1, nv, x .2)) x₄
 

@@ -1,70 +1,45 @@
--- `groups::build` meets its contract. The invariant: the nodes below u are in their groups, and the others alone.
-use mathlib.Core.Path.{sym, _∙_}
-use Prim.Native.Nat.{_-_}
+-- The invariant: the nodes below p stand in rings, and the marks are kept.
+use Prim.Native.Nat.{_-_, _≤_}
 use native.Mathlib.Omega.{arith}
-use Rattle.rings.specs.BuildLaws.{Built}
-use Rattle.groups.specs.Groups.{similarIn}
-use Rattle.groups.specs.ChangeLaws.{bare-done, bare-more, bare-ready, bare-small, bare-sound, bare-start}
+use Rattle.rings.specs.Steps.{Kept, Rings}
+use Rattle.rings.specs.BuildLaws.{built, kept-more, kept-none, rings-none}
 use Rattle.groups.proofs.build.Statement.{statement}
 use Rattle.groups.proofs.build.Tie as tie
 
 abbrev Inv-loop : tie.InvT-loop
-Inv-loop edges nodes₀ keys n u₀ nodes u = Built n u (similarIn n edges) nodes₀ nodes
+Inv-loop nodes₀ least n p₀ nodes p = Rings p least nodes × Kept nodes₀ nodes × p ≤ n
 
 abbrev μ-loop : tie.MeasureT-loop
-μ-loop edges nodes₀ keys n u₀ nodes u = n - u
-
-part-all-requires : tie.Need-part-all-requires Inv-loop μ-loop
-part-all-requires c κs = let pre = c .before .before .before .before .pre in (bare-small pre, pre .size)
+μ-loop nodes₀ least n p₀ nodes p = n - p
 
 loop-holds : tie.Need-loop-holds Inv-loop μ-loop
-loop-holds c =
-    let a = c .before .before in
-    bare-start (a .before .before .before .before .before .pre) (a .part-all .ensures)
+loop-holds c = (rings-none _ _, kept-none _, omega arith)
 
-put-back-requires : tie.Need-put-back-requires Inv-loop μ-loop
-put-back-requires c κs =
+append-requires : tie.Need-append-requires Inv-loop μ-loop
+append-requires c κs =
     let head = c .before .before in
-    let a = head .before .before .before in
-    let pre = a .before .before .before .before .before .pre in
-    (bare-sound pre (a .part-all .ensures) (head .loop .inv) (c .before .loop-test .taken), bare-ready pre, omega arith, c .before .loop-test .taken, c .before .loop-test .taken)
+    let pre = head .before .before .before .pre in
+    (pre .0, omega (arith, pre .1, head .loop .inv .1 .size), pre .2, head .loop .inv .0, c .before .loop-test .taken)
 
-add-u : tie.Need-add-u Inv-loop μ-loop
-add-u c = omega arith
+add-p : tie.Need-add-p Inv-loop μ-loop
+add-p c = omega arith
 
 loop-less : tie.Need-loop-less Inv-loop μ-loop
 loop-less c = omega arith
 
 loop-again : tie.Need-loop-again Inv-loop μ-loop
 loop-again c =
-    let b = c .before .before in
-    let turn = b .before .before in
-    let head = turn .before in
-    let a = head .before .before .before in
-    let pre = a .before .before .before .before .before .pre in
-    bare-more pre (a .part-all .ensures) (head .loop .inv) (turn .loop-test .taken) (b .put-back .ensures)
+    let a = c .before .before in
+    let head = a .before .before .before in
+    (a .append .ensures .0, kept-more (head .loop .inv .1) (a .append .ensures .1), omega arith)
 
 same-length : tie.Need-same-length Inv-loop μ-loop
-same-length c = c .before .loop .inv .size ∙ sym (c .before .before .before .before .before .before .before .before .before .pre .size)
+same-length c = c .before .loop .inv .1 .size
 
 returns : tie.Need-returns Inv-loop μ-loop
-returns c =
-    let head = c .before in
-    let a = head .before .before .before in
-    let pre = a .before .before .before .before .before .pre in
-    bare-done pre (a .part-all .ensures) (head .loop .inv) (c .loop-test .left)
+returns c = built (c .before .loop .inv .0) (c .before .loop .inv .1) (omega (arith, c .before .loop .inv .2, c .loop-test .left))
 
 pub build-spec : {M : Type 1} → statement M
 build-spec =
     tie.close
-    (tie.spec
-    Inv-loop
-    μ-loop
-    part-all-requires
-    loop-holds
-    put-back-requires
-    add-u
-    loop-less
-    loop-again
-    same-length
-    returns)
+    (tie.spec Inv-loop μ-loop loop-holds append-requires add-p loop-less loop-again same-length returns)

@@ -59,7 +59,6 @@ put-back-requires c κs =
     let s = l .before .before .before .before in (
       asked₂ (s .pre) (l .lesser .ensures) (g .greater .ensures) (o₁ .take-out .ensures .0) (o₂ .take-out2 .ensures .0),
       asked-ready (s .pre) (l .lesser .ensures) (g .greater .ensures) (o₁ .take-out .ensures .0) (o₂ .take-out2 .ensures .0) (d .change-edge .ensures) (k .change-keys .ensures),
-      omega arith,
       omega (arith, asked-lesser (s .pre) (l .lesser .ensures), asked-greater (s .pre) (g .greater .ensures)),
       omega (arith, asked-lesser (s .pre) (l .lesser .ensures), asked-greater (s .pre) (g .greater .ensures)),
     )
@@ -76,7 +75,6 @@ put-back-requires-2 c κs =
     let s = l .before .before .before .before in (
       asked₃ (s .pre) (l .lesser .ensures) (g .greater .ensures) (o₁ .take-out .ensures .0) (o₂ .take-out2 .ensures .0) (d .change-edge .ensures) (k .change-keys .ensures) (b₁ .put-back .ensures),
       asked-ready (s .pre) (l .lesser .ensures) (g .greater .ensures) (o₁ .take-out .ensures .0) (o₂ .take-out2 .ensures .0) (d .change-edge .ensures) (k .change-keys .ensures),
-      omega arith,
       omega (arith, asked-lesser (s .pre) (l .lesser .ensures), asked-greater (s .pre) (g .greater .ensures)),
       omega (arith, asked-lesser (s .pre) (l .lesser .ensures), asked-greater (s .pre) (g .greater .ensures)),
     )

@@ -1,15 +1,9 @@
-use Prim.Native.Nat.{_<_, _^_}
+-- Edges and marks are copied, keys summed, and the rings made from the least members.
 use native.Mathlib.Omega.{arith}
-use Rattle.release.specs.TableLaws.{filled-within, filled-bare, filled-tables}
 use borrow.Author.Needs.{needs}
+use Rattle.release.specs.TableLaws.{filled-leading, filled-proper, filled-tables, filled-within}
 use Rattle.release.proofs.reading.fill.Statement.{statement}
 use Rattle.release.proofs.reading.fill.Tie as tie
-use Rattle.release.proofs.reading.fill.Reads as reads
-use Rattle.release.proofs.reading.fill.Lts as lts
-use Rattle.groups.proofs.build.Reads as build-reads
-use Rattle.release.proofs.copies.copy_words.Reads as copy-words-reads
-use Rattle.release.proofs.copies.put_marks.Reads as put-marks-reads
-use Rattle.visible.proofs.sum_keys.Reads as sum-keys-reads
 
 copy-words-requires : tie.Need-copy-words-requires
 copy-words-requires c κs = search needs
@@ -24,13 +18,31 @@ sum-keys-requires c κs =
     let pre = e .before .before .before .before .before .before .before .pre in
     (filled-within _ (pre .0) _ (pre .3 .edges) (e .copy-words .ensures) (λ i. m .before .before .slice-known4 .given i .fits), pre .3 .keys)
 
-build-requires : tie.Need-build-requires
-build-requires c κs =
-    let k = c .before .before .before .before .before in
+slice-aggregate-group-all : tie.Need-slice-aggregate-group-all
+slice-aggregate-group-all c = search needs
+
+group-all-requires : tie.Need-group-all-requires
+group-all-requires c κs =
+    let k = c .before .before .before .before in
     let m = k .before .before .before .before .before in
     let e = m .before .before .before .before in
     let pre = e .before .before .before .before .before .before .before .pre in
-    filled-bare _ (pre .0) _ (pre .3 .edges) (e .copy-words .ensures) (λ i. m .before .before .slice-known4 .given i .fits) _ (pre .3 .nodes) (m .put-marks .ensures) (k .sum-keys .ensures)
+    let w = filled-within _ (pre .0) _ (pre .3 .edges) (e .copy-words .ensures) (λ i. m .before .before .slice-known4 .given i .fits) in
+    let p = filled-proper _ (pre .0) _ (pre .3 .edges) (e .copy-words .ensures) (λ i. m .before .before .slice-known4 .given i .fits) in
+    (w, p, w .small)
+
+slice-aggregate-build : tie.Need-slice-aggregate-build
+slice-aggregate-build c = search needs
+
+build-requires : tie.Need-build-requires
+build-requires c κs =
+    let a = c .before .before .before in
+    let k = a .before .before .before .before .before in
+    let m = k .before .before .before .before .before in
+    let e = m .before .before .before .before in
+    let pre = e .before .before .before .before .before .before .before .pre in
+    let w = filled-within _ (pre .0) _ (pre .3 .edges) (e .copy-words .ensures) (λ i. m .before .before .slice-known4 .given i .fits) in
+    (w .small, omega (arith, m .put-marks .ensures .size, pre .3 .nodes), filled-leading _ (pre .0) _ (pre .3 .edges) (e .copy-words .ensures) (λ i. m .before .before .slice-known4 .given i .fits) _ (pre .3 .nodes) (m .put-marks .ensures) (a .group-all .ensures))
 
 same-length : tie.Need-same-length
 same-length c = search needs
@@ -44,11 +56,12 @@ same-length-3 c = search needs
 returns : tie.Need-returns
 returns c =
     let b = c .before .before in
-    let k = b .before .before .before .before .before .before in
+    let a = b .before .before .before .before in
+    let k = a .before .before .before .before .before in
     let m = k .before .before .before .before .before in
     let e = m .before .before .before .before in
     let pre = e .before .before .before .before .before .before .before .pre in
-    filled-tables _ (pre .0) _ (pre .3 .edges) (e .copy-words .ensures) (λ i. m .before .before .slice-known4 .given i .fits) _ (pre .3 .nodes) (m .put-marks .ensures) (k .sum-keys .ensures) (b .build .ensures)
+    filled-tables _ (pre .0) _ (pre .3 .edges) (e .copy-words .ensures) (λ i. m .before .before .slice-known4 .given i .fits) _ (pre .3 .nodes) (m .put-marks .ensures) (k .sum-keys .ensures) (a .group-all .ensures) (b .build .ensures)
 
 pub fill-spec : {M : Type 1} → statement M
 fill-spec =
@@ -57,6 +70,9 @@ fill-spec =
     copy-words-requires
     put-marks-requires
     sum-keys-requires
+    slice-aggregate-group-all
+    group-all-requires
+    slice-aggregate-build
     build-requires
     same-length
     same-length-2

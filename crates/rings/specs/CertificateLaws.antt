@@ -11,8 +11,9 @@ use lib.Dec.{ltb}
 use borrow.Author.Tests.{ltb-true, ltb-false}
 use Rattle.model.specs.Tables.{nodeNumber}
 use Rattle.model.specs.TestLaws.{decide}
 use Rattle.rings.specs.Ring.{up, Parts, Table}
+use Rattle.rings.specs.Steps.{Follows}
 use Rattle.rings.specs.RingLaws.{Way, inverse, over, round, up-circle, way}
 
 -- every node's least member is a fellow that leads itself, and no two leaders are fellows
 pub record Led (n : ℕ) (R : ℕ → ℕ → Type 0) (t : List ℕ) : Type 0 where
@@ -20,13 +21,6 @@ pub record Led (n : ℕ) (R : ℕ → ℕ → Type 0) (t : List ℕ) : Type 0 wh
   pub leads : (p : ℕ) → p < n → nodeNumber t (nodeNumber t p 0) 0 ≡ nodeNumber t p 0
   pub alike : (p : ℕ) → p < n → R p (nodeNumber t p 0)
   pub apart : (u q : ℕ) → q < u → nodeNumber t u 0 ≡ u → nodeNumber t q 0 ≡ q → R u q → ⊥
-
--- p's previous member has the same least member, is followed by p, and is below p unless p is the least
-pub record Follows (n : ℕ) (t : List ℕ) (p : ℕ) : Type 0 where
-  pub below : nodeNumber t p 2 < n
-  pub fellow : nodeNumber t (nodeNumber t p 2) 0 ≡ nodeNumber t p 0
-  pub next : nodeNumber t (nodeNumber t p 2) 1 ≡ p
-  pub order : (nodeNumber t p 0 ≡ p) ⊎ (nodeNumber t p 2 < p)
 
 -- a is followed by a greater fellow, which is no greater than r
 record Up (t : List ℕ) (a r : ℕ) : Type 0 where
