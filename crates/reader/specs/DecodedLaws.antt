@@ -17,9 +17,10 @@ use Rattle.reader.specs.declared.Groups.{Groups}
 use Rattle.reader.specs.declared.Groups.the-variants.{Whole, Broken}
 use Rattle.reader.specs.declared.Decoded.the-variants as answer
 use Rattle.reader.specs.Records.{itemIn, sizeOf}
+use Rattle.reader.specs.Drawing.{Places}
 use Rattle.reader.specs.Decoding.{AfterHead, Decodes, Drawn, Found, GroupsRead, SuperedgesRead, accepted, bodyFits, crossed, decoded, groupsFrom, inside, pairsFrom, placed, restFrom, sized, toldEdge, toldGroups, toldPairs}
 use Rattle.reader.specs.BitLaws.{blank-bit}
-use Rattle.reader.specs.DrawingLaws.{added-then}
+use Rattle.reader.specs.DrawingLaws.{added-then, here-most}
 use Rattle.reader.specs.DecodingLaws.{fits-at, item-is, next-is}
 
 -- the numbers of the head, tested one after the other
@@ -62,6 +63,9 @@ module _ (s : List ℕ) (from n m g : ℕ) (starts₀ starts edges₀ edges hidd
   module _ (next : ℕ) (left : Counts) (is : r ≡ Whole next left) where
     pub body-found : Found n s (groupsFrom s 8 g) starts g
     body-found = groups .held next left is .found
+
+    pub body-places : n ≤ 512 → g ≤ length starts → Places s starts g
+    body-places l h = record { size = h; here = λ t i. here-most n s (getD starts t 0) l (body-found .here t i) }
 
     pub body-drawn : (edges′ : List ℕ) (b : Bool) → SuperedgesRead g left s (groupsFrom s 8 g) next edges edges′ b → Drawn s n m g edges₀ edges′ hidden₀ hidden b
     body-drawn edges′ b x = record {

@@ -1,10 +1,10 @@
 -- Edges put into an edge table, and members read off a file.
 use mathlib.Core.Path.{_≡_}
-use mathlib.Core.Bool.{Bool, not, _&&_, _||_}
+use mathlib.Core.Bool.{Bool, not, _&&_, _||_, cond}
 use mathlib.Core.List.{List}
 use Prim.Native.Nat.{ℕ, _+_, _*_, _-_, _/_, _≤_, _<_}
 use lib.Dec.{eqb, ltb}
-use lib.ListN.{length, drop}
+use lib.ListN.{length, getD, drop}
 use Rattle.model.specs.Lists.{member}
 use Rattle.model.specs.Tables.{edgeBit}
 use Rattle.model.specs.Reading.{u16At, u16s}
@@ -79,3 +79,27 @@ restAt s at count k = u16s (count - k) (drop (at + 2 * k) s)
 pub record GroupHere (n : ℕ) (s : List ℕ) (at : ℕ) : Type 0 where
   pub room : at + 4 + 2 * countAt s at ≤ length s
   pub small : (k : ℕ) → k < countAt s at → u16At s (at + 4 + 2 * k) < n
+
+-- the member of a group of one, no node for a larger group
+unfoldable pub loneAt : List ℕ → ℕ → ℕ
+loneAt s at = cond (eqb (countAt s at) 1) (u16At s (at + 4)) 65535
+
+-- g groups stand at the places that were kept
+pub record Places (s starts : List ℕ) (g : ℕ) : Type 0 where
+  pub size : g ≤ length starts
+  pub here : (t : ℕ) → t < g → GroupHere 512 s (getD starts t 0)
+
+-- their lone members were kept too
+pub record Lones (s starts : List ℕ) (g : ℕ) (lones₀ lones : List ℕ) : Type 0 where
+  pub size : length lones ≡ length lones₀
+  pub lone : (t : ℕ) → t < g → getD lones t 0 ≡ loneAt s (getD starts t 0)
+
+-- what was kept of group i, and of each of g groups
+pub record Kept (s starts lones : List ℕ) (i : ℕ) : Type 0 where
+  pub place : i < length starts
+  pub slot : i < length lones
+  pub here : GroupHere 512 s (getD starts i 0)
+  pub lone : getD lones i 0 ≡ loneAt s (getD starts i 0)
+
+abbrev pub AllKept : List ℕ → List ℕ → List ℕ → ℕ → Type 0
+AllKept s starts lones g = (i : ℕ) → i < g → Kept s starts lones i

@@ -6,14 +6,14 @@ use mathlib.Core.Logic.{_⊎_, inl, inr}
 use Prim.Native.Nat.{ℕ, suc, _+_, _*_, _-_, _/_, _%_, _≤_, _<_}
 use native.Mathlib.Omega.{arith}
 use lib.Dec.{eqb, ltb}
-use lib.ListN.{drop, length, replicate}
-use lib.Seq.{drop-drop}
+use lib.ListN.{drop, getD, length, length-set, replicate, set}
+use lib.Seq.{drop-drop, getD-set-same, getD-set-other}
 use borrow.Author.Tests.{eqb-false, eqb-true, eq-eqb, le-ltb, lt-ltb, ltb-false, ltb-true, ne-eqb}
 use Rattle.model.specs.Lists.{any, member}
 use Rattle.model.specs.Tables.{edgeBit}
 use Rattle.model.specs.Reading.{u16At, u16s}
 use Rattle.model.specs.TestLaws.{decide}
-use Rattle.reader.specs.Drawing.{Added, Adding, GroupHere, across, countAt, fan, fanTo, inner, joined, membersAt, oneBit, oneEdge, onePair, oneRow, restAt, rowFrom, rowTo, rowWord}
+use Rattle.reader.specs.Drawing.{Added, Adding, AllKept, GroupHere, Lones, Places, across, countAt, fan, fanTo, inner, joined, loneAt, membersAt, oneBit, oneEdge, onePair, oneRow, restAt, rowFrom, rowTo, rowWord}
 use Rattle.reader.specs.BitLaws.{blank-bit}
 use Rattle.reader.specs.RecordLaws.{u16-drop}
 
@@ -64,7 +64,7 @@ pub adding-done : {all rest : ℕ → ℕ → Bool} {t now : List ℕ} → Addin
 adding-done x e = adding-under x (λ a b l. e a b)
 
 -- an edge is one bit, or none where the two nodes are one
-pub edge-loop : (p q : ℕ) (t : List ℕ) → p ≡ q → Added (oneEdge p q) t t
+edge-loop : (p q : ℕ) (t : List ℕ) → p ≡ q → Added (oneEdge p q) t t
 unfolding oneEdge
 edge-loop p q t e = added-none (λ a b. eqb a p && (eqb b q && not (eqb a b))) t (λ a b. step a b (decide (eqb a p)) (decide (eqb b q)))
   where
@@ -73,7 +73,7 @@ edge-loop p q t e = added-none (λ a b. eqb a p && (eqb b q && not (eqb a b))) t
     step a b (inl x) (inr y) = rw (x, y)
     step a b (inr x) y = rw x
 
-pub edge-bit : {p q : ℕ} {t after : List ℕ} → (p ≡ q → ⊥) → Added (oneBit p q) t after → Added (oneEdge p q) t after
+edge-bit : {p q : ℕ} {t after : List ℕ} → (p ≡ q → ⊥) → Added (oneBit p q) t after → Added (oneEdge p q) t after
 unfolding oneBit oneEdge
 edge-bit {p} {q} d h = added-as (λ a b. step a b (decide (eqb a p)) (decide (eqb b q))) h
   where
@@ -82,9 +82,13 @@ edge-bit {p} {q} d h = added-as (λ a b. step a b (decide (eqb a p)) (decide (eq
     step a b (inl x) (inr y) = rw (x, y)
     step a b (inr x) y = rw x
 
-pub pair-by : (p q : ℕ) {r t u : List ℕ} → Added (oneEdge p q) r t → Added (oneEdge q p) t u → Added (onePair p q) r u
+pub pair-none : (p q : ℕ) (t : List ℕ) → p ≡ q → Added (onePair p q) t t
 unfolding onePair
-pair-by p q x y = added-then x y (λ a b. refl)
+pair-none p q t e = added-then (edge-loop p q t e) (edge-loop q p t (sym e)) (λ a b. refl)
+
+pub pair-by : {p q : ℕ} {r t u : List ℕ} → (p ≡ q → ⊥) → Added (oneBit p q) r t → Added (oneBit q p) t u → Added (onePair p q) r u
+unfolding onePair
+pair-by d x y = added-then (edge-bit d x) (edge-bit (λ e. d (sym e)) y) (λ a b. refl)
 
 -- a set in a row, word by word
 module _ (p : ℕ) (set : List ℕ) where
@@ -171,15 +175,31 @@ pub joined-by : (ms ls : List ℕ) {r t u : List ℕ} → Added (across ms ls) r
 unfolding joined
 joined-by ms ls x y = added-then x y (λ a b. refl)
 
--- between two groups of one member each
+-- groups of one
 pub one : {r : Bool} (x : ℕ) → r ≡ eqb x 1 → r ≡ true → x ≡ 1
 one x e t = eqb-true x 1 (sym e ∙ t)
 
+pub lone-yes : (s : List ℕ) (at : ℕ) → countAt s at ≡ 1 → u16At s (at + 4) ≡ loneAt s at
+unfolding loneAt
+lone-yes s at e = rw (eq-eqb (countAt s at) 1 e)
+
+pub lone-no : (s : List ℕ) (at : ℕ) → eqb (countAt s at) 1 ≡ false → 65535 ≡ loneAt s at
+unfolding loneAt
+lone-no s at e = rw e
+
+-- a node among the lone members that were kept
+pub lone-one : (s : List ℕ) (at p : ℕ) → p ≡ loneAt s at → p < 512 → countAt s at ≡ 1
+lone-one s at p e l = step (decide (eqb (countAt s at) 1))
+  where
+    step : (eqb (countAt s at) 1 ≡ true) ⊎ (eqb (countAt s at) 1 ≡ false) → countAt s at ≡ 1
+    step (inl t) = eqb-true (countAt s at) 1 t
+    step (inr t) = absurd (omega (arith, lone-no s at t))
+
+pub lone-is : (s : List ℕ) (at p : ℕ) → p ≡ loneAt s at → p < 512 → p ≡ u16At s (at + 4)
+lone-is s at p e l = e ∙ sym (lone-yes s at (lone-one s at p e l))
+
 pub one-room : {n : ℕ} {s : List ℕ} {at : ℕ} → GroupHere n s at → countAt s at ≡ 1 → at + 4 + 2 ≤ length s
 one-room h e = omega (arith, h .room)
-
-pub one-small : {n : ℕ} {s : List ℕ} {at : ℕ} → GroupHere n s at → countAt s at ≡ 1 → u16At s (at + 4) < n
-one-small {n} {s} {at} h e = let f : at + 4 + 2 * 0 ≡ at + 4 = omega arith in rw f at (h .small 0 (omega arith))
 
 single : (s : List ℕ) (at : ℕ) → countAt s at ≡ 1 → membersAt s at ≡ u16At s (at + 4) ∷ []
 single s at e =
@@ -191,10 +211,28 @@ across-one : (p q a b : ℕ) → across (p ∷ []) (q ∷ []) a b ≡ oneEdge p 
 unfolding across member any oneEdge
 across-one p q a b = rw (or-false (eqb a p), or-false (eqb b q))
 
-pub joined-pair : (s : List ℕ) (first second p q : ℕ) {t u : List ℕ} → countAt s first ≡ 1 → countAt s second ≡ 1 → p ≡ u16At s (first + 4) → q ≡ u16At s (second + 4)
-    → Added (onePair p q) t u → Added (joined (membersAt s first) (membersAt s second)) t u
+-- between two groups of one
+pub joined-pair : (s : List ℕ) (first second p q : ℕ) {t u : List ℕ} → p ≡ loneAt s first → q ≡ loneAt s second → p < 512 → q < 512 → Added (onePair p q) t u → Added (joined (membersAt s first) (membersAt s second)) t u
 unfolding joined onePair
-joined-pair s first second p q c d e f x = added-as (λ a b. sym (rw (single s first c, single s second d, ← e, ← f, across-one p q a b, across-one q p a b))) x
+joined-pair s first second p q e f k l x =
+    added-as (λ a b. sym (rw (single s first (lone-one s first p e k), single s second (lone-one s second q f l), ← lone-is s first p e k, ← lone-is s second q f l, across-one p q a b, across-one q p a b))) x
+
+-- the lone members of groups, one after the other
+pub lones-start : (s starts lones : List ℕ) → Lones s starts 0 lones lones
+lones-start s starts lones = record { size = refl; lone = λ t l. absurd (omega arith) }
+
+pub lones-more : (s starts : List ℕ) (i p : ℕ) {lones₀ lones : List ℕ} → Lones s starts i lones₀ lones → i < length lones → p ≡ loneAt s (getD starts i 0) → Lones s starts (i + 1) lones₀ (set lones i p)
+lones-more s starts i p {lones = lones} x l e = record { size = length-set lones i p ∙ x .size; lone = λ t h. each t h (decide (eqb t i)) }
+  where
+    each : (t : ℕ) → t < i + 1 → (eqb t i ≡ true) ⊎ (eqb t i ≡ false) → getD (set lones i p) t 0 ≡ loneAt s (getD starts t 0)
+    each t h (inl d) = rw (eqb-true t i d, getD-set-same lones i p 0 l) e
+    each t h (inr d) = rw (getD-set-other lones i t p 0 (eqb-false t i d)) (x .lone t (omega (arith, eqb-false t i d)))
+
+pub lones-done : (s starts : List ℕ) (g i : ℕ) {lones₀ lones : List ℕ} → g ≤ i → Lones s starts i lones₀ lones → Lones s starts g lones₀ lones
+lones-done s starts g i l x = record { size = x .size; lone = λ t h. x .lone t (omega arith) }
+
+pub all-kept : {s starts : List ℕ} {g : ℕ} {lones₀ lones : List ℕ} → g ≤ length lones → Places s starts g → Lones s starts g lones₀ lones → AllKept s starts lones g
+all-kept l x y i h = record { place = omega (arith, x .size); slot = omega arith; here = x .here i h; lone = y .lone i h }
 
 pub inner-yes : (ms : List ℕ) {t u : List ℕ} (q : Bool) → q ≡ true → Added (across ms ms) t u → Added (inner q ms) t u
 unfolding inner

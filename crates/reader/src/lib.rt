@@ -3,10 +3,10 @@ ghost use mathlib.Core.Path.{_≡_};
 ghost use Prim.Native.Nat.{_+_, _*_, _≤_, _<_};
 ghost use lib.Bits.{bitOr, bitXor};
 ghost use lib.Dec.{eqb};
-ghost use lib.ListN.{length, replicate};
+ghost use lib.ListN.{getD, length, replicate};
 ghost use Rattle.model.specs.Reading.{u16At};
 ghost use Rattle.model.specs.Graph.{rowWords};
-ghost use Rattle.reader.specs.Drawing.{Added, oneBit, oneEdge, onePair, oneRow, rowTo, rowWord, fanTo, across, joined, inner, countAt, membersAt, GroupHere};
+ghost use Rattle.reader.specs.Drawing.{Added, oneBit, onePair, oneRow, rowTo, rowWord, fanTo, across, joined, inner, countAt, membersAt, GroupHere, loneAt, Places, Lones, Kept, AllKept};
 ghost use Rattle.reader.specs.Decoding.{numbersAt, MembersRead, GroupTaken, GroupsRead, groupsFrom, Found, follows, SuperedgesRead, endsAt, sized, Drawn, Decodes, AfterHead};
 ghost use Rattle.reader.specs.Records.{lessMember, lessGroup, spent, markAt, malformedAt, headAt, groupAt, superedgeAt, recordAt, superedgeHere};
 
@@ -70,6 +70,9 @@ pub struct Read {
     pub next: usize,
     pub item: Record,
 }
+
+// No node.
+const NONE: u16 = 65535;
 
 // A byte as a number of 16 bits.
 fn wide(x: u8) -> u16
@@ -242,17 +245,6 @@ fn set_bit(edges: &mut [u64], p: usize, q: usize)
     edges[i] = edges[i] | rows::mask(q);
 }
 
-// The edge from p to q, none from a node to itself.
-fn draw_edge(edges: &mut [u64], p: usize, q: usize)
-    requires { ⌜ (p < 512) × (q < 512) × (4096 ≤ length (now edges)) ⌝ }
-    ensures { λ _. ⌜ Added (oneEdge p q) (now (edges .entry)) (now (edges .exit)) ⌝ }
-{
-    if p == q {
-        return;
-    }
-    set_bit(edges, p, q);
-}
-
 // The members of the group at a place, as a set of bits.
 fn member_set(file: &[u8], group: usize) -> [u64; 8]
     requires { ⌜ GroupHere 512 (now file) group ⌝ }
@@ -325,28 +317,69 @@ fn is_single(file: &[u8], group: usize) -> bool
     node_at(file, group + 2) == 1
 }
 
-// The edge between p and q, both ways.
+// The member of the group at a place if it has no other, else NONE.
+fn lone_at(file: &[u8], group: usize) -> u16
+    requires { ⌜ GroupHere 512 (now file) group ⌝ }
+    ensures { λ r. ⌜ r ≡ loneAt (now (file .entry)) group ⌝ }
+{
+    if is_single(file, group) {
+        return u16_at(file, group + 4);
+    }
+    NONE
+}
+
+// The lone member of each of the first g groups.
+fn find_lones(file: &[u8], starts: &[usize], g: usize, lones: &mut [u16])
+    requires { ⌜ (g ≤ length (now lones)) × Places (now file) (now starts) g ⌝ }
+    ensures { λ _. ⌜ Lones (now (file .entry)) (now (starts .entry)) g (now (lones .entry)) (now (lones .exit)) ⌝ }
+{
+    for i in 0..g {
+        lones[i] = lone_at(file, starts[i]);
+    }
+}
+
+// The edge between p and q, both ways, none from a node to itself.
 fn draw_pair(edges: &mut [u64], p: usize, q: usize)
     requires { ⌜ (p < 512) × (q < 512) × (4096 ≤ length (now edges)) ⌝ }
     ensures { λ _. ⌜ Added (onePair p q) (now (edges .entry)) (now (edges .exit)) ⌝ }
 {
-    draw_edge(edges, p, q);
-    draw_edge(edges, q, p);
+    if p == q {
+        return;
+    }
+    set_bit(edges, p, q);
+    set_bit(edges, q, p);
 }
 
 // All edges between the members of two groups, both ways.
-fn draw_superedge(edges: &mut [u64], file: &[u8], first: usize, second: usize)
+fn draw_groups(edges: &mut [u64], file: &[u8], first: usize, second: usize)
     requires { ⌜ (4096 ≤ length (now edges)) × GroupHere 512 (now file) first × GroupHere 512 (now file) second ⌝ }
     ensures { λ _. ⌜ Added (joined (membersAt (now (file .entry)) first) (membersAt (now (file .entry)) second)) (now (edges .entry)) (now (edges .exit)) ⌝ }
 {
-    if is_single(file, first) {
-        if is_single(file, second) {
-            draw_pair(edges, node_at(file, first + 4), node_at(file, second + 4));
+    draw_across(edges, file, first, second);
+    draw_across(edges, file, second, first);
+}
+
+// The edges of a superedge between groups i and j: one pair where both have a lone member.
+fn draw_superedge(
+    edges: &mut [u64],
+    file: &[u8],
+    starts: &[usize],
+    lones: &[u16],
+    i: usize,
+    j: usize,
+)
+    requires { ⌜ (4096 ≤ length (now edges)) × Kept (now file) (now starts) (now lones) i × Kept (now file) (now starts) (now lones) j ⌝ }
+    ensures { λ _. ⌜ Added (joined (membersAt (now (file .entry)) (getD (now (starts .entry)) i 0)) (membersAt (now (file .entry)) (getD (now (starts .entry)) j 0))) (now (edges .entry)) (now (edges .exit)) ⌝ }
+{
+    let p = lones[i] as usize;
+    let q = lones[j] as usize;
+    if p < rows::Graph::NODES {
+        if q < rows::Graph::NODES {
+            draw_pair(edges, p, q);
             return;
         }
     }
-    draw_across(edges, file, first, second);
-    draw_across(edges, file, second, first);
+    draw_groups(edges, file, starts[i], starts[j]);
 }
 
 // A clique's edges between its own members.
@@ -513,9 +546,10 @@ fn read_superedges(
     g: usize,
     counts: Counts,
     starts: &[usize],
+    lones: &[u16],
     edges: &mut [u64],
 ) -> bool
-    requires { ⌜ (n ≤ 512) × (g ≤ 512) × (g ≤ length (now starts)) × (4096 ≤ length (now edges)) × Found n (now file) (groupsFrom (now file) 8 g) (now starts) g ⌝ }
+    requires { ⌜ (g ≤ 512) × (4096 ≤ length (now edges)) × Found n (now file) (groupsFrom (now file) 8 g) (now starts) g × AllKept (now file) (now starts) (now lones) g ⌝ }
     ensures { λ r. ⌜ SuperedgesRead g counts (now (file .entry)) (groupsFrom (now (file .entry)) 8 g) from (now (edges .entry)) (now (edges .exit)) r ⌝ }
 {
     let mut at = from;
@@ -526,7 +560,7 @@ fn read_superedges(
         if !in_order(g, last, i, j) {
             return false;
         }
-        draw_superedge(edges, file, starts[i], starts[j]);
+        draw_superedge(edges, file, starts, lones, i, j);
         last = i * 65536 + j;
         at += 6;
     }
@@ -566,6 +600,7 @@ fn draw(
     ensures { λ r. ⌜ Drawn (now (file .entry)) n m g (now (edges .entry)) (now (edges .exit)) (now (hidden .entry)) (now (hidden .exit)) r ⌝ }
 {
     let mut starts = [0usize; rows::Graph::NODES];
+    let mut lones = [NONE; rows::Graph::NODES];
     let counts = Counts {
         members: m,
         groups: g,
@@ -582,7 +617,8 @@ fn draw(
     ) else {
         return false;
     };
-    read_superedges(file, next, n, g, left, &starts, edges)
+    find_lones(file, &starts, g, &mut lones);
+    read_superedges(file, next, n, g, left, &starts, &lones, edges)
 }
 
 // The graph of a file whose head was just read, drawn from what follows the head.

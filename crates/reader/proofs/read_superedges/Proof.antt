@@ -6,17 +6,16 @@ use lib.ListN.{length}
 use mathlib.Core.Path.{_∙_, sym}
 use native.Mathlib.Omega.{arith}
 use Rattle.reader.specs.Decoding.{SuperedgesLeft, groupsFrom}
-use Rattle.reader.specs.DrawingLaws.{here-most}
 use Rattle.reader.specs.RecordLaws.{superedge-room}
 use Rattle.reader.specs.SuperedgeLaws.{out-of-order, positioned, superedge-more, superedges-end, superedges-start, upward}
 use Rattle.reader.proofs.read_superedges.Statement.{statement}
 use Rattle.reader.proofs.read_superedges.Tie as tie
 
 abbrev Inv-loop : tie.InvT-loop
-Inv-loop file from n g counts starts edges₀ at₀ last₀ edges at last = SuperedgesLeft g counts file (groupsFrom file 8 g) from last at edges₀ edges
+Inv-loop file from n g counts starts lones edges₀ at₀ last₀ edges at last = SuperedgesLeft g counts file (groupsFrom file 8 g) from last at edges₀ edges
 
 abbrev μ-loop : tie.MeasureT-loop
-μ-loop file from n g counts starts edges₀ at₀ last₀ edges at last = length file - at
+μ-loop file from n g counts starts lones edges₀ at₀ last₀ edges at last = length file - at
 
 loop-holds : tie.Need-loop-holds Inv-loop μ-loop
 loop-holds c = superedges-start _ _ _ _ _ _
@@ -45,40 +44,25 @@ same-length c = c .before .before .before .before .before .before .loop .inv .dr
 returns : tie.Need-returns Inv-loop μ-loop
 returns c = out-of-order _ _ _ _ _ _ _ _ _ (c .before .before .before .before .before .before .loop .inv) (sym (c .before .before .before .before .if1 .taken) ∙ c .before .before .before .before .before .is-superedge .ensures) _ _ (c .before .before .before .node-at .ensures) (c .before .before .node-at2 .ensures) (sym (not-true _ (c .if2 .taken)) ∙ c .before .in-order .ensures)
 
-mul-draw-superedge : tie.Need-mul-draw-superedge Inv-loop μ-loop
-mul-draw-superedge c = let e = sym (not-false _ (c .before .if2 .left)) ∙ c .before .before .in-order .ensures in omega (arith, upward _ _ _ _ e, positioned _ _ _ _ e, c .before .before .before .before .before .before .before .before .before .before .before .pre .2)
-
-shared-slice-read-draw-superedge : tie.Need-shared-slice-read-draw-superedge Inv-loop μ-loop
-shared-slice-read-draw-superedge c = let e = sym (not-false _ (c .before .before .if2 .left)) ∙ c .before .before .before .in-order .ensures in omega (arith, upward _ _ _ _ e, positioned _ _ _ _ e, c .before .before .before .before .before .before .before .before .before .before .before .before .pre .2)
-
-mul-draw-superedge-2 : tie.Need-mul-draw-superedge-2 Inv-loop μ-loop
-mul-draw-superedge-2 c = let e = sym (not-false _ (c .before .before .if2 .left)) ∙ c .before .before .before .in-order .ensures in omega (arith, upward _ _ _ _ e, positioned _ _ _ _ e, c .before .before .before .before .before .before .before .before .before .before .before .before .pre .2)
-
-shared-slice-read-draw-superedge-2 : tie.Need-shared-slice-read-draw-superedge-2 Inv-loop μ-loop
-shared-slice-read-draw-superedge-2 c = let e = sym (not-false _ (c .before .before .before .if2 .left)) ∙ c .before .before .before .before .in-order .ensures in omega (arith, positioned _ _ _ _ e, c .before .before .before .before .before .before .before .before .before .before .before .before .before .pre .2)
-
 draw-superedge-requires : tie.Need-draw-superedge-requires Inv-loop μ-loop
-draw-superedge-requires c κs = let e = sym (not-false _ (c .before .before .before .if2 .left)) ∙ c .before .before .before .before .in-order .ensures in
-    let f = c .before .before .before .before .before .before .before .before .before .before .before .before .before .pre .4 in (
-      omega (arith, c .before .before .before .before .before .before .before .before .before .loop .inv .drawn .size, c .before .before .before .before .before .before .before .before .before .before .before .before .before .pre .3),
-      here-most _ _ _ (c .before .before .before .before .before .before .before .before .before .before .before .before .before .pre .0) (f .here _ (omega (arith, upward _ _ _ _ e, positioned _ _ _ _ e))),
-      here-most _ _ _ (c .before .before .before .before .before .before .before .before .before .before .before .before .before .pre .0) (f .here _ (positioned _ _ _ _ e)),
-    )
+draw-superedge-requires c κs = let e = sym (not-false _ (c .before .if2 .left)) ∙ c .before .before .in-order .ensures in
+    let kept = c .before .before .before .before .before .before .before .before .before .before .before .before .pre .3 in
+    (omega (arith, c .before .before .before .before .before .before .before .loop .inv .drawn .size, c .before .before .before .before .before .before .before .before .before .before .before .before .pre .1), kept _ (omega (arith, upward _ _ _ _ e, positioned _ _ _ _ e)), kept _ (positioned _ _ _ _ e))
 
 mul-last : tie.Need-mul-last Inv-loop μ-loop
-mul-last c = let e = sym (not-false _ (c .before .before .before .before .before .before .if2 .left)) ∙ c .before .before .before .before .before .before .before .in-order .ensures in omega (arith, upward _ _ _ _ e, positioned _ _ _ _ e, c .before .before .before .before .before .before .before .before .before .before .before .before .before .before .before .before .pre .1)
+mul-last c = let e = sym (not-false _ (c .before .before .before .before .if2 .left)) ∙ c .before .before .before .before .before .in-order .ensures in omega (arith, upward _ _ _ _ e, positioned _ _ _ _ e, c .before .before .before .before .before .before .before .before .before .before .before .before .before .before .before .pre .0)
 
 add-last : tie.Need-add-last Inv-loop μ-loop
-add-last c = let e = sym (not-false _ (c .before .before .before .before .before .before .if2 .left)) ∙ c .before .before .before .before .before .before .before .in-order .ensures in omega (arith, upward _ _ _ _ e, positioned _ _ _ _ e, c .before .before .before .before .before .before .before .before .before .before .before .before .before .before .before .before .pre .1)
+add-last c = let e = sym (not-false _ (c .before .before .before .before .if2 .left)) ∙ c .before .before .before .before .before .in-order .ensures in omega (arith, upward _ _ _ _ e, positioned _ _ _ _ e, c .before .before .before .before .before .before .before .before .before .before .before .before .before .before .before .pre .0)
 
 add-at : tie.Need-add-at Inv-loop μ-loop
-add-at c = let room = superedge-room _ _ (sym (c .before .before .before .before .before .before .before .before .before .before .if1 .taken) ∙ c .before .before .before .before .before .before .before .before .before .before .before .is-superedge .ensures) in omega arith
+add-at c = let room = superedge-room _ _ (sym (c .before .before .before .before .before .before .before .before .if1 .taken) ∙ c .before .before .before .before .before .before .before .before .before .is-superedge .ensures) in omega arith
 
 loop-less : tie.Need-loop-less Inv-loop μ-loop
-loop-less c = let room = superedge-room _ _ (sym (c .before .before .before .before .before .before .before .before .before .before .if1 .taken) ∙ c .before .before .before .before .before .before .before .before .before .before .before .is-superedge .ensures) in omega arith
+loop-less c = let room = superedge-room _ _ (sym (c .before .before .before .before .before .before .before .before .if1 .taken) ∙ c .before .before .before .before .before .before .before .before .before .is-superedge .ensures) in omega arith
 
 loop-again : tie.Need-loop-again Inv-loop μ-loop
-loop-again c = superedge-more _ _ _ _ _ _ _ _ _ (c .before .before .before .before .before .before .before .before .before .before .before .before .loop .inv) (sym (c .before .before .before .before .before .before .before .before .before .before .if1 .taken) ∙ c .before .before .before .before .before .before .before .before .before .before .before .is-superedge .ensures) _ _ (c .before .before .before .before .before .before .before .before .before .node-at .ensures) (c .before .before .before .before .before .before .before .before .node-at2 .ensures) _ _ _ (sym (not-false _ (c .before .before .before .before .before .before .if2 .left)) ∙ c .before .before .before .before .before .before .before .in-order .ensures) (c .before .before .before .before .before .before .before .before .before .before .before .before .before .before .before .before .pre .4) (c .before .before .draw-superedge .ensures)
+loop-again c = superedge-more _ _ _ _ _ _ _ _ _ (c .before .before .before .before .before .before .before .before .before .before .loop .inv) (sym (c .before .before .before .before .before .before .before .before .if1 .taken) ∙ c .before .before .before .before .before .before .before .before .before .is-superedge .ensures) _ _ (c .before .before .before .before .before .before .before .node-at .ensures) (c .before .before .before .before .before .before .node-at2 .ensures) _ _ _ (sym (not-false _ (c .before .before .before .before .if2 .left)) ∙ c .before .before .before .before .before .in-order .ensures) (c .before .before .before .before .before .before .before .before .before .before .before .before .before .before .before .pre .2) (c .before .before .draw-superedge .ensures)
 
 is-end-requires : tie.Need-is-end-requires Inv-loop μ-loop
 is-end-requires c κs = search needs
@@ -104,10 +88,6 @@ read-superedges-spec =
     in-order-requires
     same-length
     returns
-    mul-draw-superedge
-    shared-slice-read-draw-superedge
-    mul-draw-superedge-2
-    shared-slice-read-draw-superedge-2
     draw-superedge-requires
     mul-last
     add-last
