@@ -1,23 +1,16 @@
 -- Records of another kind than the one asked for.
 use mathlib.Core.Path.{_≡_}
 use mathlib.Core.Logic.{⊎-elim}
-use mathlib.Core.Bool.{Bool}
 use mathlib.Core.List.{[], _∷_}
 use Prim.Native.Nat.{ℕ}
 use native.Mathlib.Omega.{arith}
 use denote.Enum.Declared.{tagOf}
 use types.Run.{OneOf}
 use Rattle.reader.specs.declared.Record.{Record}
-use Rattle.reader.specs.declared.Record.the-variants.{Head, Group, End}
+use Rattle.reader.specs.declared.Record.the-variants.{Head, End}
 use Rattle.reader.proofs.Record.{the-type}
 
 -- by the numbers of their variants
-pub not-a-group : (i : Record) → OneOf (0 ∷ 2 ∷ 3 ∷ 4 ∷ []) (tagOf the-type i) → (q : Bool) (count : ℕ) → i ≡ Group q count → ⊥
-not-a-group i t q count e = go (rw e at t)
-  where
-    go : OneOf (0 ∷ 2 ∷ 3 ∷ 4 ∷ []) (tagOf the-type (Group q count)) → ⊥
-    go = ⊎-elim (λ x. omega arith) (⊎-elim (λ x. omega arith) (⊎-elim (λ x. omega arith) (λ x. omega arith)))
-
 pub not-the-end : (r : Record) → OneOf (0 ∷ 1 ∷ 2 ∷ 4 ∷ []) (tagOf the-type r) → r ≡ End → ⊥
 not-the-end r t e = go (rw e at t)
   where

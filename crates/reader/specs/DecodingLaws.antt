@@ -11,7 +11,7 @@ use lib.Seq.{getD-drop, getD-set-same, getD-set-other}
 use borrow.Author.Tests.{eqb-true, eqb-false, ne-eqb, ltb-false, lt-ltb, le-ltb, leb-true, le-leb, lt-leb}
 use Rattle.model.specs.Lists.{any, member}
 use Rattle.model.specs.Reading.{u16At}
-use Rattle.model.specs.TestLaws.{decide, and-fst, and-snd}
+use Rattle.model.specs.TestLaws.{decide, differ, and-fst, and-snd, and-true, or-left, or-right}
 use Rattle.reader.specs.declared.Counts.{Counts}
 use Rattle.reader.specs.declared.Lessened.{Lessened}
 use Rattle.reader.specs.declared.Lessened.the-variants.{Left, Over}
@@ -19,7 +19,7 @@ use Rattle.reader.specs.declared.Record.{Record}
 use Rattle.reader.specs.declared.Record.the-variants.{Head, Group, Superedge, End, Malformed}
 use Rattle.reader.specs.declared.Read.{Read}
 use Rattle.reader.specs.declared.Grouped.the-variants.{Taken, Missing}
-use Rattle.reader.specs.Records.{groupItem, headItem, isMark, itemIn, lessGroup, lessMember, readAs, recordAt, sizeOf, superedgeItem, whole}
+use Rattle.reader.specs.Records.{groupHere, groupItem, headItem, isMark, itemIn, lessGroup, lessMember, markAt, readAs, recordAt, sizeOf, superedgeItem, whole}
 use Rattle.reader.specs.Drawing.{countAt, membersAt, restAt}
 use Rattle.reader.specs.Decoding.{Cleared, Clearing, GroupTaken, MembersRead, groupBy, groupTaken, membersRead, numbersAt, within}
 use Rattle.reader.specs.RecordLaws.{u16-drop}
@@ -105,7 +105,7 @@ module _ (s : List ℕ) (at count : ℕ) where
 -- what a record that was read tells of the bytes
 abbrev pub Fits : List ℕ → Record → Type 0
 Fits r (Head n m g) = (8 ≤ length r) × (n ≡ u16At r 2) × (m ≡ u16At r 4) × (g ≡ u16At r 6)
-Fits r (Group q count) = (4 ≤ length r) × (count ≡ u16At r 2) × (q ≡ eqb (getD r 1 0) 0x43)
+Fits r (Group q count) = (4 ≤ length r) × (count ≡ u16At r 2) × (q ≡ eqb (getD r 1 0) 0x43) × ((isMark r 0x47 0x49 || isMark r 0x47 0x43) ≡ true)
 Fits r (Superedge i j) = (6 ≤ length r) × (i ≡ u16At r 2) × (j ≡ u16At r 4) × (getD r 0 0 ≡ 0x53) × (isMark r 0x53 0x45 ≡ true)
 Fits r End = (2 ≤ length r) × (getD r 0 0 ≡ 0x45)
 Fits r Malformed = Unit {0}
@@ -127,8 +127,8 @@ unfolding itemIn isMark superedgeItem groupItem headItem
 item-fits r =
     cond-fits r (ltb (length r) 2) Malformed _ (λ t. tt) (λ room.
     cond-fits r (eqb (getD r 0 0) 0x53 && eqb (getD r 1 0) 0x45) (superedgeItem r) _ (λ t. whole-fits r 6 (Superedge (u16At r 2) (u16At r 4)) (λ l. (l, refl, refl, eqb-true (getD r 0 0) 0x53 (and-fst (eqb (getD r 0 0) 0x53) (eqb (getD r 1 0) 0x45) t), t))) (λ _.
-    cond-fits r (eqb (getD r 0 0) 0x47 && eqb (getD r 1 0) 0x49) (groupItem false r) _ (λ t. whole-fits r 4 (Group false (u16At r 2)) (λ l. (l, refl, sym (ne-eqb (getD r 1 0) 0x43 (λ e. omega (arith, eqb-true (getD r 1 0) 0x49 (and-snd (eqb (getD r 0 0) 0x47) (eqb (getD r 1 0) 0x49) t))))))) (λ _.
-    cond-fits r (eqb (getD r 0 0) 0x47 && eqb (getD r 1 0) 0x43) (groupItem true r) _ (λ t. whole-fits r 4 (Group true (u16At r 2)) (λ l. (l, refl, sym (and-snd (eqb (getD r 0 0) 0x47) (eqb (getD r 1 0) 0x43) t)))) (λ _.
+    cond-fits r (eqb (getD r 0 0) 0x47 && eqb (getD r 1 0) 0x49) (groupItem false r) _ (λ t. whole-fits r 4 (Group false (u16At r 2)) (λ l. (l, refl, sym (ne-eqb (getD r 1 0) 0x43 (λ e. omega (arith, eqb-true (getD r 1 0) 0x49 (and-snd (eqb (getD r 0 0) 0x47) (eqb (getD r 1 0) 0x49) t)))), or-left (isMark r 0x47 0x43) t))) (λ _.
+    cond-fits r (eqb (getD r 0 0) 0x47 && eqb (getD r 1 0) 0x43) (groupItem true r) _ (λ t. whole-fits r 4 (Group true (u16At r 2)) (λ l. (l, refl, sym (and-snd (eqb (getD r 0 0) 0x47) (eqb (getD r 1 0) 0x43) t), or-right (isMark r 0x47 0x49) t))) (λ _.
     cond-fits r (eqb (getD r 0 0) 0x48 && eqb (getD r 1 0) 0x44) (headItem r) _ (λ t. whole-fits r 8 (Head (u16At r 2) (u16At r 4) (u16At r 6)) (λ l. (l, refl, refl, refl))) (λ _.
     cond-fits r (eqb (getD r 0 0) 0x45 && eqb (getD r 1 0) 0x4E) End Malformed (λ t. (ltb-false (length r) 2 room, eqb-true (getD r 0 0) 0x45 (and-fst (eqb (getD r 0 0) 0x45) (eqb (getD r 1 0) 0x4E) t))) (λ _. tt))))))
 
@@ -158,7 +158,7 @@ module _ (s : List ℕ) (at : ℕ) (r : Read) (read : r ≡ recordAt s at) where
     unfolding groupTaken
     by-item i e = ap (groupBy n c s at) (sym e ∙ item-is)
 
-    pub other-record : ((q : Bool) (count : ℕ) → r .item ≡ Group q count → ⊥) → Missing ≡ groupTaken n c s at
+    other-record : ((q : Bool) (count : ℕ) → r .item ≡ Group q count → ⊥) → Missing ≡ groupTaken n c s at
     other-record h = step (r .item) refl
       where
         step : (i : Record) → r .item ≡ i → Missing ≡ groupTaken n c s at
@@ -167,6 +167,16 @@ module _ (s : List ℕ) (at : ℕ) (r : Read) (read : r ≡ recordAt s at) where
         step (Superedge x y) e = by-item (Superedge x y) e
         step End e = by-item End e
         step Malformed e = by-item Malformed e
+
+-- no group stands there
+pub no-group-here : (n : ℕ) (c : Counts) (s : List ℕ) (at : ℕ) → false ≡ groupHere s at → Missing ≡ groupTaken n c s at
+unfolding groupHere markAt
+no-group-here n c s at h = other-record s at (recordAt s at) refl n c none
+  where
+    none : (q : Bool) (count : ℕ) → recordAt s at .item ≡ Group q count → ⊥
+    none q count e =
+        let f = fits-at s at (recordAt s at) refl (Group q count) e in
+        differ (and-true (le-leb (at + 4) (length s) (omega (arith, f .0, length-drop at s))) (f .3)) (sym h)
 
 pub numbers-members : (s : List ℕ) (at count : ℕ) → count ≡ countAt s at → numbersAt s (at + 4) count ≡ membersAt s at
 unfolding numbersAt membersAt

@@ -1,21 +1,22 @@
 -- Laws of counts and records.
 use mathlib.Core.Path.{_≡_, sym, ap, _∙_}
-use mathlib.Core.Bool.{Bool, true, false}
+use mathlib.Core.Bool.{Bool, true, false, _||_, and-false}
+use mathlib.Core.Logic.{_⊎_, inl, inr}
 use mathlib.Core.List.{List, [], _∷_}
 use Prim.Native.Nat.{ℕ, suc, _+_, _*_, _-_, _≤_, _<_}
 use native.Mathlib.Omega.{arith}
 use lib.Dec.{eqb, ltb, leb}
 use lib.ListN.{length, getD, drop, length-drop}
 use lib.Seq.{getD-drop}
-use borrow.Author.Tests.{eq-eqb, ne-eqb, leb-true, le-leb, lt-leb, le-ltb, lt-ltb}
+use borrow.Author.Tests.{eq-eqb, eqb-true, ne-eqb, leb-true, le-leb, lt-leb, le-ltb, lt-ltb}
 use Rattle.model.specs.Reading.{u16At}
-use Rattle.model.specs.TestLaws.{and-fst, and-snd}
+use Rattle.model.specs.TestLaws.{and-fst, and-snd, decide}
 use Rattle.reader.specs.declared.Counts.{Counts}
 use Rattle.reader.specs.declared.Lessened.the-variants.{Left, Over}
 use Rattle.reader.specs.declared.Record.{Record}
 use Rattle.reader.specs.declared.Record.the-variants.{Head, Group, Superedge, End, Malformed}
 use Rattle.reader.specs.declared.Read.{Read}
-use Rattle.reader.specs.Records.{lessMember, lessGroup, spent, isMark, whole, headItem, groupItem, superedgeItem, itemIn, sizeOf, readAs, markAt, malformedAt, headAt, groupAt, superedgeAt, superedgeHere, recordAt}
+use Rattle.reader.specs.Records.{lessMember, lessGroup, spent, isMark, whole, headItem, groupItem, superedgeItem, itemIn, sizeOf, readAs, markAt, malformedAt, headAt, groupAt, superedgeAt, groupHere, superedgeHere, recordAt}
 
 pub member-over : (c : Counts) → c .members ≡ 0 → Over ≡ lessMember c
 unfolding lessMember
@@ -152,3 +153,49 @@ module _ (s : List ℕ) (at : ℕ) where
       let room = superedge-room t in
       superedge-full i j room a b
       ∙ by-superedge (omega arith) (sym (and-snd (leb (at + 6) (length s)) (markAt s at (0x53 ∷ 0x45 ∷ [])) (sym t)))
+
+  -- a group, tested and read in place
+  pub group-no : length s < at + 4 → false ≡ groupHere s at
+  unfolding groupHere
+  group-no h = rw (lt-leb (at + 4) (length s) h)
+
+  pub group-first : at + 4 ≤ length s → true ≡ markAt s at (0x47 ∷ 0x49 ∷ []) → true ≡ groupHere s at
+  unfolding groupHere
+  group-first h a = rw (le-leb (at + 4) (length s) h, ← a)
+
+  pub group-by : at + 4 ≤ length s → false ≡ markAt s at (0x47 ∷ 0x49 ∷ []) → markAt s at (0x47 ∷ 0x43 ∷ []) ≡ groupHere s at
+  unfolding groupHere
+  group-by h a = rw (le-leb (at + 4) (length s) h, ← a)
+
+  pub group-room : true ≡ groupHere s at → at + 4 ≤ length s
+  unfolding groupHere
+  group-room t = leb-true (at + 4) (length s) (and-fst (leb (at + 4) (length s)) (markAt s at (0x47 ∷ 0x49 ∷ []) || markAt s at (0x47 ∷ 0x43 ∷ [])) (sym t))
+
+  -- two marks that differ in a byte
+  other-first : (a b c d : ℕ) → (a ≡ c → ⊥) → markAt s at (a ∷ b ∷ []) ≡ true → false ≡ markAt s at (c ∷ d ∷ [])
+  unfolding markAt isMark
+  other-first a b c d h t = rw (ne-eqb (getD (drop at s) 0 0) c (λ e. h (sym (eqb-true (getD (drop at s) 0 0) a (and-fst (eqb (getD (drop at s) 0 0) a) (eqb (getD (drop at s) 1 0) b) t)) ∙ e)))
+
+  other-second : (a b c d : ℕ) → (b ≡ d → ⊥) → markAt s at (a ∷ b ∷ []) ≡ true → false ≡ markAt s at (c ∷ d ∷ [])
+  unfolding markAt isMark
+  other-second a b c d h t =
+      rw (ne-eqb (getD (drop at s) 1 0) d (λ e. h (sym (eqb-true (getD (drop at s) 1 0) b (and-snd (eqb (getD (drop at s) 0 0) a) (eqb (getD (drop at s) 1 0) b) t)) ∙ e))) (sym (and-false (eqb (getD (drop at s) 0 0) c)))
+
+  pub group-read : (q : Bool) (count : ℕ) → true ≡ groupHere s at → q ≡ markAt s at (0x47 ∷ 0x43 ∷ []) → count ≡ u16At s (at + 2) → record { next = at + 4; item = Group q count } ≡ recordAt s at
+  group-read q count t e a = step (decide (markAt s at (0x47 ∷ 0x49 ∷ [])))
+    where
+      room : at + 4 ≤ length s
+      room = group-room t
+
+      either : (markAt s at (0x47 ∷ 0x49 ∷ []) || markAt s at (0x47 ∷ 0x43 ∷ [])) ≡ true
+      either = unfold groupHere in and-snd (leb (at + 4) (length s)) (markAt s at (0x47 ∷ 0x49 ∷ []) || markAt s at (0x47 ∷ 0x43 ∷ [])) (sym t)
+
+      not-both : markAt s at (0x47 ∷ 0x49 ∷ []) ≡ true → q ≡ false
+      not-both h = e ∙ sym (other-second 0x47 0x49 0x47 0x43 (λ f. omega arith) h)
+
+      step : (markAt s at (0x47 ∷ 0x49 ∷ []) ≡ true) ⊎ (markAt s at (0x47 ∷ 0x49 ∷ []) ≡ false) → record { next = at + 4; item = Group q count } ≡ recordAt s at
+      step (inl h) = rw (not-both h) (group-full false count room a ∙ by-group (omega (arith, room)) (other-first 0x47 0x49 0x53 0x45 (λ f. omega arith) h) (sym h))
+      step (inr h) =
+          let k : markAt s at (0x47 ∷ 0x43 ∷ []) ≡ true = rw h at either in
+          let f : q ≡ true = e ∙ k in
+          rw f (group-full true count room a ∙ by-clique (omega (arith, room)) (other-first 0x47 0x43 0x53 0x45 (λ x. omega arith) k) (sym h) (sym k))

@@ -1,5 +1,5 @@
 -- Document 01, "Release file": the record at the front of bytes, and the head's counts used up one by one.
-use mathlib.Core.Bool.{Bool, true, false, _&&_, cond}
+use mathlib.Core.Bool.{Bool, true, false, _&&_, _||_, cond}
 use mathlib.Core.List.{List, [], _∷_}
 use Prim.Native.Nat.{ℕ, _+_, _-_}
 use lib.Dec.{eqb, ltb, leb}
@@ -78,6 +78,10 @@ superedgeAt s at = readAs at (superedgeItem (drop at s))
 
 unfoldable pub recordAt : List ℕ → ℕ → Read
 recordAt s at = readAs at (itemIn (drop at s))
+
+-- a group's mark at a place, with the count
+unfoldable pub groupHere : List ℕ → ℕ → Bool
+groupHere s at = leb (at + 4) (length s) && (markAt s at (0x47 ∷ 0x49 ∷ []) || markAt s at (0x47 ∷ 0x43 ∷ []))
 
 -- a superedge's mark at a place, with all six bytes of the record
 unfoldable pub superedgeHere : List ℕ → ℕ → Bool

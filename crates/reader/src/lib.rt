@@ -8,7 +8,7 @@ ghost use Rattle.model.specs.Reading.{u16At};
 ghost use Rattle.model.specs.Graph.{rowWords};
 ghost use Rattle.reader.specs.Drawing.{Added, oneBit, onePair, oneRow, rowTo, rowWord, fanTo, across, joined, inner, countAt, membersAt, GroupHere, loneAt, Places, Lones, Kept, AllKept};
 ghost use Rattle.reader.specs.Decoding.{numbersAt, MembersRead, GroupTaken, GroupsRead, groupsFrom, Found, follows, SuperedgesRead, endsAt, sized, Drawn, Decodes, AfterHead};
-ghost use Rattle.reader.specs.Records.{lessMember, lessGroup, spent, markAt, malformedAt, headAt, groupAt, superedgeAt, recordAt, superedgeHere};
+ghost use Rattle.reader.specs.Records.{lessMember, lessGroup, spent, markAt, malformedAt, headAt, groupAt, superedgeAt, recordAt, groupHere, superedgeHere};
 
 // What the head still promises: members and groups not yet read.
 pub struct Counts {
@@ -429,18 +429,33 @@ fn read_members(
     Lessened::Left(left)
 }
 
+// Whether a group stands at a place, with its mark and count.
+fn is_group(file: &[u8], at: usize) -> bool
+    ensures { λ r. ⌜ r ≡ groupHere (now (file .entry)) at ⌝ }
+{
+    if file.len() < 4 {
+        return false;
+    }
+    if file.len() - 4 < at {
+        return false;
+    }
+    if is_mark(file, at, b"GI") {
+        return true;
+    }
+    is_mark(file, at, b"GC")
+}
+
 // A group record at a place, with its members.
 fn take_group(file: &[u8], at: usize, n: usize, counts: Counts, hidden: &mut [u16]) -> Grouped
     requires { ⌜ n ≤ length (now hidden) ⌝ }
     ensures { λ r. ⌜ GroupTaken n counts (now (file .entry)) at (now (hidden .entry)) (now (hidden .exit)) r ⌝ }
 {
-    let read = read_record(file, at);
-    let from = read.next;
-    let item = read.item;
-    let Record::Group { clique, count } = item else {
+    if !is_group(file, at) {
         return Grouped::Missing;
-    };
-    let members = count as usize;
+    }
+    let clique = is_mark(file, at, b"GC");
+    let members = u16_at(file, at + 2) as usize;
+    let from = at + 4;
     if file.len() - from < 2 * members {
         return Grouped::Missing;
     }
