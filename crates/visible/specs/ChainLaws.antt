@@ -3,9 +3,8 @@ use mathlib.Core.Path.{_≡_, refl, sym, ap, ap₂, _∙_}
 use mathlib.Core.Bool.{Bool, true, false, xor, cond}
 use mathlib.Core.List.{List}
 use mathlib.Core.Logic.{_⊎_, inl, inr}
-use Prim.Native.Nat.{ℕ, zero, suc, _+_, _*_, _-_, _%_, _^_, _≤_, _<_}
+use Prim.Native.Nat.{ℕ, zero, suc, _+_, _*_, _-_, _^_, _≤_, _<_}
 use native.Mathlib.Omega.{arith}
-use native.Mathlib.Numerals.{add-one}
 use lib.Bits.{bitXor, xor-lt}
 use lib.Dec.{eqb, ltb}
 use lib.ListN.{getD, length, length-set, replicate, set}
@@ -19,25 +18,8 @@ use Rattle.rows.specs.BitLaws.{bit-xor}
 use Rattle.rows.specs.TwinRowLaws.{own-bit, own-bit-lt, own-bits, word-small, words-eq, xor-swap}
 use Rattle.rows.specs.SearchLaws.{meets-words}
 use Rattle.checks.specs.WalkLaws.{bit-zero}
-use Rattle.visible.specs.Chains.{Chains, Entered, Links, Met, alike, hashOf, mix, rowWord, slotOf}
-
--- the hash, word by word
-pub hash-more : (edges : List ℕ) (closed : Bool) (p w : ℕ) {h x r : ℕ} → h ≡ hashOf edges closed p w → x ≡ cond closed (ownBit p w) 0 → r ≡ mix h (bitXor (getD edges (8 * p + w) 0) x) → r ≡ hashOf edges closed p (w + 1)
-unfolding hashOf rowWord
-hash-more edges closed p w e f g = rw (add-one w) (g ∙ ap₂ (λ (a b : ℕ). mix a (bitXor (getD edges (8 * p + w) 0) b)) e f)
-
-pub slot-done : (edges : List ℕ) (closed : Bool) (p : ℕ) {w h : ℕ} → h ≡ hashOf edges closed p w → w ≡ 8 → h % 1024 ≡ slotOf edges closed p
-unfolding slotOf
-slot-done edges closed p e f = ap (λ (x : ℕ). x % 1024) e ∙ ap (λ (k : ℕ). hashOf edges closed p k % 1024) f
-
-pub slot-lt : (edges : List ℕ) (closed : Bool) (p : ℕ) → slotOf edges closed p < 1024
-unfolding slotOf
-slot-lt edges closed p = omega arith
-
-hash-same : (edges : List ℕ) (closed : Bool) (p q k : ℕ) → ((w : ℕ) → w < k → rowWord edges closed p w ≡ rowWord edges closed q w) → hashOf edges closed p k ≡ hashOf edges closed q k
-unfolding hashOf
-hash-same edges closed p q zero h = refl
-hash-same edges closed p q (suc k) h = ap₂ mix (hash-same edges closed p q k (λ w l. h w (omega arith))) (h k (omega arith))
+use Rattle.visible.specs.Chains.{Chains, Entered, Links, Met, alike, rowWord, slotFor, slotOf, still, turned}
+use Rattle.visible.specs.HashLaws.{hash-same}
 
 -- rows that agree have one slot
 module _ (n : ℕ) (edges keys : List ℕ) (ready : Ready n edges keys) (closed : Bool) (u q : ℕ) where
@@ -79,7 +61,10 @@ module _ (n : ℕ) (edges keys : List ℕ) (ready : Ready n edges keys) (closed 
 
   pub alike-slot : alike edges closed u q ≡ true → slotOf edges closed q ≡ slotOf edges closed u
   unfolding alike slotOf
-  alike-slot h = ap (λ (x : ℕ). x % 1024) (hash-same edges closed q u 8 (λ w l. word-same w (meets-words closed u q edges h w l)))
+  alike-slot h = ap₂ slotFor (hash-same turned edges closed q u 8 words) (hash-same still edges closed q u 8 words)
+    where
+      words : (w : ℕ) → w < 8 → rowWord edges closed q w ≡ rowWord edges closed u w
+      words w l = word-same w (meets-words closed u q edges h w l)
 
 pub alike-told : (edges : List ℕ) (closed : Bool) (u q : ℕ) {b : Bool} → b ≡ meets closed u q (rowIn edges u) (rowIn edges q) 8 → b ≡ alike edges closed u q
 unfolding alike

@@ -2,7 +2,7 @@
 use mathlib.Core.Path.{_≡_}
 use mathlib.Core.Bool.{Bool, true, false, cond}
 use mathlib.Core.List.{List}
-use Prim.Native.Nat.{ℕ, zero, suc, _+_, _*_, _/_, _%_, _^_, _≤_, _<_}
+use Prim.Native.Nat.{ℕ, zero, suc, _+_, _*_, _-_, _/_, _%_, _^_, _≤_, _<_}
 use lib.Bits.{bitXor}
 use lib.Dec.{eqb}
 use lib.ListN.{length, getD}
@@ -14,20 +14,35 @@ use Rattle.visible.specs.Visible.{leading, markedGraph}
 unfoldable pub rowWord : List ℕ → Bool → ℕ → ℕ → ℕ
 rowWord edges closed p w = bitXor (getD edges (rowWords * p + w) 0) (cond closed (ownBit p w) 0)
 
--- a word mixed into a hash
-unfoldable pub mix : ℕ → ℕ → ℕ
-mix h x = bitXor (bitXor h x / 2 ^ 32) (bitXor h x % 2 ^ 32 * 2654435769)
+-- a word turned by nine places
+unfoldable pub turned : ℕ → ℕ
+turned h = bitXor (h * 2 ^ 9 % 2 ^ 64) (h / 2 ^ 55)
 
--- the first k words of a row
-unfoldable pub hashOf : List ℕ → Bool → ℕ → ℕ → ℕ
-hashOf edges closed p zero = 0
-hashOf edges closed p (suc k) = mix (hashOf edges closed p k) (rowWord edges closed p k)
+abbrev pub still : ℕ → ℕ
+still h = h
+
+-- the first k words of a row added up bit by bit, what is there turned before each
+unfoldable pub hashOf : (ℕ → ℕ) → List ℕ → Bool → ℕ → ℕ → ℕ
+hashOf turn edges closed p zero = 0
+hashOf turn edges closed p (suc k) = bitXor (turn (hashOf turn edges closed p k)) (rowWord edges closed p k)
+
+-- node p's own bit where the turns leave it
+unfoldable pub ownTurned : ℕ → ℕ
+ownTurned p = 2 ^ ((p + 63 - 9 * (p / 64)) % 64)
 
 abbrev pub slots : ℕ
 slots = 1024
 
+-- a slot from a word, by its halves
+unfoldable pub slotIn : ℕ → ℕ
+slotIn y = bitXor (y % 2 ^ 32 * 2654435769) (y / 2 ^ 32 * 2246822519) / 2 ^ 20 % slots
+
+unfoldable pub slotFor : ℕ → ℕ → ℕ
+slotFor h k = slotIn (bitXor (bitXor h (k / 2 ^ 5)) (k / 2 ^ 23))
+
+-- the slot of a row, by the words turned and by the words as they stand
 unfoldable pub slotOf : List ℕ → Bool → ℕ → ℕ
-slotOf edges closed p = hashOf edges closed p rowWords % slots
+slotOf edges closed p = slotFor (hashOf turned edges closed p rowWords) (hashOf still edges closed p rowWords)
 
 -- the rows of u and q agree, as open or as closed ones
 unfoldable pub alike : List ℕ → Bool → ℕ → ℕ → Bool

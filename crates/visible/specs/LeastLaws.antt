@@ -29,7 +29,8 @@ use Rattle.visible.specs.Visible.{Apart, leading, leastVisible, markedGr
 use Rattle.visible.specs.Chains.{Entered, Links, Met, Sought, alike, slotOf}
 use Rattle.visible.specs.MaskLaws.{visible-is}
 use Rattle.visible.specs.KeySumLaws.{within-length}
-use Rattle.visible.specs.ChainLaws.{alike-slot, chains-none, slot-lt}
+use Rattle.visible.specs.HashLaws.{slot-lt}
+use Rattle.visible.specs.ChainLaws.{alike-slot, chains-none}
 
 module _ {n : ℕ} {edges marks : List ℕ} (a : Apart n edges marks) where
   abbrev g : Graph

@@ -12,7 +12,7 @@ ghost use Rattle.layout.specs.Truth.{Truth};
 ghost use Rattle.layout.specs.WordLaws.{Marking};
 ghost use Rattle.rows.specs.Search.{edgesIn, graphIn, ownBit};
 ghost use Rattle.visible.specs.Visible.{Apart, Drawn, KeysPut, RowPut, Within, cutWord, leastVisible, markedGraph, maskedWord, shown};
-ghost use Rattle.visible.specs.Chains.{Chains, Entered, Links, Met, Sought, alike, mix, slotOf, slots};
+ghost use Rattle.visible.specs.Chains.{Chains, Entered, Links, Met, Sought, alike, hashOf, ownTurned, slotFor, slotIn, slotOf, slots, still, turned};
 use rows::Graph;
 
 // Stands for no node, at hidden nodes.
@@ -145,37 +145,70 @@ pub fn sum_keys(edges: &[u64], keys: &mut [u32], n: usize)
     sum_sparse(edges, keys, n);
 }
 
-// A word mixed into a hash.
-fn mixed(h: u64, x: u64) -> u64
-    ensures { λ r. ⌜ r ≡ mix h x ⌝ }
-{
-    let y = h ^ x;
-    (y >> 32) ^ ((y % 4294967296) * 2654435769)
-}
-
-// Node p's own bit in word w of a closed row; an open one lacks it.
-fn own_word(closed: bool, p: usize, w: usize) -> u64
-    ensures { λ r. ⌜ r ≡ cond closed (ownBit p w) 0 ⌝ }
-{
-    if closed {
-        return rows::own_bit(p, w);
-    }
-    0
-}
-
-// The slot of p's row, of the open or of the closed one.
-fn slot_of(edges: &[u64], closed: bool, p: usize) -> usize
+// The words of p's row added up bit by bit, what is there turned before each.
+fn sum_turned(edges: &[u64], p: usize) -> u64
     requires { ⌜ (p < maxNodes) × (rowWords * p + rowWords ≤ length (now edges)) ⌝ }
-    ensures { λ r. ⌜ r ≡ slotOf (now (edges .entry)) closed p ⌝ }
+    ensures { λ r. ⌜ r ≡ hashOf turned (now (edges .entry)) false p rowWords ⌝ }
 {
     let a = Graph::ROW_WORDS * p;
     let mut h = 0u64;
     let mut w = 0;
     while w < 8 {
-        h = mixed(h, edges[a + w] ^ own_word(closed, p, w));
+        h = ((h << 9) ^ (h >> 55)) ^ edges[a + w];
         w += 1;
     }
-    (h as usize) % SLOTS
+    h
+}
+
+// The same without a turn.
+fn sum_still(edges: &[u64], p: usize) -> u64
+    requires { ⌜ (p < maxNodes) × (rowWords * p + rowWords ≤ length (now edges)) ⌝ }
+    ensures { λ r. ⌜ r ≡ hashOf still (now (edges .entry)) false p rowWords ⌝ }
+{
+    let a = Graph::ROW_WORDS * p;
+    let mut h = 0u64;
+    let mut w = 0;
+    while w < 8 {
+        h = h ^ edges[a + w];
+        w += 1;
+    }
+    h
+}
+
+// Node p's own bit where the turns leave it.
+fn own_turned(p: usize) -> u64
+    requires { ⌜ p < maxNodes ⌝ }
+    ensures { λ r. ⌜ r ≡ ownTurned p ⌝ }
+{
+    1u64 << ((p + 63 - 9 * rows::word_of(p)) % 64)
+}
+
+// A slot for a word, by its halves.
+fn slot_in(y: u64) -> usize
+    ensures { λ r. ⌜ r ≡ slotIn y ⌝ }
+{
+    let z = ((y % 4294967296) * 2654435769) ^ ((y >> 32) * 2246822519);
+    ((z >> 20) as usize) % SLOTS
+}
+
+// A slot for the two sums of a row.
+fn slot_for(h: u64, k: u64) -> usize
+    ensures { λ r. ⌜ r ≡ slotFor h k ⌝ }
+{
+    slot_in((h ^ (k >> 5)) ^ (k >> 23))
+}
+
+// The slot of p's row, of the open or of the closed one, which has p's own bit too.
+fn slot_of(edges: &[u64], closed: bool, p: usize) -> usize
+    requires { ⌜ (p < maxNodes) × (rowWords * p + rowWords ≤ length (now edges)) ⌝ }
+    ensures { λ r. ⌜ r ≡ slotOf (now (edges .entry)) closed p ⌝ }
+{
+    let h = sum_turned(edges, p);
+    let k = sum_still(edges, p);
+    if closed {
+        return slot_for(h ^ own_turned(p), k ^ rows::mask(p));
+    }
+    slot_for(h, k)
 }
 
 // The leader below u, in the chain of slot s, whose row agrees with u's; u if there is none.

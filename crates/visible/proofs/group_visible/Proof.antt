@@ -3,7 +3,7 @@ use mathlib.Core.Bool.{true, false}
 use mathlib.Core.Path.{sym, _∙_}
 use Prim.Native.Nat.{_-_, _≤_}
 use native.Mathlib.Omega.{arith}
-use Rattle.visible.specs.ChainLaws.{slot-lt}
+use Rattle.visible.specs.HashLaws.{slot-lt}
 use Rattle.visible.specs.Chains.{Sought}
 use Rattle.visible.specs.KeySumLaws.{within-length}
 use Rattle.visible.specs.LeastLaws.{Telling, least-fits, sought-more, sought-none, telling-done, telling-more, telling-none}

@@ -4,7 +4,7 @@ use mathlib.Core.Path.{sym}
 use native.Mathlib.Omega.{arith}
 use borrow.Author.Needs.{needs}
 use borrow.Author.Tests.{not-false, not-true}
-use Rattle.visible.specs.ChainLaws.{slot-lt}
+use Rattle.visible.specs.HashLaws.{slot-lt}
 use Rattle.visible.specs.KeySumLaws.{within-length}
 use Rattle.visible.specs.LeastLaws.{least-closed, least-hidden, least-open}
 use Rattle.visible.proofs.least_of.Statement.{statement}

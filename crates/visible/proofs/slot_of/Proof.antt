@@ -1,66 +1,46 @@
--- The invariant: h is the hash of the first w words.
-use mathlib.Core.Path.{_≡_, refl}
-use Prim.Native.Nat.{_-_, _≤_}
-use native.Mathlib.Omega.{arith}
+-- One law for each branch.
+use Rattle.visible.specs.HashLaws.{slot-closed, slot-open}
 use borrow.Author.Needs.{needs}
-use Rattle.visible.specs.ChainLaws.{hash-more, slot-done}
-use Rattle.visible.specs.Chains.{hashOf}
 use Rattle.visible.proofs.slot_of.Statement.{statement}
 use Rattle.visible.proofs.slot_of.Tie as tie
 
-abbrev Inv-loop : tie.InvT-loop
-Inv-loop edges closed p a h₀ w₀ h w = (w ≤ 8) × (h ≡ hashOf edges closed p w)
+sum-turned-requires : tie.Need-sum-turned-requires
+sum-turned-requires c κs = search needs
 
-abbrev μ-loop : tie.MeasureT-loop
-μ-loop edges closed p a h₀ w₀ h w = 8 - w
+sum-still-requires : tie.Need-sum-still-requires
+sum-still-requires c κs = search needs
 
-mul-a : tie.Need-mul-a Inv-loop μ-loop
-mul-a c = omega arith
+own-turned-requires : tie.Need-own-turned-requires
+own-turned-requires c κs = search needs
 
-loop-holds : tie.Need-loop-holds Inv-loop μ-loop
-loop-holds c = (omega arith, unfold hashOf in refl)
+mask-requires : tie.Need-mask-requires
+mask-requires c κs = search needs
 
-add-mixed : tie.Need-add-mixed Inv-loop μ-loop
-add-mixed c = omega arith
+slot-for-requires : tie.Need-slot-for-requires
+slot-for-requires c κs = search needs
 
-mul-mixed : tie.Need-mul-mixed Inv-loop μ-loop
-mul-mixed c = omega arith
+returns : tie.Need-returns
+returns c =
+    let i = c .before .before .before in
+    slot-closed _ _ _ (i .before .before .sum-turned .ensures) (i .before .sum-still .ensures) (i .before .before .before .before .pre .0) (i .if1 .taken) (c .before .before .own-turned .ensures) (c .before .mask .ensures) (c .slot-for .ensures)
 
-shared-slice-read-mixed : tie.Need-shared-slice-read-mixed Inv-loop μ-loop
-shared-slice-read-mixed c = omega arith
+slot-for-requires-2 : tie.Need-slot-for-requires-2
+slot-for-requires-2 c κs = search needs
 
-own-word-requires : tie.Need-own-word-requires Inv-loop μ-loop
-own-word-requires c κs = search needs
-
-mixed-requires : tie.Need-mixed-requires Inv-loop μ-loop
-mixed-requires c κs = search needs
-
-add-w : tie.Need-add-w Inv-loop μ-loop
-add-w c = omega arith
-
-loop-less : tie.Need-loop-less Inv-loop μ-loop
-loop-less c = omega arith
-
-loop-again : tie.Need-loop-again Inv-loop μ-loop
-loop-again c = (omega arith, hash-more _ _ _ _ (c .before .before .before .before .loop .inv .1) (c .before .own-word .ensures) (c .mixed .ensures))
-
-returns : tie.Need-returns Inv-loop μ-loop
-returns c = slot-done _ _ _ (c .before .loop .inv .1) (omega arith)
+returns-2 : tie.Need-returns-2
+returns-2 c =
+    let i = c .before in
+    slot-open _ _ _ (i .before .before .sum-turned .ensures) (i .before .sum-still .ensures) (i .if1 .left) (c .slot-for2 .ensures)
 
 pub slot-of-spec : {M : Type 1} → statement M
 slot-of-spec =
     tie.close
     (tie.spec
-    Inv-loop
-    μ-loop
-    mul-a
-    loop-holds
-    add-mixed
-    mul-mixed
-    shared-slice-read-mixed
-    own-word-requires
-    mixed-requires
-    add-w
-    loop-less
-    loop-again
-    returns)
+    sum-turned-requires
+    sum-still-requires
+    own-turned-requires
+    mask-requires
+    slot-for-requires
+    returns
+    slot-for-requires-2
+    returns-2)
