@@ -126,7 +126,7 @@ module _ {n : ℕ} {edges marks : List ℕ} (a : Apart n edges marks) where
         back (inr t) = similar-N+ (nodes n) e u q (of-true t)
 
   -- rows that agree are those of similar nodes
-  apart-ready : Ready n edges (keysOf (graphIn n edges))
+  pub apart-ready : Ready n edges (keysOf (graphIn n edges))
   apart-ready = record { small = a .within .small; loops = λ p. unfold markedGraph in a .proper .irreflexive p; edges-of = a .within .edges-of; keys-of = refl }
 
   similar-alike : (closed : Bool) (u q : ℕ) → u < n → q < n → alike edges closed u q ≡ true → similar (nodes n) (edgesIn n edges) u q ≡ true
@@ -157,8 +157,25 @@ module _ {n : ℕ} {edges marks : List ℕ} (a : Apart n edges marks) where
 
   -- the group of a visible u
   module _ (u : ℕ) (v : isVisible (markedGraph n edges marks) u ≡ true) where
+    -- the least member of its group
+    pub leader-is : leastVisible (markedGraph n edges marks) u ≡ least (visible (markedGraph n edges marks)) (similar (visible (markedGraph n edges marks)) (visibleEdge (markedGraph n edges marks))) u
+    unfolding leastVisible
+    leader-is = rw v
+
+    pub leader-low : least (visible (markedGraph n edges marks)) (similar (visible (markedGraph n edges marks)) (visibleEdge (markedGraph n edges marks))) u ≤ u
+    leader-low = least-le vs r eq asc u u (in-vs u v) (similar-refl vs f u)
+
+    leader-visible : isVisible (markedGraph n edges marks) (least (visible (markedGraph n edges marks)) (similar (visible (markedGraph n edges marks)) (visibleEdge (markedGraph n edges marks))) u) ≡ true
+    leader-visible = out-vs (least vs r u) (least-in vs r eq asc u (in-vs u v))
+
+    pub leader-leads : leading (markedGraph n edges marks) (least (visible (markedGraph n edges marks)) (similar (visible (markedGraph n edges marks)) (visibleEdge (markedGraph n edges marks))) u) ≡ true
+    leader-leads = leads-in (least vs r u) leader-visible (least-least vs r eq asc u (in-vs u v))
+
+    pub leader-similar : similar (nodes n) (edgesIn n edges) u (least (visible (markedGraph n edges marks)) (similar (visible (markedGraph n edges marks)) (visibleEdge (markedGraph n edges marks))) u) ≡ true
+    leader-similar = similar-visible u (least vs r u) v leader-visible ∙ least-rel vs r eq asc u (in-vs u v)
+
     -- a leader below u whose row agrees with u's
-    least-met : (closed : Bool) (q : ℕ) → q < u → leading (markedGraph n edges marks) q ≡ true → alike edges closed u q ≡ true → q ≡ leastVisible (markedGraph n edges marks) u
+    pub least-met : (closed : Bool) (q : ℕ) → q < u → leading (markedGraph n edges marks) q ≡ true → alike edges closed u q ≡ true → q ≡ leastVisible (markedGraph n edges marks) u
     unfolding leastVisible
     least-met closed q l h t =
         let hu = inside u v in
@@ -171,25 +188,16 @@ module _ {n : ℕ} {edges marks : List ℕ} (a : Apart n edges marks) where
     unfolding leastVisible
     least-alone none = rw v (at (decide (ltb (least vs r u) u)))
       where
-        hu : u < n
-        hu = inside u v
-
-        lv : isVisible g (least vs r u) ≡ true
-        lv = out-vs (least vs r u) (least-in vs r eq asc u (in-vs u v))
-
-        lead : leading g (least vs r u) ≡ true
-        lead = leads-in (least vs r u) lv (least-least vs r eq asc u (in-vs u v))
-
         twins : (alike edges false u (least vs r u) ≡ true) ⊎ (alike edges true u (least vs r u) ≡ true)
-        twins = alike-similar u (least vs r u) hu (inside (least vs r u) lv) (similar-visible u (least vs r u) v lv ∙ least-rel vs r eq asc u (in-vs u v))
+        twins = alike-similar u (least vs r u) (inside u v) (inside (least vs r u) leader-visible) leader-similar
 
         clash : least vs r u < u → (alike edges false u (least vs r u) ≡ true) ⊎ (alike edges true u (least vs r u) ≡ true) → u ≡ least vs r u
-        clash b (inl t) = differ t (none false (least vs r u) b lead)
-        clash b (inr t) = differ t (none true (least vs r u) b lead)
+        clash b (inl t) = differ t (none false (least vs r u) b leader-leads)
+        clash b (inr t) = differ t (none true (least vs r u) b leader-leads)
 
         at : (ltb (least vs r u) u ≡ true) ⊎ (ltb (least vs r u) u ≡ false) → u ≡ least vs r u
         at (inl b) = clash (ltb-true (least vs r u) u b) twins
-        at (inr b) = omega (arith, ltb-false (least vs r u) u b, least-le vs r eq asc u u (in-vs u v) (similar-refl vs f u))
+        at (inr b) = omega (arith, ltb-false (least vs r u) u b, leader-low)
 
 -- the steps of the search
 module _ {n : ℕ} {edges marks : List ℕ} (a : Apart n edges marks) {u : ℕ} (hu : u < n) (b : Bool) (e : b ≡ shown marks u) where
@@ -199,7 +207,7 @@ module _ {n : ℕ} {edges marks : List ℕ} (a : Apart n edges marks) {u : ℕ} 
   abbrev L : ℕ → Bool
   L = leading (markedGraph n edges marks)
 
-  seen : isVisible (markedGraph n edges marks) u ≡ b
+  pub seen : isVisible (markedGraph n edges marks) u ≡ b
   seen = visible-is n edges marks u ∙ ap (λ (x : Bool). x && shown marks u) (lt-ltb u n hu) ∙ sym e
 
   pub least-hidden : b ≡ false → 65535 ≡ leastVisible (markedGraph n edges marks) u

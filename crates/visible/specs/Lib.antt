@@ -5,3 +5,4 @@ pub mod KeySumLaws
 pub mod HashLaws
 pub mod ChainLaws
 pub mod LeastLaws
+pub mod ConfirmLaws

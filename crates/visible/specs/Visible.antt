@@ -6,6 +6,7 @@ use Prim.Native.Nat.{ℕ, _+_, _*_, _%_, _^_, _≤_, _<_}
 use lib.Bits.{bitAnd}
 use lib.Dec.{eqb, ltb}
 use lib.ListN.{length, getD, set}
+use Rattle.model.specs.Lists.{all, nodes}
 use Rattle.model.specs.Graph.{Graph, Proper, maxNodes, rowWords}
 use Rattle.model.specs.Grouping.{cube, least, similar}
 use Rattle.model.specs.Tables.{edgesOf}
@@ -68,3 +69,15 @@ leastVisible g q = cond (isVisible g q) (least (visible g) (similar (visible g) 
 -- q is visible and the least of its group
 unfoldable pub leading : Graph → ℕ → Bool
 leading g q = eqb (leastVisible g q) q
+
+-- a list of least members is right at p: 65535 stands for none
+unfoldable pub isLeast : Graph → List ℕ → ℕ → Bool
+isLeast g lst p = eqb (getD lst p 0) (leastVisible g p)
+
+-- it is right at each of n nodes
+unfoldable pub areLeast : ℕ → Graph → List ℕ → Bool
+areLeast n g lst = all (nodes n) (isLeast g lst)
+
+-- it is right below u
+pub record LeastBelow (g : Graph) (u : ℕ) (lst : List ℕ) : Type 0 where
+  pub told : (q : ℕ) → q < u → getD lst q 0 ≡ leastVisible g q

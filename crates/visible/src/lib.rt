@@ -2,6 +2,7 @@
 ghost use mathlib.Core.Path.{_≡_};
 ghost use mathlib.Core.Bool.{Bool, true, false, cond};
 ghost use Prim.Native.Nat.{ℕ, _+_, _*_, _≤_, _<_};
+ghost use lib.Dec.{eqb};
 ghost use lib.ListN.{length};
 ghost use Rattle.model.specs.Lists.{nodes};
 ghost use Rattle.model.specs.Graph.{maxNodes, rowWords};
@@ -11,7 +12,7 @@ ghost use Rattle.model.specs.Release.{visiblePart};
 ghost use Rattle.layout.specs.Truth.{Truth};
 ghost use Rattle.layout.specs.WordLaws.{Marking};
 ghost use Rattle.rows.specs.Search.{edgesIn, graphIn, ownBit};
-ghost use Rattle.visible.specs.Visible.{Apart, Drawn, KeysPut, RowPut, Within, cutWord, leastVisible, markedGraph, maskedWord, shown};
+ghost use Rattle.visible.specs.Visible.{Apart, Drawn, KeysPut, LeastBelow, RowPut, Within, areLeast, cutWord, isLeast, leastVisible, markedGraph, maskedWord, shown};
 ghost use Rattle.visible.specs.Chains.{Chains, Entered, Links, Met, Sought, alike, hashOf, ownTurned, slotFor, slotIn, slotOf, slots, still, turned};
 use rows::Graph;
 
@@ -293,6 +294,81 @@ pub fn find_groups(edges: &[u64], hidden: &[u16], n: usize, least: &mut [u16])
     let mut opens = [0u16; SLOTS + Graph::NODES];
     let mut closeds = [0u16; SLOTS + Graph::NODES];
     group_visible(edges, hidden, n, &mut opens, &mut closeds, least);
+}
+
+// Whether l, not u itself, is the least member of u's group: NONE for a hidden node, else a leader below u whose row agrees.
+// The edge between the two says whether the open or the closed rows must agree.
+fn is_led(edges: &[u64], hidden: &[u16], n: usize, least: &[u16], u: usize, l: usize) -> bool
+    requires { ⌜ Apart n (now edges) (now hidden) × LeastBelow (markedGraph n (now edges) (now hidden)) u (now least) × (n ≤ length (now least)) × (u < n) × (l ≡ u → ⊥) ⌝ }
+    ensures { λ r. ⌜ r ≡ eqb l (leastVisible (markedGraph n (now (edges .entry)) (now (hidden .entry))) u) ⌝ }
+{
+    if !is_visible(hidden, u) {
+        return l == NONE;
+    }
+    if l > u {
+        return false;
+    }
+    if rows::wide(least[l]) != l {
+        return false;
+    }
+    rows::same_row(edges, rows::edge(edges, l, u), u, l)
+}
+
+// Whether `least` is right at u, as it is below u. Only a leader is looked for in the chains, and put into them.
+fn confirm(
+    edges: &[u64],
+    hidden: &[u16],
+    n: usize,
+    opens: &mut [u16],
+    closeds: &mut [u16],
+    least: &[u16],
+    u: usize,
+) -> bool
+    requires { ⌜ Apart n (now edges) (now hidden) × Sought n (now edges) (now hidden) u (now opens) (now closeds) ⌝ }
+    requires { ⌜ LeastBelow (markedGraph n (now edges) (now hidden)) u (now least) × (n ≤ length (now least)) × (u < n) ⌝ }
+    ensures { λ r. ⌜ (r ≡ isLeast (markedGraph n (now (edges .entry)) (now (hidden .entry))) (now (least .entry)) u) × (r ≡ true → Sought n (now (edges .entry)) (now (hidden .entry)) (u + 1) (now (opens .exit)) (now (closeds .exit))) ⌝ }
+{
+    let l = rows::wide(least[u]);
+    if l != u {
+        return is_led(edges, hidden, n, least, u, l);
+    }
+    let a = slot_of(edges, false, u);
+    let b = slot_of(edges, true, u);
+    if least_of(edges, hidden, n, opens, closeds, u, a, b) != u {
+        return false;
+    }
+    enter(opens, a, u, u);
+    enter(closeds, b, u, u);
+    true
+}
+
+fn confirm_all(
+    edges: &[u64],
+    hidden: &[u16],
+    n: usize,
+    opens: &mut [u16],
+    closeds: &mut [u16],
+    least: &[u16],
+) -> bool
+    requires { ⌜ Apart n (now edges) (now hidden) × Links 0 (now opens) × Links 0 (now closeds) × (n ≤ length (now least)) ⌝ }
+    ensures { λ r. ⌜ r ≡ areLeast n (markedGraph n (now (edges .entry)) (now (hidden .entry))) (now (least .entry)) ⌝ }
+{
+    for u in 0..n {
+        if !confirm(edges, hidden, n, opens, closeds, least, u) {
+            return false;
+        }
+    }
+    true
+}
+
+// Whether `least` has the least member of each visible node's group and NONE for each hidden node, where hidden nodes have no edges.
+pub fn are_groups(edges: &[u64], hidden: &[u16], n: usize, least: &[u16]) -> bool
+    requires { ⌜ Apart n (now edges) (now hidden) × (n ≤ length (now least)) ⌝ }
+    ensures { λ r. ⌜ r ≡ areLeast n (markedGraph n (now (edges .entry)) (now (hidden .entry))) (now (least .entry)) ⌝ }
+{
+    let mut opens = [0u16; SLOTS + Graph::NODES];
+    let mut closeds = [0u16; SLOTS + Graph::NODES];
+    confirm_all(edges, hidden, n, &mut opens, &mut closeds, least)
 }
 
 // The edges between visible nodes, and the least members of their groups: what the release writer needs.
