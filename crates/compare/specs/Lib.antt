@@ -5,3 +5,5 @@ pub mod ToldGroupLaws
 pub mod Told
 pub mod WalkLaws
 pub mod SameLaws
+pub mod ToldLeast
+pub mod ToldLeastLaws

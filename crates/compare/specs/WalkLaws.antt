@@ -96,7 +96,7 @@ module _ (s : List ℕ) (at : ℕ) where
       let w : rowWords * u16At s (at + 4) + rowWords ≤ length edges = rw a at (r .rows 0 (omega arith)) in
       (omega arith, omega arith, rw x w)
 
-  first-member : (countAt s at ≡ 0 → ⊥) → headOr 0 (membersAt s at) ≡ u16At s (at + 4)
+  pub first-member : (countAt s at ≡ 0 → ⊥) → headOr 0 (membersAt s at) ≡ u16At s (at + 4)
   unfolding membersAt
   first-member h = first-number (countAt s at) (drop (at + 4) s) h ∙ number-here (at + 4)
 
