@@ -5,3 +5,4 @@ pub mod TableLaws
 pub mod WholeLaws
 pub mod ReleaseLaws
 pub mod ReadLaws
+pub mod JudgeLaws

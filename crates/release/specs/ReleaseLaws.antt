@@ -238,23 +238,24 @@ module _ (n : ℕ) {edges hidden : List ℕ} (h : HoldsGraph n edges hidden) (l 
   same-release w s b e = e ∙ visible-file n (take (rowWords * n) edges) hidden w s ∙ ap (λ (g : Graph). sameList s (release g)) (take-graph n edges hidden held-small)
 
   -- what is compared with the tables is what they were decoded from
-  pub file-told-by : (s : List ℕ) {lst : List ℕ} → DecodedAs n s edges hidden → Truth (markedGraph n (take (rowWords * n) edges) hidden) lst (take (rowWords * n) edges) → Told n lst (take (rowWords * n) edges) s
-  file-told-by s {lst} read t = record {
-    read = ok .0;
-    count = ok .1;
-    edge = λ a b x y. take-bit n edges a b x (omega (arith, held-small)) ∙ read .bits (ok .0) a b (omega (arith, held-small));
-    visible = λ p x. shown p x ∙ mark p x;
-  }
-    where
-      ok : (accepted s ≡ true) × (n ≡ u16At s 2)
-      ok = answer-accepts s n (read .result)
+  module _ (s : List ℕ) (read : DecodedAs n s edges hidden) where
+    pub file-accepted : (accepted s ≡ true) × (n ≡ u16At s 2)
+    file-accepted = answer-accepts s n (read .result)
 
-      shown : (p : ℕ) → p < n → inGroup lst n p ≡ isVisible (markedGraph n (take (rowWords * n) edges) hidden) p
-      shown p x = unfold markedGraph in visible-in (markedGraph n (take (rowWords * n) edges) hidden) lst (take (rowWords * n) edges) t p x
+    pub visible-told-by : (p : ℕ) → p < n → isVisible (markedGraph n (take (rowWords * n) edges) hidden) p ≡ placed (toldGroups s) p
+    visible-told-by p x = unfold isVisible markedGraph in rw (lt-ltb p n x, read .marks (file-accepted .0) p (omega (arith, held-small))) (unmarked (placed (toldGroups s) p))
+      where
+        unmarked : (b : Bool) → not (eqb (cond b 0 1) 1) ≡ b
+        unmarked true = refl
+        unmarked false = refl
 
-      unmarked : (b : Bool) → not (eqb (cond b 0 1) 1) ≡ b
-      unmarked true = refl
-      unmarked false = refl
-
-      mark : (p : ℕ) → p < n → isVisible (markedGraph n (take (rowWords * n) edges) hidden) p ≡ placed (toldGroups s) p
-      mark p x = unfold isVisible markedGraph in rw (lt-ltb p n x, read .marks (ok .0) p (omega (arith, held-small))) (unmarked (placed (toldGroups s) p))
+    pub file-told-by : {lst : List ℕ} → Truth (markedGraph n (take (rowWords * n) edges) hidden) lst (take (rowWords * n) edges) → Told n lst (take (rowWords * n) edges) s
+    file-told-by {lst} t = record {
+      read = file-accepted .0;
+      count = file-accepted .1;
+      edge = λ a b x y. take-bit n edges a b x (omega (arith, held-small)) ∙ read .bits (file-accepted .0) a b (omega (arith, held-small));
+      visible = λ p x. shown p x ∙ visible-told-by p x;
+    }
+      where
+        shown : (p : ℕ) → p < n → inGroup lst n p ≡ isVisible (markedGraph n (take (rowWords * n) edges) hidden) p
+        shown p x = unfold markedGraph in visible-in (markedGraph n (take (rowWords * n) edges) hidden) lst (take (rowWords * n) edges) t p x

@@ -8,15 +8,21 @@ ghost use Rattle.release.specs.Release.{DecodedAs, Judged};
 use reader::Decoded;
 use rows::Graph;
 
-// Whether the file is the release of the graph that it was decoded as.
+// Stands for no node, at nodes of no group.
+const NONE: u16 = 65535;
+
+// Whether the file is the release of the graph that it was decoded as. The groups that it tells are not found again, only confirmed.
 fn is_same(file: &[u8], edges: &[u64], hidden: &[u16], n: usize) -> bool
     requires { ⌜ HoldsGraph n (now edges) (now hidden) × (length (now edges) ≡ 4096) × (length (now hidden) ≡ 512) × DecodedAs n (now file) (now edges) (now hidden) ⌝ }
     ensures { λ r. ⌜ r ≡ sameList (now (file .entry)) (release (graphIn n (now (edges .entry)) (now (hidden .entry)))) ⌝ }
 {
     let end = Graph::ROW_WORDS * n;
     let rows = &edges[..end];
-    let mut least = [0u16; Graph::NODES];
-    visible::find_groups(rows, hidden, n, &mut least);
+    let mut least = [NONE; Graph::NODES];
+    compare::told_least(file, n, &mut least);
+    if !visible::are_groups(rows, hidden, n, &least) {
+        return false;
+    }
     compare::same_file(n, &least, rows, file)
 }
 
