@@ -317,7 +317,7 @@ fn is_loopless(edges: &[u64], n: usize) -> bool
 }
 
 // The open key of a twin p of l, by the keys of l.
-fn twin_key(keys: &[u32], closed: bool, l: usize, p: usize) -> u32
+pub fn twin_key(keys: &[u32], closed: bool, l: usize, p: usize) -> u32
     requires { ⌜ (l < maxNodes) × (p < maxNodes) × (2 * l + 2 ≤ length (now keys)) ⌝ }
     ensures { λ r. ⌜ r ≡ twinKey (now (keys .entry)) closed l p ⌝ }
 {

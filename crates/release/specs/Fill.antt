@@ -2,13 +2,10 @@
 use mathlib.Core.Path.{_≡_}
 use mathlib.Core.List.{List}
 use mathlib.Core.Logic.{_≢_}
-use Prim.Native.Nat.{ℕ, _+_, _*_, _≤_, _<_}
+use Prim.Native.Nat.{ℕ, _+_, _*_, _<_}
 use lib.ListN.{length, getD}
-use Rattle.model.specs.Lists.{nodes}
 use Rattle.model.specs.Graph.{nodeNumbers}
-use Rattle.model.specs.Grouping.{least, similar}
 use Rattle.model.specs.Tables.{nodeNumber}
-use Rattle.rows.specs.Search.{edgesIn}
 
 -- the first i words are copied
 pub record Copied (i : ℕ) (from t after : List ℕ) : Type 0 where
@@ -24,8 +21,3 @@ pub record MarksPut (i : ℕ) (hidden t after : List ℕ) : Type 0 where
 pub record MarksTaken (i : ℕ) (nodes t after : List ℕ) : Type 0 where
   pub size : length after ≡ length t
   pub marks : (p : ℕ) → p < i → getD after p 0 ≡ nodeNumber nodes p 3
-
--- lst has the least member of each node's group, by an edge table
-pub record LeastTold (n : ℕ) (edges lst : List ℕ) : Type 0 where
-  pub size : n ≤ length lst
-  pub told : (p : ℕ) → p < n → getD lst p 0 ≡ least (nodes n) (similar (nodes n) (edgesIn n edges)) p

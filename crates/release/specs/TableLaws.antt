@@ -18,9 +18,9 @@ use Rattle.rows.specs.SearchLaws.{edges-in}
 use Rattle.rings.specs.Steps.{Built, Grouped, Leading}
 use Rattle.rings.specs.BuildLaws.{grouped-leading}
 use Rattle.rings.specs.NodesLaws.{mark-read}
-use Rattle.visible.specs.Visible.{Within}
+use Rattle.visible.specs.Visible.{LeastTold, Within}
 use Rattle.reader.specs.Decoding.{graphIn, HoldsGraph}
-use Rattle.release.specs.Fill.{Copied, LeastTold, MarksPut}
+use Rattle.release.specs.Fill.{Copied, MarksPut}
 
 module _ (n : ℕ) {drawn hidden : List ℕ} (h : HoldsGraph n drawn hidden) (es : List ℕ) {es₁ : List ℕ} (le : length es ≡ rowWords * n) (a : Copied (length es) drawn es es₁) (w : Words es₁) where
   abbrev g : Graph

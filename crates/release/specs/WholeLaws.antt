@@ -16,9 +16,8 @@ use Rattle.model.specs.TestLaws.{and-fst, decide, differ}
 use Rattle.model.specs.ListLaws.{nodes-out}
 use Rattle.layout.specs.Truth.{Truth}
 use Rattle.rows.specs.Search.{edgesIn, graphIn}
-use Rattle.visible.specs.Visible.{Apart, Within, markedGraph, shown}
+use Rattle.visible.specs.Visible.{Apart, LeastTold, Within, markedGraph, shown}
 use Rattle.visible.specs.MaskLaws.{visible-is}
-use Rattle.release.specs.Fill.{LeastTold}
 
 filter-whole : (f : ℕ → Bool) (l : List ℕ) → ((p : ℕ) → p ∈ l → f p ≡ true) → filter f l ≡ l
 unfolding filter

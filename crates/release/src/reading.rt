@@ -6,10 +6,9 @@ ghost use Rattle.model.specs.Graph.{Proper};
 ghost use Rattle.model.specs.Tables.{tablesOf};
 ghost use Rattle.rows.specs.Rows.{lent};
 ghost use Rattle.rows.specs.Search.{graphIn as rowsGraph};
-ghost use Rattle.visible.specs.Visible.{Within};
+ghost use Rattle.visible.specs.Visible.{LeastTold, Within};
 ghost use Rattle.reader.specs.Decoding.{HoldsGraph, graphIn};
 ghost use Rattle.index.specs.Index.{Sized};
-ghost use Rattle.release.specs.Fill.{LeastTold};
 use crate::copies;
 use rows::Graph;
 
@@ -36,8 +35,8 @@ pub fn fill(
 {
     copies::copy_words(drawn, edges);
     copies::put_marks(hidden, n, nodes);
-    visible::sum_keys(edges, keys, n);
     let mut least = [0u16; Graph::NODES];
     group_all(edges, n, &mut least);
+    visible::sum_keys(edges, &least, keys, n);
     groups::build(nodes, &least, n);
 }

@@ -47,6 +47,10 @@ pub record Summed (n : ℕ) (edges : List ℕ) (i : ℕ) (t after : List ℕ) : 
 pub summed-none : (n : ℕ) (edges t : List ℕ) → Summed n edges 0 t t
 summed-none n edges t = record { size = refl; keys = λ p k h l. absurd (omega arith) }
 
+-- so they are in the table itself
+pub summed-here : {n i : ℕ} {edges t after : List ℕ} → Summed n edges i t after → Summed n edges i after after
+summed-here a = record { size = refl; keys = a .keys }
+
 pub keys-put : (p sum : ℕ) (t : List ℕ) {y r : ℕ} → y ≡ cube p → r ≡ (sum + y) % 2 ^ 32 → KeysPut p sum t (set (set t (2 * p) sum) (2 * p + 1) r)
 keys-put p sum t e f = record { put = ap (set (set t (2 * p) sum) (2 * p + 1)) (f ∙ ap (λ (z : ℕ). (sum + z) % 2 ^ 32) e) }
 

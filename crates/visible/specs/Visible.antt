@@ -51,6 +51,11 @@ pub record Within (n : ℕ) (edges : List ℕ) : Type 0 where
   pub small : n ≤ maxNodes
   pub edges-of : edges ≡ edgesOf (graphIn n edges)
 
+-- lst has the least member of each node's group, by an edge table
+pub record LeastTold (n : ℕ) (edges lst : List ℕ) : Type 0 where
+  pub size : n ≤ length lst
+  pub told : (p : ℕ) → p < n → getD lst p 0 ≡ least (nodes n) (similar (nodes n) (edgesIn n edges)) p
+
 -- the keys of p are those of a row whose cubes add up to sum
 pub record KeysPut (p sum : ℕ) (t after : List ℕ) : Type 0 where
   pub put : after ≡ set (set t (2 * p) sum) (2 * p + 1) ((sum + cube p) % 2 ^ 32)

@@ -5,15 +5,17 @@ ghost use Prim.Native.Nat.{ℕ, _+_, _*_, _≤_, _<_};
 ghost use lib.Dec.{eqb};
 ghost use lib.ListN.{length};
 ghost use Rattle.model.specs.Lists.{nodes};
-ghost use Rattle.model.specs.Graph.{maxNodes, rowWords};
+ghost use Rattle.model.specs.Graph.{Proper, maxNodes, rowWords};
 ghost use Rattle.model.specs.Grouping.{openKey};
 ghost use Rattle.model.specs.Tables.{edgesOf, keysOf};
 ghost use Rattle.model.specs.Release.{visiblePart};
 ghost use Rattle.layout.specs.Truth.{Truth};
 ghost use Rattle.layout.specs.WordLaws.{Marking};
+ghost use Rattle.checks.specs.Dense.{Widened};
 ghost use Rattle.rows.specs.Search.{edgesIn, graphIn, ownBit};
-ghost use Rattle.visible.specs.Visible.{Apart, Drawn, KeysPut, LeastBelow, RowPut, Within, areLeast, cutWord, isLeast, leastVisible, markedGraph, maskedWord, shown};
+ghost use Rattle.visible.specs.Visible.{Apart, Drawn, KeysPut, LeastBelow, LeastTold, RowPut, Within, areLeast, cutWord, isLeast, leastVisible, markedGraph, maskedWord, shown};
 ghost use Rattle.visible.specs.Chains.{Chains, Entered, Links, Met, Sought, alike, hashOf, ownTurned, slotFor, slotIn, slotOf, slots, still, turned};
+ghost use Rattle.visible.specs.KeySumLaws.{Summed};
 use rows::Graph;
 
 // Stands for no node, at hidden nodes.
@@ -118,29 +120,38 @@ fn sum_sparse(edges: &[u64], keys: &mut [u32], n: usize)
     }
 }
 
-// The same eight bits at a time, by a table.
-fn sum_dense(edges: &[u64], keys: &mut [u32], n: usize)
-    requires { ⌜ Within n (now edges) × (length (now keys) ≡ 2 * n) ⌝ }
+// The open key of p: by the keys of its least member, or eight bits at a time by a table.
+fn open_key(edges: &[u64], least: &[u16], keys: &[u32], sums: &[u32], n: usize, p: usize) -> u32
+    requires { ⌜ Within n (now edges) × Proper (graphIn n (now edges)) × LeastTold n (now edges) (now least) × Widened 16384 (now sums) ⌝ }
+    requires { ⌜ (p < n) × (2 * n ≤ length (now keys)) × Summed n (now edges) p (now keys) (now keys) ⌝ }
+    ensures { λ r. ⌜ r ≡ openKey (nodes n) (edgesIn n (now (edges .entry))) p ⌝ }
+{
+    let l = rows::wide(least[p]);
+    if l != p {
+        return checks::dense::twin_key(keys, rows::edge(edges, l, p), l, p);
+    }
+    checks::dense::low_half(checks::dense::row_sum(edges, sums, p))
+}
+
+fn sum_dense(edges: &[u64], least: &[u16], keys: &mut [u32], n: usize)
+    requires { ⌜ Within n (now edges) × Proper (graphIn n (now edges)) × LeastTold n (now edges) (now least) × (length (now keys) ≡ 2 * n) ⌝ }
     ensures { λ _. ⌜ now (keys .exit) ≡ keysOf (graphIn n (now (edges .entry))) ⌝ }
 {
     let mut sums = [0u32; 16384];
     checks::dense::fill(&mut sums);
     for p in 0..n {
-        put_keys(
-            keys,
-            p,
-            checks::dense::low_half(checks::dense::row_sum(edges, &sums, p)),
-        );
+        let sum = open_key(edges, least, keys, &sums, n, p);
+        put_keys(keys, p, sum);
     }
 }
 
-// The keys that an edge table demands.
-pub fn sum_keys(edges: &[u64], keys: &mut [u32], n: usize)
-    requires { ⌜ Within n (now edges) × (length (now keys) ≡ 2 * n) ⌝ }
+// The keys that an edge table demands, with the least members known.
+pub fn sum_keys(edges: &[u64], least: &[u16], keys: &mut [u32], n: usize)
+    requires { ⌜ Within n (now edges) × Proper (graphIn n (now edges)) × LeastTold n (now edges) (now least) × (length (now keys) ≡ 2 * n) ⌝ }
     ensures { λ _. ⌜ now (keys .exit) ≡ keysOf (graphIn n (now (edges .entry))) ⌝ }
 {
     if checks::has_many_bits(edges) {
-        sum_dense(edges, keys, n);
+        sum_dense(edges, least, keys, n);
         return;
     }
     sum_sparse(edges, keys, n);

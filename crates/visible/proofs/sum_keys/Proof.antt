@@ -6,7 +6,7 @@ use Rattle.visible.proofs.sum_keys.Statement.{statement}
 use Rattle.visible.proofs.sum_keys.Tie as tie
 
 has-many-bits-requires : tie.Need-has-many-bits-requires
-has-many-bits-requires c κs = let w = c .before .before .pre .0 in omega (arith, w .small, within-length w)
+has-many-bits-requires c κs = let w = c .before .before .before .pre .0 in omega (arith, w .small, within-length w)
 
 sum-dense-requires : tie.Need-sum-dense-requires
 sum-dense-requires c κs = search needs
