@@ -4,7 +4,7 @@ use mathlib.Core.Path.{refl, sym, _∙_}
 use native.Mathlib.Omega.{arith}
 use borrow.Author.Tests.{eqb-true}
 use Rattle.model.specs.TestLaws.{differ}
-use Rattle.visible.specs.ChainLaws.{slot-lt}
+use Rattle.visible.specs.HashLaws.{slot-lt}
 use Rattle.visible.specs.ConfirmLaws.{sought-past, told-other, told-right, told-wrong}
 use Rattle.visible.specs.KeySumLaws.{within-length}
 use Rattle.visible.specs.LeastLaws.{sought-more}
