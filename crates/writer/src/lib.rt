@@ -2,13 +2,15 @@
 ghost use mathlib.Core.Path.{_≡_};
 ghost use mathlib.Core.List.{List, [], _∷_, _++_};
 ghost use Prim.Native.Nat.{ℕ, _+_, _*_, _-_, _≤_, _<_};
+ghost use lib.Count.{ones};
 ghost use lib.ListN.{length, getD};
 ghost use Rattle.model.specs.Tables.{edgeBit};
 ghost use Rattle.model.specs.Release.{u16, headRecord, superedgeRecord};
+ghost use Rattle.rows.specs.Rows.{Words};
 ghost use Rattle.layout.specs.Wrote.{Wrote};
 ghost use Rattle.layout.specs.Scan.{scan};
 ghost use Rattle.layout.specs.File.{Ahead, Linked, Partition, Rows, chain, fileNodes, fileOf, firstTwo, groupBytes, groupMark, groupsBytes, inGroup, later, leadersOf, leads, superedgeBytes, superedgeTotal, superedgesTo, u16s, writtenFile};
-ghost use Rattle.layout.specs.Words.{Leading, Marked, Placed, Rowed, laterWord, positionsOf};
+ghost use Rattle.layout.specs.Words.{Leading, Marked, Placed, Rowed, laterWord, marked, positionsOf};
 ghost use Rattle.writer.specs.Written.{Measured, answer};
 
 // Stands for no node: after the last member of a group, and at hidden nodes.
@@ -206,6 +208,33 @@ fn write_superedges(
     to
 }
 
+// A count and the bits of a word, of which most have none.
+fn add_ones(count: usize, x: u64) -> usize
+    requires { ⌜ count ≤ 512 ⌝ }
+    ensures { λ r. ⌜ r ≡ count + ones x ⌝ }
+{
+    if x == 0 {
+        return count;
+    }
+    count + u64::count_ones(x) as usize
+}
+
+// The nodes of a set, from word `from` on, that have an edge to p.
+fn count_words(edges: &[u64], set: &[u64; 8], p: usize, from: usize) -> usize
+    requires { ⌜ (p < 512) × (from ≤ 8) × (8 * p + 8 ≤ length (now edges)) × Words (now set) ⌝ }
+    ensures { λ r. ⌜ r ≡ length (scan (marked (now (edges .entry)) (now (set .entry)) p) 512 (64 * from)) ⌝ }
+{
+    let a = 8 * p;
+    let mut count: usize = 0;
+    let mut w = from;
+    while w < 8 {
+        count = add_ones(count, set[w] & edges[a + w]);
+        w += 1;
+    }
+    count
+}
+
+// The superedges of the i-th group to later groups.
 fn count_superedges_of(edges: &[u64], leaders: &[u16], set: &[u64; 8], i: usize) -> usize
     requires { ⌜ Rowed (now edges) (now leaders) ⌝ }
     requires { ⌜ Marked (now leaders) (now set) ⌝ }
@@ -213,15 +242,11 @@ fn count_superedges_of(edges: &[u64], leaders: &[u16], set: &[u64; 8], i: usize)
     ensures { λ r. ⌜ r ≡ length (later (edgeBit (now (edges .entry))) (now (leaders .entry)) i) ⌝ }
 {
     let p = wide(leaders[i]);
-    let mut count: usize = 0;
-    let mut q: usize = p + 1;
-    while q < 512 {
-        let w = rows::word_of(q);
-        let x = later_word(edges, set, p, q);
-        count += u64::count_ones(x) as usize;
-        q = 64 * w + 64;
+    if p == 511 {
+        return 0;
     }
-    count
+    let first = add_ones(0, later_word(edges, set, p, p + 1));
+    first + count_words(edges, set, p, rows::word_of(p + 1) + 1)
 }
 
 // All superedges.
