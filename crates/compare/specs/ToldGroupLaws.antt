@@ -150,9 +150,6 @@ module _ (n : ℕ) (least : List ℕ) (e : ℕ → ℕ → Bool) (gs : List (Boo
     (ordered : Ordered (length gs) 0 js)
     (edge : (a b : ℕ) → a < n → b < n → e a b ≡ (inside gs a b || crossed gs js a b))
     (few : length gs ≤ 65536) where
-  pub leaders-told : leadersOf n least ≡ map (λ g. headOr 0 (g .1)) gs
-  leaders-told = leaders-are n least e gs agree small same
-
   pub groups-told : gs ≡ map (λ l. (firstTwo e (File.membersOf n least l), File.membersOf n least l)) (leadersOf n least)
   groups-told = groups-are n least e gs agree small same
 

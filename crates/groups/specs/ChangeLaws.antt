@@ -8,11 +8,11 @@ use native.Mathlib.Omega.{arith}
 use lib.Dec.{eqb, ltb}
 use lib.ListN.{length}
 use lib.IntN.{subℕ}
-use borrow.Author.Tests.{eqb-true, eqb-false, ltb-true, ltb-false, lt-ltb}
+use borrow.Author.Tests.{ltb-true, ltb-false}
 use Rattle.model.specs.Lists.{nodes}
 use Rattle.model.specs.Graph.{Graph, Proper, maxNodes, nodeNumbers, rowWords}
 use Rattle.model.specs.Grouping.{similar}
-use Rattle.model.specs.Tables.{Tables, edgesOf, graphOf, keysOf, nodeNumber, nodesOf, tablesOf}
+use Rattle.model.specs.Tables.{Tables, edgesOf, graphOf, keysOf, nodeNumber, tablesOf}
 use Rattle.model.specs.Updates.{Update, answer, onEdge, refusal, updated}
 use Rattle.model.specs.TestLaws.{decide}
 use Rattle.model.specs.TableLaws.{length-edges, length-keys, length-nodes-of, read-back}

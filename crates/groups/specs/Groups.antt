@@ -2,12 +2,11 @@
 use mathlib.Core.Path.{_≡_}
 use mathlib.Core.Bool.{Bool, cond}
 use mathlib.Core.List.{List}
-use Prim.Native.Nat.{ℕ, _*_, _<_}
-use lib.ListN.{length}
+use Prim.Native.Nat.{ℕ}
 use Rattle.model.specs.Lists.{nodes}
-use Rattle.model.specs.Graph.{Proper, nodeNumbers}
+use Rattle.model.specs.Graph.{Proper}
 use Rattle.model.specs.Grouping.{similar}
-use Rattle.model.specs.Tables.{Tables, edgesOf, graphOf, keysOf, nodeNumber, tablesOf}
+use Rattle.model.specs.Tables.{Tables, graphOf, tablesOf}
 use Rattle.model.specs.Updates.{Update, refusal}
 use Rattle.rows.specs.Search.{edgesIn}
 

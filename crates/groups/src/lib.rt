@@ -1,6 +1,6 @@
 // The node table kept in place: for each node the least member of its group, the next greater member, the previous one, the mark.
 ghost use mathlib.Core.Path.{_≡_};
-ghost use mathlib.Core.Logic.{_≢_, _⊎_};
+ghost use mathlib.Core.Logic.{_≢_};
 ghost use Prim.Native.Nat.{_+_, _*_, _≤_, _<_, min, max};
 ghost use lib.ListN.{length};
 ghost use lib.IntN.{subℕ};

@@ -2,8 +2,8 @@
 use mathlib.Core.Path.{_≡_, refl, sym, ap, ap₂, _∙_}
 use mathlib.Core.Bool.{Bool, true, false, not, cond, _||_, or-false}
 use mathlib.Core.List.{List, [], _∷_}
-use mathlib.Core.Logic.{_≢_, _⊎_, inl, inr}
-use Prim.Native.Nat.{ℕ, _+_, _%_, _≤_, _<_}
+use mathlib.Core.Logic.{_≢_}
+use Prim.Native.Nat.{ℕ, _%_, _≤_, _<_}
 use native.Mathlib.Omega.{arith}
 use lib.Dec.{eqb, ltb}
 use lib.IntN.{ℤ}
@@ -14,7 +14,7 @@ use Rattle.model.specs.Graph.{emptyGraph}
 use Rattle.model.specs.Tables.{Tables, tablesOf, graphOf, holds, edgeBit, nodeNumber, groupIn}
 use Rattle.model.specs.Refusals.{Reasons, firstOf, Lengths, lengths, wrongSize}
 use Rattle.model.specs.Updates.{updateCount, wrongBatch}
-use Rattle.model.specs.Calls.{judged, Opened, openReasons, openCall, applyReasons, applyRefused, applyCall, neighboursReasons, listRefused, neighboursCall, tiedReasons, tiedRefused, tiedCall, groupReasons, groupRefused, groupCall}
+use Rattle.model.specs.Calls.{judged, openReasons, openCall, applyReasons, applyRefused, applyCall, neighboursReasons, listRefused, neighboursCall, tiedReasons, tiedRefused, tiedCall, groupReasons, groupRefused, groupCall}
 use Rattle.model.specs.TestLaws.{or-none}
 use Rattle.model.specs.UpdateLaws.{first-none}
 use Rattle.model.specs.TableLaws.{held-tables, held-proper}

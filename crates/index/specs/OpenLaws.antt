@@ -1,6 +1,6 @@
 -- The tables that are filled at an opening are those of the graph without edges.
 use mathlib.Core.Path.{_≡_, refl, sym, ap, _∙_}
-use mathlib.Core.Bool.{Bool, true, false, cond, _&&_, _||_, not}
+use mathlib.Core.Bool.{true, false, cond}
 use mathlib.Core.List.{List, [], _∷_}
 use mathlib.Core.Logic.{_≢_, _⊎_, inl, inr}
 use Prim.Native.Nat.{ℕ, suc, zero, _+_, _*_, _-_, _/_, _%_, _^_, _≤_, _<_}
@@ -13,17 +13,17 @@ use lib.ListN.{length, getD, set, length-set, List·getD-eq-default}
 use lib.Seq.{getD-set-same, getD-set-other, ext-getD}
 use borrow.Author.Tests.{eqb-true, eqb-false, eq-eqb, ne-eqb, ltb-true, ltb-false, lt-ltb, le-ltb}
 use Rattle.model.specs.Lists.{nodes, filter}
-use Rattle.model.specs.Graph.{Graph, Proper, emptyGraph, maxNodes, rowWords, nodeNumbers}
+use Rattle.model.specs.Graph.{Graph, emptyGraph, maxNodes, rowWords, nodeNumbers}
 use Rattle.model.specs.Grouping.{cube, similar, sumCubes}
-use Rattle.model.specs.Tables.{Tables, nodeNumber, nodesOf, keysOf, edgesOf, edgeBit, bitAt, tablesOf}
+use Rattle.model.specs.Tables.{nodeNumber, nodesOf, keysOf, edgesOf, edgeBit, bitAt, tablesOf}
 use Rattle.model.specs.TestLaws.{decide}
 use Rattle.model.specs.TwinLaws.{similar-N, falseTwins-by}
 use Rattle.model.specs.UpdateLaws.{proper-empty}
-use Rattle.model.specs.TableLaws.{length-keys, length-nodes-of}
+use Rattle.model.specs.TableLaws.{length-keys}
 use Rattle.rows.specs.Rows.{lent, Words}
 use Rattle.rows.specs.EdgeLaws.{edges-by-bits}
 use Rattle.rows.specs.KeyLaws.{keys-at, cube-le}
-use Rattle.rings.specs.Ring.{up, Best, Ring, Table, Of}
+use Rattle.rings.specs.Ring.{up, Best, Table, Of}
 use Rattle.rings.specs.NodesLaws.{is-nodes}
 use Rattle.index.specs.Open.{ringNext, ringPrev, NodePut, NodesFilled, KeysFilled, Cleared}
 

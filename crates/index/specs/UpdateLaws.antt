@@ -10,10 +10,10 @@ use lib.Dec.{eqb, ltb}
 use lib.IntN.{ℤ, pos, subℕ}
 use lib.ListN.{length, getD, set, length-set}
 use lib.Seq.{getD-set-same, getD-set-other, ext-getD}
-use borrow.Author.Tests.{eqb-true, eqb-false, eq-eqb, ne-eqb, ltb-true, ltb-false, lt-ltb, le-ltb, not-false}
-use Rattle.model.specs.Graph.{Graph, Proper, nodeNumbers, rowWords, maxNodes}
+use borrow.Author.Tests.{eqb-true, eqb-false, eq-eqb, ne-eqb, ltb-true, lt-ltb, le-ltb, not-false}
+use Rattle.model.specs.Graph.{Graph, Proper, nodeNumbers}
 use Rattle.model.specs.Tables.{Tables, tablesOf, graphOf, edgeBit, nodeNumber, nodesOf, nodeOf, edgesOf, rowOf, keysOf, keyPair, groupIn}
-use Rattle.model.specs.Refusals.{Reasons, firstOf}
+use Rattle.model.specs.Refusals.{firstOf}
 use Rattle.model.specs.Updates.{Update, onEdge, updateReasons, refusal, updated, answer, groupCount}
 use Rattle.model.specs.Lists.{nodes}
 use Rattle.model.specs.Grouping.{algorithm1}

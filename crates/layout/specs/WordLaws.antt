@@ -10,7 +10,7 @@ use native.Mathlib.Numerals.{add-one}
 use lib.Dec.{eqb, ltb}
 use lib.Bits.{bitAnd, and-step, and-shr, and-self, and-le-l, and-le-r}
 use lib.Pow.{pow-add, shr-shr, shl-shr}
-use lib.Count.{ones, ones-le, onesIn, ones-step, trailingZeros}
+use lib.Count.{ones, onesIn, ones-step, trailingZeros}
 use lib.ListN.{length, getD, set, drop, length-append, length-map, length-set, drop-of-length-le, replicate}
 use lib.Seq.{drop-cons, getD-set-same, getD-set-other}
 use borrow.Author.Tests.{eqb-true, eqb-false, eq-eqb, ne-eqb, ltb-true, lt-ltb, le-ltb}
@@ -440,6 +440,3 @@ marked-as m e = record { size = m .size; words = m .words; list = e ∙ m .list 
 
 pub ne-pos : (x : ℕ) → (x ≡ 0 → ⊥) → 0 < x
 ne-pos x h = omega arith
-
-pub ones-few : (edges set : List ℕ) (p q : ℕ) {x : ℕ} → ((i : ℕ) → getD set i 0 < 2 ^ 64) → x ≡ laterWord edges set p q → ones x ≤ 64
-ones-few edges set p q {x} h e = ones-le 64 x (rw e (later-word-lt edges set p q h))

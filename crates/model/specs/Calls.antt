@@ -1,6 +1,6 @@
 -- Every call as a function of all that it is lent, giving all that it returns and leaves. Each has its reasons to be refused
 -- in the order of document 01's table; a refused call leaves tables and buffers, and returns 0 for every other number.
-use mathlib.Core.Bool.{Bool, true, false, not, _||_, cond}
+use mathlib.Core.Bool.{Bool, false, not, _||_, cond}
 use mathlib.Core.List.{List, [], _∷_, _++_}
 use Prim.Native.Nat.{ℕ}
 use lib.Dec.{eqb, ltb}

@@ -1,6 +1,6 @@
 -- Document 01, "Numbers for a refused call or change": a call or update lists its reasons, each a test with its number, in
 -- the order in which they are tested. The first reason whose test holds is given; 0 means done.
-use mathlib.Core.Bool.{Bool, true, false, _&&_, _||_, cond, not}
+use mathlib.Core.Bool.{Bool, _||_, cond, not}
 use mathlib.Core.List.{List, [], _∷_}
 use Prim.Native.Nat.{ℕ, _*_}
 use lib.Dec.{eqb, ltb}

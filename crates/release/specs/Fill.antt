@@ -1,10 +1,8 @@
 -- Tables filled from the arrays that a file is decoded into.
 use mathlib.Core.Path.{_≡_}
 use mathlib.Core.List.{List}
-use mathlib.Core.Logic.{_≢_}
-use Prim.Native.Nat.{ℕ, _+_, _*_, _<_}
+use Prim.Native.Nat.{ℕ, _<_}
 use lib.ListN.{length, getD}
-use Rattle.model.specs.Graph.{nodeNumbers}
 use Rattle.model.specs.Tables.{nodeNumber}
 
 -- the first i words are copied

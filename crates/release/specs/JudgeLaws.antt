@@ -10,7 +10,7 @@ use Rattle.model.specs.Graph.{Graph, rowWords}
 use Rattle.model.specs.Lists.{nodes, sameList}
 use Rattle.model.specs.Tables.{edgeBit}
 use Rattle.model.specs.TableLaws.{getD-nodes, length-nodes}
-use Rattle.model.specs.Release.{isVisible, release}
+use Rattle.model.specs.Release.{release}
 use Rattle.model.specs.TestLaws.{decide, differ}
 use Rattle.layout.specs.Truth.{Truth}
 use Rattle.rows.specs.Rows.{Words}
@@ -21,7 +21,7 @@ use Rattle.compare.specs.SameLaws.{file-answer}
 use Rattle.compare.specs.ToldLeast.{LeastTold, toldLeast}
 use Rattle.compare.specs.ToldLeastLaws.{agreed-told, none-told}
 use Rattle.visible.specs.Visible.{areLeast, leastVisible, markedGraph}
-use Rattle.visible.specs.ConfirmLaws.{least-told, least-truth, told-least}
+use Rattle.visible.specs.ConfirmLaws.{least-truth, told-least}
 use Rattle.release.specs.Release.{DecodedAs}
 use Rattle.release.specs.ReleaseLaws.{apart-decoded, file-told-by, held-small, same-release, visible-parts, visible-told-by}
 

@@ -1,22 +1,22 @@
 -- Reading a release back, and asking it, are the model's calls.
 use mathlib.Core.Path.{_≡_, refl, sym, ap, ap₂, subst, _∙_}
 use mathlib.Core.Bool.{Bool, true, false, cond, not, _&&_}
-use mathlib.Core.List.{List, [], _∷_}
+use mathlib.Core.List.{List}
 use mathlib.Core.Logic.{_≢_, _⊎_, inl, inr}
-use Prim.Native.Nat.{ℕ, _+_, _*_, _/_, _%_, _≤_, _<_}
+use Prim.Native.Nat.{ℕ, _*_, _≤_, _<_}
 use native.Mathlib.Omega.{arith}
 use lib.Dec.{eqb, ltb}
 use lib.ListN.{length, getD, take}
 use lib.Seq.{sets, length-take-le}
-use borrow.Author.Tests.{ltb-true, ltb-false, lt-ltb, le-ltb, eq-eqb, ne-eqb, not-true, not-false, not-true}
+use borrow.Author.Tests.{lt-ltb, le-ltb, eq-eqb, ne-eqb, not-true, not-false, not-true}
 use Rattle.model.specs.Lists.{filter, nodes}
-use Rattle.model.specs.Graph.{Graph, Proper, rowWords, maxNodes}
-use Rattle.model.specs.Tables.{Tables, tablesOf, graphOf, edgeBit, nodeNumber}
-use Rattle.model.specs.Refusals.{Reasons, firstOf, lengths, wrongSize}
+use Rattle.model.specs.Graph.{Graph, rowWords, maxNodes}
+use Rattle.model.specs.Tables.{Tables, tablesOf, edgeBit}
+use Rattle.model.specs.Refusals.{firstOf, lengths, wrongSize}
 use Rattle.model.specs.Release.{isVisible}
-use Rattle.model.specs.Reading.{decode, isRelease}
+use Rattle.model.specs.Reading.{decode}
 use Rattle.model.specs.Queries.{neighbours}
-use Rattle.model.specs.Calls.{openRefused, readReasons, readCall, listRefused, fileNeighboursReasons, fileNeighboursCall, onto}
+use Rattle.model.specs.Calls.{readReasons, readCall, listRefused, fileNeighboursReasons, fileNeighboursCall, onto}
 use Rattle.model.specs.TestLaws.{decide}
 use Rattle.model.specs.ListLaws.{filter-cong, nodes-out}
 use Rattle.layout.specs.Scan.{scan}

@@ -1,5 +1,5 @@
 -- The calls on releases are those of the model.
-use mathlib.Core.Path.{_≡_, refl, sym, ap, ap₂, _∙_, fun-ext}
+use mathlib.Core.Path.{_≡_, refl, sym, ap, _∙_, fun-ext}
 use mathlib.Core.Bool.{Bool, true, false, cond, not, _&&_}
 use mathlib.Core.List.{List, [], _∷_}
 use mathlib.Core.Logic.{_≢_, _⊎_, inl, inr}
@@ -9,21 +9,20 @@ use lib.Dec.{eqb, ltb}
 use lib.ListN.{List·getD-eq-default, length, getD, take}
 use lib.Pow.{pow-pos}
 use lib.Seq.{getD-take, length-take-le}
-use borrow.Author.Tests.{ltb-true, ltb-false, lt-ltb, le-ltb, eqb-true, eq-eqb, ne-eqb, not-true, not-false}
-use Rattle.model.specs.Graph.{Graph, Proper, maxNodes, rowWords}
+use borrow.Author.Tests.{ltb-true, ltb-false, lt-ltb, eqb-true, not-false}
+use Rattle.model.specs.Graph.{Graph, maxNodes, rowWords}
 use Rattle.model.specs.Lists.{sameList}
-use Rattle.model.specs.Tables.{Tables, tablesOf, graphOf, edgeBit, bitAt, nodeNumber, holds}
-use Rattle.model.specs.Refusals.{Reasons, firstOf, lengths, wrongSize}
+use Rattle.model.specs.Tables.{Tables, graphOf, edgeBit, bitAt, nodeNumber, holds}
+use Rattle.model.specs.Refusals.{Reasons, firstOf}
 use Rattle.model.specs.Release.{release, isVisible, visibleEdge}
-use Rattle.model.specs.Reading.{decode, isRelease, u16At}
-use Rattle.model.specs.Queries.{neighbours}
-use Rattle.model.specs.Calls.{released, releaseReasons, releaseRefused, releaseCall, Opened, openRefused, readReasons, readCall, listRefused, fileNeighboursReasons, fileNeighboursCall, onto}
+use Rattle.model.specs.Reading.{isRelease, u16At}
+use Rattle.model.specs.Calls.{released, releaseReasons, releaseRefused, releaseCall}
 use Rattle.model.specs.TestLaws.{decide}
 use Rattle.reader.specs.declared.Decoded.{Decoded}
 use Rattle.reader.specs.declared.Decoded.the-variants as answer
 use Rattle.reader.specs.Decoding.{accepted, graphIn, HoldsGraph, Decodes, placed, toldGroups}
 use Rattle.reader.specs.HeldLaws.{answer-accepts, decodes-simple, refused-is-none, release-read, release-compared}
-use Rattle.index.specs.Index.{opened, listed, tableReasons}
+use Rattle.index.specs.Index.{tableReasons}
 use Rattle.index.specs.IndexLaws.{table-refused, table-rest, call-refused, call-done}
 use Rattle.index.specs.Update.{Held}
 use Rattle.index.specs.UpdateLaws.{held-sized}

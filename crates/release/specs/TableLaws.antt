@@ -1,15 +1,15 @@
 -- Tables filled from decoded arrays are those of the graph in the arrays.
-use mathlib.Core.Path.{_≡_, refl, sym, ap, ap₂, _∙_, fun-ext}
-use mathlib.Core.Bool.{Bool, true, false, cond, _&&_}
+use mathlib.Core.Path.{_≡_, refl, sym, ap, _∙_}
+use mathlib.Core.Bool.{Bool, true, false, _&&_}
 use mathlib.Core.List.{List}
 use mathlib.Core.Logic.{_⊎_, inl, inr}
-use Prim.Native.Nat.{ℕ, _+_, _*_, _/_, _%_, _^_, _≤_, _<_}
+use Prim.Native.Nat.{ℕ, _+_, _*_, _/_, _%_, _≤_, _<_}
 use native.Mathlib.Omega.{arith}
-use lib.Dec.{eqb, ltb}
+use lib.Dec.{ltb}
 use lib.ListN.{length, getD}
-use borrow.Author.Tests.{ltb-true, ltb-false, lt-ltb, le-ltb}
+use borrow.Author.Tests.{ltb-false, lt-ltb}
 use Rattle.model.specs.Graph.{Graph, Proper, maxNodes, rowWords, nodeNumbers}
-use Rattle.model.specs.Tables.{Tables, tablesOf, graphOf, edgesOf, rowOf, nodesOf, keysOf, keyPair, edgeBit, bitAt, nodeNumber}
+use Rattle.model.specs.Tables.{Tables, tablesOf, edgesOf, rowOf, nodesOf, keysOf, keyPair, edgeBit, bitAt}
 use Rattle.model.specs.TestLaws.{decide, differ}
 use Rattle.rows.specs.Rows.{lent, Words}
 use Rattle.rows.specs.Search.{edgesIn, graphIn as rowsGraph}

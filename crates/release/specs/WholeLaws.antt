@@ -1,16 +1,15 @@
 -- Where no node is marked as hidden, the visible part is the whole graph.
-use mathlib.Core.Path.{_≡_, refl, sym, ap, _∙_, fun-ext}
+use mathlib.Core.Path.{_≡_, refl, _∙_, fun-ext}
 use mathlib.Core.Bool.{Bool, true, false, _&&_, and-false}
 use mathlib.Core.List.{List, [], _∷_, List·Memᴰ·head, List·Memᴰ·tail}
 use mathlib.Core.Logic.{_⊎_, inl, inr}
-use Prim.Native.Nat.{ℕ, _≤_, _<_}
+use Prim.Native.Nat.{ℕ, _<_}
 use native.Mathlib.Omega.{arith}
 use lib.Dec.{ltb}
-use lib.ListN.{length, getD, length-replicate, getD-replicate, replicate}
+use lib.ListN.{length-replicate, getD-replicate, replicate}
 use borrow.Author.Tests.{lt-ltb, ltb-true}
 use Rattle.model.specs.Lists.{_∈_, filter, nodes}
 use Rattle.model.specs.Graph.{Graph, Proper}
-use Rattle.model.specs.Grouping.{least, similar}
 use Rattle.model.specs.Release.{isVisible, visible, visibleEdge}
 use Rattle.model.specs.TestLaws.{and-fst, decide, differ}
 use Rattle.model.specs.ListLaws.{nodes-out}

@@ -1,6 +1,6 @@
 // Words and marks moved between tables and local arrays.
 ghost use mathlib.Core.Path.{_≡_};
-ghost use Prim.Native.Nat.{_+_, _*_, _≤_, _<_};
+ghost use Prim.Native.Nat.{_+_, _*_, _≤_};
 ghost use lib.ListN.{length};
 ghost use Rattle.model.specs.Graph.{maxNodes, nodeNumbers};
 ghost use Rattle.release.specs.Fill.{Copied, MarksPut, MarksTaken};

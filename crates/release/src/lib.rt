@@ -1,20 +1,17 @@
 // Releases: written, read back, asked. Each call is the model's (Calls) on every input.
 ghost use mathlib.Core.Path.{_≡_};
-ghost use lib.ListN.{length, replicate};
+ghost use lib.ListN.{length};
 ghost use Prim.Native.Nat.{_≤_};
-ghost use Rattle.model.specs.Graph.{maxNodes};
-ghost use Rattle.model.specs.Lists.{sameList};
-ghost use Rattle.model.specs.Tables.{graphOf, tablesOf};
+ghost use Rattle.model.specs.Tables.{graphOf};
 ghost use Rattle.model.specs.Release.{release};
 ghost use Rattle.model.specs.Calls.{fileNeighboursCall, readCall, releaseCall};
 ghost use Rattle.rows.specs.Rows.{lent};
 ghost use Rattle.visible.specs.Visible.{Drawn, markedGraph};
 ghost use Rattle.layout.specs.Truth.{Truth};
 ghost use Rattle.writer.specs.Written.{answer};
-ghost use Rattle.reader.specs.Decoding.{HoldsGraph, graphIn};
 ghost use Rattle.index.specs.Index.{listed, opened};
 ghost use Rattle.index.specs.Update.{Held};
-ghost use Rattle.release.specs.Release.{Judged, told};
+ghost use Rattle.release.specs.Release.{told};
 use index::Listed;
 use reader::Decoded;
 use rows::Graph;

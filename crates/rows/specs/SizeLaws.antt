@@ -1,6 +1,6 @@
 -- The lengths of the lent tables, tested one after the other.
-use mathlib.Core.Path.{_≡_, sym, ap}
-use mathlib.Core.Bool.{Bool, true, false, not, Bool·not-not}
+use mathlib.Core.Path.{_≡_, sym}
+use mathlib.Core.Bool.{false, not, Bool·not-not}
 use mathlib.Core.List.{List}
 use Prim.Native.Nat.{ℕ, _*_, _≤_, _<_}
 use lib.Dec.{eqb}

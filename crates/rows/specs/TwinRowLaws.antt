@@ -1,6 +1,6 @@
 -- Rows of words and keys tell who is similar.
 use mathlib.Core.Path.{_≡_, refl, sym, ap, ap₂, _∙_}
-use mathlib.Core.Bool.{Bool, true, false, not, cond, xor, _&&_, _||_, and-false, or-false}
+use mathlib.Core.Bool.{Bool, true, false, cond, xor, _||_, and-false, or-false}
 use mathlib.Core.List.{List}
 use mathlib.Core.Logic.{_⊎_, inl, inr}
 use Prim.Native.Nat.{ℕ, _+_, _*_, _/_, _%_, _^_, _≤_, _<_}
@@ -16,7 +16,7 @@ use Rattle.model.specs.Grouping.{closed, cube, falseTwins, similar, sumCubes, t
 use Rattle.model.specs.Tables.{bitAt, word}
 use Rattle.model.specs.TestLaws.{decide, differ, iff-eq, or-right}
 use Rattle.model.specs.ListLaws.{nodes-ascending, nodes-in, nodes-out}
-use Rattle.model.specs.TwinLaws.{falseTwins-at, falseTwins-by, similar-N, similar-N+, similar-cases, trueTwins-at, trueTwins-by}
+use Rattle.model.specs.TwinLaws.{falseTwins-at, falseTwins-by, trueTwins-at, trueTwins-by}
 use Rattle.model.specs.TableLaws.{bitAt-word}
 use Rattle.rows.specs.Search.{Ready, edgesIn, graphIn, keyAgrees, ownBit, ownBits}
 use Rattle.rows.specs.BitLaws.{bit-pow, bit-xor, word-bits, word-cong}

@@ -143,10 +143,6 @@ module _ (n : ℕ) (g : Graph) (lst : List ℕ) where
       at (inl h) = differ (all-elim (nodes n) (isLeast g lst) h u (nodes-in n u hu)) (sym e ∙ f)
       at (inr h) = sym h
 
--- two lists of least members agree
-pub least-agree : (n : ℕ) (g : Graph) (lst lst₁ : List ℕ) → areLeast n g lst ≡ true → areLeast n g lst₁ ≡ true → (p : ℕ) → p < n → getD lst p 0 ≡ getD lst₁ p 0
-least-agree n g lst lst₁ h k p hp = least-told n g lst h p hp ∙ sym (least-told n g lst₁ k p hp)
-
 -- right least members are what the release is written from
 pub least-truth : {n : ℕ} {edges marks lst : List ℕ} → Apart n edges marks → n ≤ length lst → areLeast n (markedGraph n edges marks) lst ≡ true → Truth (markedGraph n edges marks) lst edges
 least-truth {n} {edges} {marks} {lst} a l h = telling-done {u = n} {t = lst} a (record { size = refl; told = least-told n (markedGraph n edges marks) lst h }) (omega arith) l

@@ -1,20 +1,20 @@
 -- The keys of a node told by those of its least member.
-use mathlib.Core.Path.{_≡_, refl, sym, ap, _∙_}
-use mathlib.Core.Bool.{Bool, true, false, _&&_}
+use mathlib.Core.Path.{_≡_, refl, sym, _∙_}
+use mathlib.Core.Bool.{Bool, true, false}
 use mathlib.Core.List.{List}
 use mathlib.Core.Logic.{_≢_, _⊎_, inl, inr}
 use Prim.Native.Nat.{ℕ, _+_, _*_, _-_, _%_, _^_, _≤_, _<_}
 use native.Mathlib.Omega.{arith}
 use lib.ListN.{getD}
 use borrow.Author.Tests.{eqb-true, lt-ltb}
-use Rattle.model.specs.Lists.{_∈_, filter, nodes}
+use Rattle.model.specs.Lists.{filter, nodes}
 use Rattle.model.specs.Graph.{Proper}
 use Rattle.model.specs.Grouping.{cube, falseTwins, least, openKey, similar, sumCubes, trueTwins}
 use Rattle.model.specs.Tables.{edgeBit, keysOf}
-use Rattle.model.specs.TestLaws.{decide, differ}
-use Rattle.model.specs.ListLaws.{nodes-ascending, nodes-in, nodes-out}
+use Rattle.model.specs.TestLaws.{differ}
+use Rattle.model.specs.ListLaws.{nodes-ascending, nodes-in}
 use Rattle.model.specs.TwinLaws.{Simple, falseTwins-no-edge, similar-cases, similar-refl, trueTwins-edge}
-use Rattle.model.specs.ClassLaws.{Equivalence, least-in, least-le, least-rel}
+use Rattle.model.specs.ClassLaws.{Equivalence, least-le, least-rel}
 use Rattle.model.specs.SummaryLaws.{equivalence}
 use Rattle.model.specs.TableLaws.{proper-simple}
 use Rattle.rows.specs.Rows.{movedKey}

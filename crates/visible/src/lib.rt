@@ -1,6 +1,6 @@
 // The visible part of a graph, grouped afresh: what a release is written from.
 ghost use mathlib.Core.Path.{_≡_};
-ghost use mathlib.Core.Bool.{Bool, true, false, cond};
+ghost use mathlib.Core.Bool.{Bool, true, false};
 ghost use Prim.Native.Nat.{ℕ, _+_, _*_, _≤_, _<_};
 ghost use lib.Dec.{eqb};
 ghost use lib.ListN.{length};
@@ -12,7 +12,7 @@ ghost use Rattle.model.specs.Release.{visiblePart};
 ghost use Rattle.layout.specs.Truth.{Truth};
 ghost use Rattle.layout.specs.WordLaws.{Marking};
 ghost use Rattle.checks.specs.Dense.{Widened};
-ghost use Rattle.rows.specs.Search.{edgesIn, graphIn, ownBit};
+ghost use Rattle.rows.specs.Search.{edgesIn, graphIn};
 ghost use Rattle.visible.specs.Visible.{Apart, Drawn, KeysPut, LeastBelow, LeastTold, RowPut, Within, areLeast, cutWord, isLeast, leastVisible, markedGraph, maskedWord, shown};
 ghost use Rattle.visible.specs.Chains.{Chains, Entered, Links, Met, Sought, alike, hashOf, ownTurned, slotFor, slotIn, slotOf, slots, still, turned};
 ghost use Rattle.visible.specs.KeySumLaws.{Summed};

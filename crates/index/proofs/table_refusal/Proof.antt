@@ -1,5 +1,4 @@
 use borrow.Author.Tests.{not-true, not-false}
-use native.Mathlib.Omega.{arith}
 use Rattle.index.specs.IndexLaws.{size-wrong, none-held, graph-held, sized}
 use borrow.Author.Needs.{needs}
 use Rattle.index.proofs.table_refusal.Statement.{statement}

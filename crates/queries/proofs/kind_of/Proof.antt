@@ -1,5 +1,4 @@
-use mathlib.Core.Path.{sym, ap, _∙_}
-use mathlib.Core.Bool.{Bool, cond}
+use mathlib.Core.Path.{sym, _∙_}
 use Rattle.queries.specs.QueryLaws.{kind-single, kind-clique, kind-independent}
 use borrow.Author.Needs.{needs}
 use Rattle.queries.proofs.kind_of.Statement.{statement}

@@ -2,7 +2,6 @@ use mathlib.Core.Logic.{⊎-elim}
 use mathlib.Core.Path.{sym, _∙_}
 use Prim.Native.Nat.{_-_, _≤_}
 use native.Mathlib.Omega.{arith}
-use lib.ListN.{length}
 use Rattle.layout.specs.Scan.{scan}
 use Rattle.layout.specs.ScanLaws.{scan-no, scan-end}
 use Rattle.layout.specs.Wrote.{Left}

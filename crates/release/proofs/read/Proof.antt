@@ -1,6 +1,4 @@
-use mathlib.Core.Path.{_∙_}
 use Rattle.release.specs.ReadLaws.{judged-holds}
-use native.Mathlib.Omega.{arith}
 use borrow.Author.Tests.{not-true, not-false}
 use Rattle.index.specs.IndexLaws.{sized}
 use Rattle.release.specs.ReadLaws.{read-size, read-none, read-other, read-done}

@@ -1,7 +1,7 @@
-use mathlib.Core.Path.{_≡_, refl, sym, ap, _∙_}
+use mathlib.Core.Path.{refl, _∙_}
 use Prim.Native.Nat.{ℕ}
 use native.Mathlib.Omega.{arith}
-use lib.ListN.{length, length-replicate, replicate}
+use lib.ListN.{length-replicate}
 use Rattle.index.specs.UpdateLaws.{held-sized}
 use Rattle.release.specs.ReleaseLaws.{drawn-held, visible-parts, visible-told}
 use borrow.Author.Needs.{needs}

@@ -1,7 +1,6 @@
 -- Before node q: the keys of no node before it agree.
 use mathlib.Core.Path.{sym, _∙_}
 use Prim.Native.Nat.{_-_}
-use native.Mathlib.Omega.{arith}
 use borrow.Author.Needs.{needs}
 use Rattle.rows.specs.Search.{Skipped, keysAgree}
 use Rattle.rows.specs.SearchLaws.{skip-one}

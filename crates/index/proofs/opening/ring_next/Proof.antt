@@ -1,4 +1,3 @@
-use native.Mathlib.Omega.{arith}
 use Rattle.index.specs.OpenLaws.{next-inner, next-last}
 use borrow.Author.Needs.{needs}
 use Rattle.index.proofs.opening.ring_next.Statement.{statement}

@@ -1,5 +1,3 @@
-use mathlib.Core.Path.{ap}
-use lib.ListN.{set}
 use borrow.Author.Needs.{needs}
 use Rattle.index.proofs.updating.set_mark.Statement.{statement}
 use Rattle.index.proofs.updating.set_mark.Tie as tie

@@ -1,6 +1,5 @@
-use mathlib.Core.Path.{_≡_, sym}
+use mathlib.Core.Path.{sym}
 use native.Mathlib.Omega.{arith}
-use lib.Seq.{length-take-le}
 use Rattle.queries.specs.QueryLaws.{scan-small}
 use Rattle.release.specs.ReadLaws.{row-short, row-done, rows-size}
 use borrow.Author.Needs.{needs}

@@ -1,6 +1,5 @@
 use Prim.Native.Nat.{_-_, _≤_}
 use native.Mathlib.Omega.{arith}
-use lib.ListN.{length}
 use mathlib.Core.Path.{refl}
 use Rattle.release.specs.Fill.{MarksPut}
 use Rattle.release.specs.FillLaws.{put-none, put-more, put-all}

@@ -1,4 +1,3 @@
-use native.Mathlib.Omega.{arith}
 use borrow.Author.Tests.{not-true, not-false}
 use Rattle.reader.specs.HeldLaws.{decodes-simple}
 use Rattle.release.specs.ReleaseLaws.{decoded-as, judged-none, judged-other, judged-release}
