@@ -6,7 +6,7 @@ use Prim.Native.Nat.{ℕ, zero, suc, _+_, _*_, _-_, _/_, _%_, _^_, _≤_, _<_}
 use lib.Dec.{eqb, ltb}
 use lib.ListN.{length, getD}
 use Rattle.model.specs.Lists.{all, nodes}
-use Rattle.model.specs.Graph.{rowWords}
+use Rattle.model.specs.Graph.{maxNodes, rowWords}
 use Rattle.model.specs.Grouping.{cube, openKey}
 use Rattle.model.specs.Tables.{bitAt, edgeBit}
 use Rattle.rows.specs.Rows.{movedKey}
@@ -72,6 +72,10 @@ even edges = all (nodes 64) (λ b. ltb (b % 8) (b / 8) || blockEven edges (b / 8
 -- no node has an edge to itself
 unfoldable pub loopless : ℕ → List ℕ → Bool
 loopless n edges = all (nodes n) (λ p. not (edgeBit edges p p))
+
+-- p's row has no bit for a number n or above
+abbrev pub RowInside : ℕ → List ℕ → ℕ → Type 0
+RowInside n edges p = (q : ℕ) → q < maxNodes → edgeBit edges p q ≡ true → q < n
 
 -- the open key that p's row tells
 abbrev pub rowKey : ℕ → List ℕ → ℕ → ℕ

@@ -12,7 +12,7 @@ use Rattle.model.specs.Lists.{nodes}
 use Rattle.model.specs.Graph.{maxNodes, rowWords}
 use Rattle.model.specs.Grouping.{cube, openKey}
 use Rattle.model.specs.Tables.{bitAt, edgeBit, graphOf, keysOf, nodeNumber}
-use Rattle.model.specs.TestLaws.{and-true, decide, differ, iff-eq}
+use Rattle.model.specs.TestLaws.{and-true, decide, differ, eq-beq, iff-eq}
 use Rattle.model.specs.ListLaws.{all-elim, all-intro, nodes-in, nodes-out}
 use Rattle.model.specs.TableLaws.{length-keys}
 use Rattle.rows.specs.Rows.{Words, lent, movedKey}
@@ -24,7 +24,7 @@ use Rattle.checks.specs.Checks.{agrees, bitHolds, keysHold, mirrored, ro
 use Rattle.checks.specs.WalkLaws.{bit-zero}
 use Rattle.checks.specs.StepLaws.{all-fail, all-pass}
 use Rattle.checks.specs.HoldLaws.{closed-is, keys-told, mirror-back, no-loop, open-is, rows-ready, twin-low, twin-meets}
-use Rattle.checks.specs.Dense.{KeysBelow, even, loopless, rowCubes, rowKey, twinKey}
+use Rattle.checks.specs.Dense.{KeysBelow, RowInside, blockEven, columnEven, even, loopless, rowCubes, rowKey, twinKey}
 use Rattle.checks.specs.BlockLaws.{all-even, even-all, no-row}
 use Rattle.checks.specs.FourLaws.{dense-key}
 
@@ -59,6 +59,29 @@ module _ (n : ℕ) (edges : List ℕ) (small : n ≤ maxNodes) (size : length ed
       step : (ltb p n ≡ true) ⊎ (ltb p n ≡ false) → p < n
       step (inl t) = ltb-true p n t
       step (inr t) = differ e (outside p q (ltb-false p n t))
+
+  -- blocks beyond the nodes
+  pub even-beyond : (i j : ℕ) → n ≤ 64 * i → i ≤ j → blockEven edges i j ≡ true
+  unfolding blockEven columnEven
+  even-beyond i j l h =
+      all-intro (nodes 64) _
+      (λ c mc.
+      all-intro (nodes 64) _
+      (λ k mk. eq-beq (edgeBit edges (64 * i + k) (64 * j + c)) (edgeBit edges (64 * j + c) (64 * i + k)) (outside (64 * i + k) (64 * j + c) (omega arith) ∙ sym (outside (64 * j + c) (64 * i + k) (omega arith)))))
+
+  no-bit : (i j k c : ℕ) → c < 64 → getD edges (rowWords * (64 * i + k) + j) 0 ≡ 0 → edgeBit edges (64 * i + k) (64 * j + c) ≡ false
+  unfolding edgeBit
+  no-bit i j k c hc h =
+      let e : (64 * j + c) / 64 ≡ j = omega arith in
+      ap (λ (w : ℕ). bitAt (getD edges (8 * (64 * i + k) + w) 0) ((64 * j + c) % 64)) e ∙ ap (λ (x : ℕ). bitAt x ((64 * j + c) % 64)) h ∙ bit-zero ((64 * j + c) % 64)
+
+  pub even-blank : (i j : ℕ) → n ≤ 64 * j → ((k : ℕ) → k < 64 → getD edges (rowWords * (64 * i + k) + j) 0 ≡ 0) → blockEven edges i j ≡ true
+  unfolding blockEven columnEven
+  even-blank i j l h =
+      all-intro (nodes 64) _
+      (λ c mc.
+      all-intro (nodes 64) _
+      (λ k mk. eq-beq (edgeBit edges (64 * i + k) (64 * j + c)) (edgeBit edges (64 * j + c) (64 * i + k)) (no-bit i j k c (nodes-out 64 c mc) (h k (nodes-out 64 k mk)) ∙ sym (outside (64 * j + c) (64 * i + k) (omega arith)))))
 
   -- rows that pass are even
   pub uneven : (keys : List ℕ) → length keys ≡ 2 * n → Words edges → even edges ≡ false → false ≡ rowsHold n edges keys
@@ -101,8 +124,11 @@ module _ (n : ℕ) (edges : List ℕ) (small : n ≤ maxNodes) (size : length ed
     unfolding rowsHold
     keys-pass keys p l k = all-pass _ n n (omega arith) (λ q hq. and-true (row-even q hq) (k q (omega arith)))
 
+    pub row-inside : (p : ℕ) → p < n → RowInside n edges p
+    row-inside p hp q hq t = set-inside q p (turned p hp q hq t)
+
     pub key-by-table : {s x : ℕ} (p : ℕ) → p < n → s ≡ rowCubes edges p 8 → x ≡ s % 2 ^ 32 → x ≡ rowKey n edges p
-    key-by-table p hp es ex = ex ∙ ap (λ (y : ℕ). y % 2 ^ 32) es ∙ dense-key edges p n small hp (λ q hq t. set-inside q p (turned p hp q hq t))
+    key-by-table p hp es ex = ex ∙ ap (λ (y : ℕ). y % 2 ^ 32) es ∙ dense-key edges p n small hp (row-inside p hp)
 
     -- twins, by the keys that the rows tell
     module _ (words : Words edges) where

@@ -14,6 +14,7 @@ ghost use Rattle.checks.specs.Dense.{
   Loaded,
   Masks,
   Ones,
+  RowInside,
   RowSwapped,
   Run,
   Staging,
@@ -150,12 +151,34 @@ fn is_block_even(edges: &[u64], n: usize, i: usize, j: usize) -> bool
     is_across(edges, n, i, j, &a)
 }
 
+// Whether block j of the columns is beyond the nodes, and no row of block i has a bit there.
+fn is_blank(edges: &[u64], n: usize, i: usize, j: usize) -> bool
+    requires { ⌜ (n ≤ maxNodes) × (length (now edges) ≡ rowWords * n) × (i ≤ j) × (j < 8) ⌝ }
+    ensures { λ r. ⌜ (r ≡ true → blockEven (now (edges .entry)) i j ≡ true) ⌝ }
+{
+    if n > 64 * j {
+        return false;
+    }
+    if n <= 64 * i {
+        return true;
+    }
+    for k in 0..64 {
+        if word_at(edges, n, 64 * i + k, j) != 0 {
+            return false;
+        }
+    }
+    true
+}
+
 // Whether block b is even; those below the diagonal are passed over.
 fn block_holds(edges: &[u64], n: usize, b: usize) -> bool
     requires { ⌜ (n ≤ maxNodes) × (length (now edges) ≡ rowWords * n) × (b < 64) ⌝ }
     ensures { λ r. ⌜ r ≡ (ltb (b % 8) (b / 8) || blockEven (now (edges .entry)) (b / 8) (b % 8)) ⌝ }
 {
     if b % 8 < b / 8 {
+        return true;
+    }
+    if is_blank(edges, n, b / 8, b % 8) {
         return true;
     }
     is_block_even(edges, n, b / 8, b % 8)
@@ -340,6 +363,69 @@ fn open_key(edges: &[u64], nodes: &[u16], keys: &[u32], sums: &[u32], n: usize, 
     low_half(row_sum(edges, sums, p))
 }
 
+// The cubes of p's neighbours added up: one walk over the bits of its row.
+pub fn sum_row(edges: &[u64], n: usize, p: usize) -> u32
+    requires { ⌜ (n ≤ maxNodes) × (length (now edges) ≡ rowWords * n) × (p < n) × RowInside n (now edges) p ⌝ }
+    ensures { λ r. ⌜ r ≡ rowKey n (now (edges .entry)) p ⌝ }
+{
+    let a = Graph::ROW_WORDS * p;
+    let mut sum = 0u32;
+    let mut w = 0;
+    while w < 8 {
+        let mut x = edges[a + w];
+        while x != 0 {
+            let q = 64 * w + rows::lowest(x);
+            sum = std::num::wrapping_add_u32(sum, rows::cube_of(q));
+            x = x & (x - 1);
+        }
+        w += 1;
+    }
+    sum
+}
+
+// The open key of p: by the keys of its leader, which are right, or by a walk.
+fn walked_key(edges: &[u64], nodes: &[u16], keys: &[u32], n: usize, p: usize) -> u32
+    requires { ⌜ (n ≤ maxNodes) × (length (now edges) ≡ rowWords * n) × (length (now nodes) ≡ nodeNumbers * n) × (length (now keys) ≡ 2 * n) × (p < n) ⌝ }
+    requires { ⌜ (even (now edges) ≡ true) × (loopless n (now edges) ≡ true) × (twinsHold n (now edges) (now nodes) ≡ true) × KeysBelow n (now edges) (now keys) p ⌝ }
+    ensures { λ r. ⌜ r ≡ rowKey n (now (edges .entry)) p ⌝ }
+{
+    let l = number(nodes, p, LEAST);
+    if l != p {
+        return twin_key(keys, rows::edge(edges, l, p), l, p);
+    }
+    sum_row(edges, n, p)
+}
+
+// Whether the keys of even rows without loops are right, by the table.
+fn keys_hold_by_table(edges: &[u64], nodes: &[u16], keys: &[u32], n: usize) -> bool
+    requires { ⌜ (n ≤ maxNodes) × (length (now edges) ≡ rowWords * n) × (length (now nodes) ≡ nodeNumbers * n) × (length (now keys) ≡ 2 * n) ⌝ }
+    requires { ⌜ (even (now edges) ≡ true) × (loopless n (now edges) ≡ true) × (twinsHold n (now edges) (now nodes) ≡ true) ⌝ }
+    ensures { λ r. ⌜ r ≡ rowsHold n (now (edges .entry)) (now (keys .entry)) ⌝ }
+{
+    let mut sums = [0u32; 16384];
+    fill(&mut sums);
+    for p in 0..n {
+        if !super::keys_agree(keys, p, open_key(edges, nodes, keys, &sums, n, p)) {
+            return false;
+        }
+    }
+    true
+}
+
+// And by walks: for few nodes the table takes longer to fill than their rows to walk.
+fn keys_hold_by_walks(edges: &[u64], nodes: &[u16], keys: &[u32], n: usize) -> bool
+    requires { ⌜ (n ≤ maxNodes) × (length (now edges) ≡ rowWords * n) × (length (now nodes) ≡ nodeNumbers * n) × (length (now keys) ≡ 2 * n) ⌝ }
+    requires { ⌜ (even (now edges) ≡ true) × (loopless n (now edges) ≡ true) × (twinsHold n (now edges) (now nodes) ≡ true) ⌝ }
+    ensures { λ r. ⌜ r ≡ rowsHold n (now (edges .entry)) (now (keys .entry)) ⌝ }
+{
+    for p in 0..n {
+        if !super::keys_agree(keys, p, walked_key(edges, nodes, keys, n, p)) {
+            return false;
+        }
+    }
+    true
+}
+
 // Whether edges and keys are those of a graph, where every node is a twin of its leader.
 pub fn rows_hold(edges: &[u64], nodes: &[u16], keys: &[u32], n: usize) -> bool
     requires { ⌜ (n ≤ maxNodes) × (length (now edges) ≡ rowWords * n) × (length (now nodes) ≡ nodeNumbers * n) × (length (now keys) ≡ 2 * n) × (twinsHold n (now edges) (now nodes) ≡ true) ⌝ }
@@ -351,12 +437,8 @@ pub fn rows_hold(edges: &[u64], nodes: &[u16], keys: &[u32], n: usize) -> bool
     if !is_loopless(edges, n) {
         return false;
     }
-    let mut sums = [0u32; 16384];
-    fill(&mut sums);
-    for p in 0..n {
-        if !super::keys_agree(keys, p, open_key(edges, nodes, keys, &sums, n, p)) {
-            return false;
-        }
+    if n <= 64 {
+        return keys_hold_by_walks(edges, nodes, keys, n);
     }
-    true
+    keys_hold_by_table(edges, nodes, keys, n)
 }

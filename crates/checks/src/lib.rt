@@ -118,6 +118,9 @@ fn rows_hold(edges: &[u64], nodes: &[u16], keys: &[u32], n: usize) -> bool
     requires { ⌜ (n ≤ maxNodes) × (length (now edges) ≡ rowWords * n) × (length (now nodes) ≡ nodeNumbers * n) × (length (now keys) ≡ 2 * n) × (twinsHold n (now edges) (now nodes) ≡ true) ⌝ }
     ensures { λ r. ⌜ r ≡ rowsHold n (now (edges .entry)) (now (keys .entry)) ⌝ }
 {
+    if n <= 64 {
+        return dense::rows_hold(edges, nodes, keys, n);
+    }
     if has_many_bits(edges) {
         return dense::rows_hold(edges, nodes, keys, n);
     }
