@@ -5,8 +5,6 @@ use mathlib.Core.List.{List}
 use mathlib.Core.Logic.{_⊎_, inl, inr}
 use Prim.Native.Nat.{ℕ, zero, suc, _+_, _*_, _-_, _/_, _%_, _^_, _≤_, _<_}
 use native.Mathlib.Omega.{arith}
-use lib.Bits.{bitAnd}
-use lib.Count.{trailingZeros}
 use lib.Dec.{eqb, ltb}
 use lib.ListN.{getD, length, length-set, set, take}
 use lib.Seq.{ext-getD, length-take-le, getD-set-other, getD-set-same}
@@ -18,7 +16,6 @@ use Rattle.model.specs.TestLaws.{and-fst, and-snd, decide}
 use Rattle.model.specs.TableLaws.{edge-bit, length-edges, length-keys}
 use Rattle.rows.specs.Search.{edgesIn, graphIn}
 use Rattle.rows.specs.KeyLaws.{keyOf, keys-at}
-use Rattle.checks.specs.SumLaws.{Adding, adding-on, adding-place, adding-set}
 use Rattle.checks.specs.Dense.{rowCubes}
 use Rattle.checks.specs.FourLaws.{dense-key}
 use Rattle.visible.specs.Visible.{KeysPut, Within}
@@ -34,10 +31,6 @@ module _ {n : ℕ} {edges : List ℕ} (h : Within n edges) where
     where
       set-in : edgesIn n edges p q ≡ true
       set-in = sym (ap (λ (x : List ℕ). edgeBit x p q) (h .edges-of) ∙ edge-bit (graphIn n edges) p q hp hq) ∙ t
-
--- the walk over a row: the lowest bit that is left is that of a node
-pub summing : {n : ℕ} {edges : List ℕ} {p w x sum t y r : ℕ} → Within n edges → p < n → w < 8 → Adding n edges p w x sum → (x ≡ 0 → ⊥) → t ≡ trailingZeros 64 x → y ≡ cube (64 * w + t) → r ≡ (sum + y) % 2 ^ 32 → Adding n edges p w (bitAnd x (x - 1)) r
-summing {n} {edges} {p} {w} {x} {sum} {t} h hp hw a some e ey er = adding-on a some e (within-inside h p (64 * w + t) hp (adding-place a some e hw) (adding-set a some e)) ey er
 
 -- the keys of the first i nodes are summed
 pub record Summed (n : ℕ) (edges : List ℕ) (i : ℕ) (t after : List ℕ) : Type 0 where

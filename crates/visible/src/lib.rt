@@ -81,26 +81,6 @@ fn mask_edges(edges: &[u64], hidden: &[u16], n: usize, masked: &mut [u64])
     }
 }
 
-// The cubes of p's neighbours added up: one walk over the bits of its row.
-fn sum_row(edges: &[u64], n: usize, p: usize) -> u32
-    requires { ⌜ Within n (now edges) × (p < n) ⌝ }
-    ensures { λ r. ⌜ r ≡ openKey (nodes n) (edgesIn n (now (edges .entry))) p ⌝ }
-{
-    let a = Graph::ROW_WORDS * p;
-    let mut sum = 0u32;
-    let mut w = 0;
-    while w < 8 {
-        let mut x = edges[a + w];
-        while x != 0 {
-            let q = 64 * w + rows::lowest(x);
-            sum = std::num::wrapping_add_u32(sum, rows::cube_of(q));
-            x = x & (x - 1);
-        }
-        w += 1;
-    }
-    sum
-}
-
 // The open key of p, and with p's own cube the closed one.
 fn put_keys(keys: &mut [u32], p: usize, sum: u32)
     requires { ⌜ (p < maxNodes) × (2 * p + 2 ≤ length (now keys)) ⌝ }
@@ -116,7 +96,7 @@ fn sum_sparse(edges: &[u64], keys: &mut [u32], n: usize)
     ensures { λ _. ⌜ now (keys .exit) ≡ keysOf (graphIn n (now (edges .entry))) ⌝ }
 {
     for p in 0..n {
-        put_keys(keys, p, sum_row(edges, n, p));
+        put_keys(keys, p, checks::dense::sum_row(edges, n, p));
     }
 }
 

@@ -1,7 +1,7 @@
 -- The invariant: the keys of the nodes below p are summed.
 use Prim.Native.Nat.{_-_, _≤_}
 use native.Mathlib.Omega.{arith}
-use Rattle.visible.specs.KeySumLaws.{Summed, summed-all, summed-more, summed-none}
+use Rattle.visible.specs.KeySumLaws.{Summed, within-inside, within-length, summed-all, summed-more, summed-none}
 use Rattle.visible.proofs.sum_sparse.Statement.{statement}
 use Rattle.visible.proofs.sum_sparse.Tie as tie
 
@@ -15,7 +15,10 @@ loop-holds : tie.Need-loop-holds Inv-loop μ-loop
 loop-holds c = (omega arith, summed-none _ _ _)
 
 sum-row-requires : tie.Need-sum-row-requires Inv-loop μ-loop
-sum-row-requires c κs = (c .before .before .before .before .before .pre .0, c .before .loop-test .taken)
+sum-row-requires c κs =
+    let h = c .before .before .before .before .before .pre .0 in
+    let hp = c .before .loop-test .taken in
+    (h .small, within-length h, hp, λ q l t. within-inside h _ q hp l t)
 
 put-keys-requires : tie.Need-put-keys-requires Inv-loop μ-loop
 put-keys-requires c κs =
