@@ -100,17 +100,34 @@ fn ones_of(x: u64) -> usize
     u64::count_ones(x) as usize
 }
 
-// Whether a sample of the edges has so many bits that a walk over all of them would take long. Either answer is right.
-pub fn has_many_bits(edges: &[u64]) -> bool
-    requires { ⌜ length (now edges) ≤ rowWords * maxNodes ⌝ }
+// How many bits every so many words of the edges have.
+fn bits_among(edges: &[u64], step: usize) -> usize
+    requires { ⌜ (length (now edges) ≤ rowWords * maxNodes) × (0 < step) × (step ≤ 64) ⌝ }
 {
     let mut bits = 0;
     let mut i = 0;
     while i < edges.len() {
         bits += ones_of(edges[i]);
-        i += 37;
+        i += step;
     }
-    bits > 1000
+    bits
+}
+
+// Whether a sample of the edges has so many bits that a walk over all of them would take long. Either answer is right.
+pub fn has_many_bits(edges: &[u64]) -> bool
+    requires { ⌜ length (now edges) ≤ rowWords * maxNodes ⌝ }
+{
+    bits_among(edges, 37) > 1000
+}
+
+// Whether a walk over all bits would take longer than the way by blocks, told by a sample: of few nodes, every third. Either answer is right.
+fn is_dense(edges: &[u64], n: usize) -> bool
+    requires { ⌜ length (now edges) ≤ rowWords * maxNodes ⌝ }
+{
+    if n <= 64 {
+        return bits_among(edges, 24) > 300;
+    }
+    has_many_bits(edges)
 }
 
 // Whether edges and keys are those of a graph, where every node is a twin of its leader.
@@ -118,10 +135,7 @@ fn rows_hold(edges: &[u64], nodes: &[u16], keys: &[u32], n: usize) -> bool
     requires { ⌜ (n ≤ maxNodes) × (length (now edges) ≡ rowWords * n) × (length (now nodes) ≡ nodeNumbers * n) × (length (now keys) ≡ 2 * n) × (twinsHold n (now edges) (now nodes) ≡ true) ⌝ }
     ensures { λ r. ⌜ r ≡ rowsHold n (now (edges .entry)) (now (keys .entry)) ⌝ }
 {
-    if n <= 64 {
-        return dense::rows_hold(edges, nodes, keys, n);
-    }
-    if has_many_bits(edges) {
+    if is_dense(edges, n) {
         return dense::rows_hold(edges, nodes, keys, n);
     }
     sparse_rows_hold(edges, keys, n)

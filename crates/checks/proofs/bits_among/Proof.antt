@@ -2,14 +2,14 @@
 use Prim.Native.Nat.{_*_, _-_, _≤_}
 use native.Mathlib.Omega.{arith}
 use lib.ListN.{length}
-use Rattle.checks.proofs.has_many_bits.Statement.{statement}
-use Rattle.checks.proofs.has_many_bits.Tie as tie
+use Rattle.checks.proofs.bits_among.Statement.{statement}
+use Rattle.checks.proofs.bits_among.Tie as tie
 
 abbrev Inv-loop : tie.InvT-loop
-Inv-loop edges bits₀ i₀ bits i = bits ≤ 64 * i
+Inv-loop edges step bits₀ i₀ bits i = (bits ≤ 64 * i) × (i ≤ 8192)
 
 abbrev μ-loop : tie.MeasureT-loop
-μ-loop edges bits₀ i₀ bits i = length edges - i
+μ-loop edges step bits₀ i₀ bits i = length edges - i
 
 loop-holds : tie.Need-loop-holds Inv-loop μ-loop
 loop-holds c = omega arith
@@ -38,8 +38,8 @@ loop-again c = omega arith
 returns : tie.Need-returns Inv-loop μ-loop
 returns c = omega arith
 
-pub has-many-bits-spec : {M : Type 1} → statement M
-has-many-bits-spec =
+pub bits-among-spec : {M : Type 1} → statement M
+bits-among-spec =
     tie.close
     (tie.spec
     Inv-loop
