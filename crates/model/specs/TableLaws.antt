@@ -12,7 +12,7 @@ use lib.Seq.{getD-append-add}
 use borrow.Author.Tests.{eqb-true, eq-eqb, ne-eqb, ltb-true, ltb-false, not-true}
 use Rattle.model.specs.Lists.{_∈_, all, concat, filter, from, nodes, sameList}
 use Rattle.model.specs.Graph.{Graph, Proper, maxNodes}
-use Rattle.model.specs.Grouping.{algorithm1, group, leaders, least, similar}
+use Rattle.model.specs.Grouping.{algorithm1, closedKey, group, leaders, least, openKey, similar}
 use Rattle.model.specs.Tables.{Tables, bitAt, edgeBit, edgesOf, graphOf, groupIn, groupsIn, holds, keyPair, keysOf, nodeNumber, nodeOf, nodesOf, rowOf, simple, tablesOf, word}
 use Rattle.model.specs.TestLaws.{and-fst, and-snd, and-true, beq-eq, decide, eq-beq, iff-eq}
 use Rattle.model.specs.ListLaws.{Ascending, all-elim, all-intro, filter-cong, length-from, nodes-ascending, nodes-in, nodes-out, same-eq, same-refl}
@@ -261,3 +261,8 @@ module _ (g : Graph) (h : Proper g) where
       ap (map _) (filter-cong _ (λ p. eqb (least vs r p) p) vs (λ p m. ap (λ (x : ℕ). eqb x p) (least-told p m)))
       ∙ map-cong _ (group vs r) (leaders vs r) group-told
       ∙ sym (algorithm1-classes vs (g .edge) (proper-simple g h) (nodes-ascending (g .nodeCount)))
+
+-- keys have 32 bits
+pub key-fits : (vs : List ℕ) (e : ℕ → ℕ → Bool) (p : ℕ) → (openKey vs e p < 2 ^ 32) × (closedKey vs e p < 2 ^ 32)
+unfolding openKey closedKey
+key-fits vs e p = (omega arith, omega arith)
