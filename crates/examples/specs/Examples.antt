@@ -8,7 +8,7 @@ use lib.Dec.{eqb}
 use lib.IntN.{ℤ, pos, negsuc}
 use lib.ListN.{length, getD, replicate}
 use Rattle.model.specs.Lists.{nodes}
-use Rattle.model.specs.Graph.{Graph, emptyGraph, rowWords, nodeNumbers}
+use Rattle.model.specs.Graph.{Graph, emptyGraph, nodeNumbers, rowWords, whole}
 use Rattle.model.specs.Grouping.{Kind, singleton, independent, clique, kindOf, similar}
 use Rattle.model.specs.Tables.{Tables, tablesOf, keysOf, nodesOf, groupsIn}
 use Rattle.model.specs.Updates.{Update, batchGraph, updateCount}
@@ -165,7 +165,7 @@ examples =
     -- 10. ties 20-0, 20-11, 21-8, 21-9
     ∷ number (openKeyIn equalKeys 20) 1729
     ∷ number (openKeyIn equalKeys 21) 1729
-    ∷ test (similar (nodes 22) (equalKeys .edge) 20 21) false
+    ∷ test (similar (whole equalKeys) 20 21) false
     ∷ groups (officeGroups equalKeys) ((0 ∷ 11 ∷ []) ∷ (1 ∷ 2 ∷ 3 ∷ 4 ∷ 5 ∷ 6 ∷ 7 ∷ 10 ∷ 12 ∷ 13 ∷ 14 ∷ 15 ∷ 16 ∷ 17 ∷ 18 ∷ 19 ∷ []) ∷ (8 ∷ 9 ∷ []) ∷ (20 ∷ []) ∷ (21 ∷ []) ∷ [])
     ∷ number (length (visibleGroups equalKeys)) 5
     ∷ number (size equalKeys) 86

@@ -9,6 +9,7 @@ use lib.Dec.{eqb}
 use lib.ListN.{length}
 use borrow.Author.Tests.{eqb-true, eqb-false, ne-eqb, not-true}
 use Rattle.model.specs.Lists.{_∈_, filter}
+use Rattle.model.specs.Graph.{View}
 use Rattle.model.specs.Grouping.{algorithm1, closed, falseTwins, leaders, least, similar, trueTwins}
 use Rattle.model.specs.TestLaws.{decide}
 use Rattle.model.specs.ListLaws.{Ascending, all-cong, filter-ascending, filter-elim, pigeonhole, without}
@@ -30,52 +31,59 @@ one-gone x (y ∷ ys) a = step (one-gone x ys (a .1)) (decide (eqb x y))
     step below (inl t) = rw t (omega (arith, none-gone x ys (λ m. omega (arith, a .0 x m, eqb-true x y t))))
     step below (inr t) = rw t (omega (arith, below))
 
-pub similar-cong : (vs : List ℕ) (e f : ℕ → ℕ → Bool) (p q : ℕ) → ((r : ℕ) → e p r ≡ f p r) → ((r : ℕ) → e q r ≡ f q r) → similar vs e p q ≡ similar vs f p q
-unfolding similar falseTwins trueTwins closed
-similar-cong vs e f p q hp hq =
-    ap₂ _||_
-    (all-cong _ _ vs (λ r m. ap₂ Bool·beq (hp r) (hq r)))
-    (all-cong _ _ vs (λ r m. ap₂ (λ (x y : Bool). Bool·beq (x || eqb p r) (y || eqb q r)) (hp r) (hq r)))
+-- the same nodes with other edges
+abbrev pub withEdges : View → (ℕ → ℕ → Bool) → View
+withEdges v e = record { nodes = v .nodes; edge = e }
 
-module _ (vs : List ℕ) (asc : Ascending vs) (u v : ℕ) (e f : ℕ → ℕ → Bool) (ge : Simple vs e) (gf : Simple vs f) (same : (p r : ℕ) → (p ≡ u → ⊥) → (p ≡ v → ⊥) → e p r ≡ f p r) where
+pub similar-cong : (v : View) (f : ℕ → ℕ → Bool) (p q : ℕ) → ((r : ℕ) → v .edge p r ≡ f p r) → ((r : ℕ) → v .edge q r ≡ f q r) → similar v p q ≡ similar (withEdges v f) p q
+unfolding similar falseTwins trueTwins closed
+similar-cong v f p q hp hq =
+    ap₂ _||_
+    (all-cong _ _ (v .nodes) (λ r m. ap₂ Bool·beq (hp r) (hq r)))
+    (all-cong _ _ (v .nodes) (λ r m. ap₂ (λ (x y : Bool). Bool·beq (x || eqb p r) (y || eqb q r)) (hp r) (hq r)))
+
+module _ (v : View) (f : ℕ → ℕ → Bool) (gv : Simple v) (gw : Simple (withEdges v f)) (asc : Ascending (v .nodes)) (x y : ℕ) (same : (p r : ℕ) → (p ≡ x → ⊥) → (p ≡ y → ⊥) → v .edge p r ≡ f p r) where
+  abbrev w : View
+  w = withEdges v f
+
   L : List ℕ
-  L = leaders vs (similar vs e)
+  L = leaders (v .nodes) (similar v)
 
   rest : List ℕ
-  rest = without v (without u L)
+  rest = without y (without x L)
 
-  rest-out : (p : ℕ) → p ∈ rest → (p ∈ L) × (p ≡ u → ⊥) × (p ≡ v → ⊥)
+  rest-out : (p : ℕ) → p ∈ rest → (p ∈ L) × (p ≡ x → ⊥) × (p ≡ y → ⊥)
   unfolding rest
   rest-out p m =
-      let a = filter-elim (λ y. not (eqb v y)) (without u L) p m in
-      let b = filter-elim (λ y. not (eqb u y)) L p (a .0) in
-      (b .0, λ q. eqb-false u p (not-true (eqb u p) (b .1)) (sym q), λ q. eqb-false v p (not-true (eqb v p) (a .1)) (sym q))
+      let a = filter-elim (λ z. not (eqb y z)) (without x L) p m in
+      let b = filter-elim (λ z. not (eqb x z)) L p (a .0) in
+      (b .0, λ q. eqb-false x p (not-true (eqb x p) (b .1)) (sym q), λ q. eqb-false y p (not-true (eqb y p) (a .1)) (sym q))
 
   rest-long : length L ≤ 2 + length rest
   unfolding rest L
-  rest-long = omega (arith, one-gone u L (leaders-ascending vs (similar vs e) (equivalence vs e ge asc) asc), one-gone v (without u L) (filter-ascending _ L (leaders-ascending vs (similar vs e) (equivalence vs e ge asc) asc)))
+  rest-long = omega (arith, one-gone x L (leaders-ascending (v .nodes) (similar v) (equivalence v gv asc) asc), one-gone y (without x L) (filter-ascending _ L (leaders-ascending (v .nodes) (similar v) (equivalence v gv asc) asc)))
 
-  pub at-most-two : length (algorithm1 vs e) ≤ 2 + length (algorithm1 vs f)
+  pub at-most-two : length (algorithm1 v) ≤ 2 + length (algorithm1 w)
   unfolding rest L
-  at-most-two = omega (arith, rest-long, length-groups vs e ge asc, length-groups vs f gf asc, pigeonhole rest (least vs (similar vs f)) (leaders vs (similar vs f)) ordered into inj)
+  at-most-two = omega (arith, rest-long, length-groups v gv asc, length-groups w gw asc, pigeonhole rest (least (v .nodes) (similar w)) (leaders (v .nodes) (similar w)) ordered into inj)
     where
       ordered : Ascending rest
-      ordered = filter-ascending _ (without u L) (filter-ascending _ L (leaders-ascending vs (similar vs e) (equivalence vs e ge asc) asc))
+      ordered = filter-ascending _ (without x L) (filter-ascending _ L (leaders-ascending (v .nodes) (similar v) (equivalence v gv asc) asc))
 
-      inside : (p : ℕ) → p ∈ rest → p ∈ vs
-      inside p m = leader-out vs (similar vs e) (equivalence vs e ge asc) asc p (rest-out p m .0) .0
+      inside : (p : ℕ) → p ∈ rest → p ∈ v .nodes
+      inside p m = leader-out (v .nodes) (similar v) (equivalence v gv asc) asc p (rest-out p m .0) .0
 
-      into : (p : ℕ) → p ∈ rest → least vs (similar vs f) p ∈ leaders vs (similar vs f)
-      into p m = least-leads vs (similar vs f) (equivalence vs f gf asc) asc p (inside p m)
+      into : (p : ℕ) → p ∈ rest → least (v .nodes) (similar w) p ∈ leaders (v .nodes) (similar w)
+      into p m = least-leads (v .nodes) (similar w) (equivalence w gw asc) asc p (inside p m)
 
-      inj : (p q : ℕ) → p ∈ rest → q ∈ rest → least vs (similar vs f) p ≡ least vs (similar vs f) q → p ≡ q
+      inj : (p q : ℕ) → p ∈ rest → q ∈ rest → least (v .nodes) (similar w) p ≡ least (v .nodes) (similar w) q → p ≡ q
       inj p q mp mq h =
           let a = rest-out p mp in
           let b = rest-out q mq in
-          let l : ℕ = least vs (similar vs f) p in
-          let lin = least-in vs (similar vs f) (equivalence vs f gf asc) asc p (inside p mp) in
-          let pl : similar vs f p l ≡ true = least-rel vs (similar vs f) (equivalence vs f gf asc) asc p (inside p mp) in
-          let ql : similar vs f q l ≡ true = rw h (least-rel vs (similar vs f) (equivalence vs f gf asc) asc q (inside q mq)) in
-          let pq : similar vs f p q ≡ true = similar-trans vs f gf p l q (inside p mp) lin (inside q mq) pl (similar-sym vs f q l ql) in
-          leaders-apart vs (similar vs e) (equivalence vs e ge asc) asc p q (inside p mp) (inside q mq) (leader-out vs (similar vs e) (equivalence vs e ge asc) asc p (a .0) .1) (leader-out vs (similar vs e) (equivalence vs e ge asc) asc q (b .0) .1)
-          (similar-cong vs e f p q (λ r. same p r (a .1) (a .2)) (λ r. same q r (b .1) (b .2)) ∙ pq)
+          let l : ℕ = least (v .nodes) (similar w) p in
+          let lin = least-in (v .nodes) (similar w) (equivalence w gw asc) asc p (inside p mp) in
+          let pl : similar w p l ≡ true = least-rel (v .nodes) (similar w) (equivalence w gw asc) asc p (inside p mp) in
+          let ql : similar w q l ≡ true = rw h (least-rel (v .nodes) (similar w) (equivalence w gw asc) asc q (inside q mq)) in
+          let pq : similar w p q ≡ true = similar-trans w gw p l q (inside p mp) lin (inside q mq) pl (similar-sym w q l ql) in
+          leaders-apart (v .nodes) (similar v) (equivalence v gv asc) asc p q (inside p mp) (inside q mq) (leader-out (v .nodes) (similar v) (equivalence v gv asc) asc p (a .0) .1) (leader-out (v .nodes) (similar v) (equivalence v gv asc) asc q (b .0) .1)
+          (similar-cong v f p q (λ r. same p r (a .1) (a .2)) (λ r. same q r (b .1) (b .2)) ∙ pq)

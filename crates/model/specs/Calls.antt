@@ -1,6 +1,6 @@
 -- Every call as a function of all that it is lent, giving all that it returns and leaves. Each has its reasons to be refused
 -- in the order of document 01's table; a refused call leaves tables and buffers, and returns 0 for every other number.
-use mathlib.Core.Bool.{Bool, false, not, _||_, cond}
+use mathlib.Core.Bool.{Bool, false, not, _||_}
 use mathlib.Core.List.{List, [], _∷_, _++_}
 use Prim.Native.Nat.{ℕ}
 use lib.Dec.{eqb, ltb}
@@ -10,15 +10,11 @@ use Rattle.model.specs.Lists.{headOr, nodes}
 use Rattle.model.specs.Graph.{Graph, emptyGraph}
 use Rattle.model.specs.Grouping.{kindOf}
 use Rattle.model.specs.Tables.{Tables, tablesOf, graphOf, groupIn, holds}
-use Rattle.model.specs.Refusals.{Reasons, firstOf, lengths, wrongSize}
-use Rattle.model.specs.Updates.{updateCount, wrongBatch, inThrees, batchGraph, answers}
+use Rattle.model.specs.Refusals.{Reasons, judged, lengths, wrongSize}
+use Rattle.model.specs.Updates.{updateCount, wrongBatch, updatesIn, batchGraph, answers}
 use Rattle.model.specs.Queries.{neighbours, kindNumber}
 use Rattle.model.specs.Release.{isVisible, visible, visibleGroups, superedgeCount, release}
 use Rattle.model.specs.Reading.{decode, isRelease}
-
--- refused by the first reason that holds, else done
-abbrev pub judged : {A : Type 0} → Reasons → (ℕ → A) → A → A
-judged rs refused done = cond (eqb (firstOf rs) 0) done (refused (firstOf rs))
 
 -- a lent buffer with xs written at its start; what stands beyond keeps its value
 abbrev pub onto : {A : Type 0} → List A → List A → List A
@@ -59,7 +55,7 @@ applyReasons n t xs out =
 unfoldable pub applyCall : ℕ → Tables → List ℕ → List ℤ → Applied
 applyCall n t xs out =
     judged (applyReasons n t xs out) (applyRefused t out)
-    (record { result = 0; tables = tablesOf (batchGraph (graphOf n t) (inThrees xs)); answers = onto (answers (graphOf n t) (inThrees xs)) out })
+    (record { result = 0; tables = tablesOf (batchGraph (graphOf n t) (updatesIn xs)); answers = onto (answers (graphOf n t) (updatesIn xs)) out })
 
 -- neighbours of p
 pub record Listed : Type 0 where
@@ -154,7 +150,7 @@ releaseReasons n t out =
 unfoldable pub released : Graph → List ℕ → Released
 released g out = record {
   result = 0;
-  nodes = length (visible g);
+  nodes = length (visible g .nodes);
   groups = length (visibleGroups g);
   superedges = superedgeCount g;
   bytes = length (release g);

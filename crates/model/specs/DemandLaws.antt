@@ -1,46 +1,51 @@
 -- The demands hold.
 use mathlib.Core.Path.{_≡_, refl, sym, ap, ap₂, _∙_}
-use mathlib.Core.Bool.{Bool, true, false, not, cond}
-use mathlib.Core.List.{List, _∷_, map}
+use mathlib.Core.Bool.{Bool, true, false, not, _&&_, cond}
+use mathlib.Core.List.{List, [], _∷_, map}
+use mathlib.Core.Logic.{_⊎_, inl, inr, _↔_}
 use Prim.Native.Nat.{ℕ, _≤_, _<_}
+use native.Mathlib.Omega.{arith}
 use lib.Dec.{eqb, ltb}
-use lib.IntN.{pos}
+use lib.IntN.{ℤ, pos}
 use lib.ListN.{length}
-use borrow.Author.Tests.{eqb-true, eq-eqb, ne-eqb, lt-ltb, le-ltb, not-false}
-use Rattle.model.specs.Lists.{nodes}
-use Rattle.model.specs.Graph.{Graph, Proper, emptyGraph}
+use borrow.Author.Tests.{eqb-true, eq-eqb, ne-eqb, lt-ltb, le-ltb, eqb-false}
+use Rattle.model.specs.Graph.{Graph, Proper, View, whole}
 use Rattle.model.specs.Grouping.{algorithm1}
 use Rattle.model.specs.Summary.{Summarises, Summary}
 use Rattle.model.specs.Tables.{Tables, graphOf, groupsIn, holds, tablesOf}
-use Rattle.model.specs.Refusals.{Lengths, firstOf, lengths, wrongSize}
-use Rattle.model.specs.Updates.{Update, answer, answers, batchGraph, refusal, updateReasons}
-use Rattle.model.specs.Release.{release, superedgeCount, superedges, visible, visibleEdge, visibleGroups, visiblePart}
+use Rattle.model.specs.Refusals.{Lengths, firstOf, lengths, wrongSize, Reasons, judged}
+use Rattle.model.specs.Updates.{Update, answers, batchGraph, refusal, updateReasons}
+use Rattle.model.specs.Release.{release, superedgeCount, superedges, visible, visibleGroups, visiblePart, isVisible, visibleEdge}
+use Rattle.model.specs.Lists.{nodes}
+use Rattle.model.specs.Steps.{Stepped, run}
+use Rattle.model.specs.Queries.{neighbours}
 use Rattle.model.specs.Reading.{decode, isRelease, summaryBy, summaryIn}
-use Rattle.model.specs.Calls.{Applied, Grouped, Listed, Opened, Released, Tied, applyCall, applyReasons, applyRefused, fileNeighboursCall, fileNeighboursReasons, groupCall, groupReasons, groupRefused, listRefused, neighboursCall, neighboursReasons, onto, openCall, openReasons, openRefused, readCall, readReasons, releaseCall, releaseReasons, releaseRefused, released, tiedCall, tiedReasons, tiedRefused}
-use Rattle.model.specs.History.{Alike, CallsTold, Source, batch, byHistory, graphOfSource, handedIn, history, opening, plain, tablesOfSource}
-use Rattle.model.specs.ListLaws.{nodes-ascending}
+use Rattle.model.specs.Calls.{Listed, Opened, Released, applyCall, applyReasons, fileNeighboursCall, fileNeighboursReasons, groupCall, groupReasons, listRefused, neighboursCall, neighboursReasons, onto, openCall, openReasons, openRefused, readCall, readReasons, releaseCall, releaseReasons, releaseRefused, released, tiedCall, tiedReasons}
+use Rattle.model.specs.History.{Alike, CallsTold, Source, byHistory, graphOfSource, handedIn, tablesOfSource}
+use Rattle.model.specs.TestLaws.{decide, differ}
+use Rattle.model.specs.ListLaws.{filter-cong, nodes-ascending}
 use Rattle.model.specs.SummaryLaws.{algorithm1-summarises}
 use Rattle.model.specs.FewestLaws.{fewest}
 use Rattle.model.specs.TableLaws.{groups-told, held-proper, held-tables, proper-holds, proper-simple, read-back, simple-test}
-use Rattle.model.specs.ReleaseLaws.{alike-edges, alike-visible, length-release, non-interference, visible-ascending, visible-simple}
-use Rattle.model.specs.UpdateLaws.{answer-accepted, answer-near, first-none}
-use Rattle.model.specs.CallLaws.{judged-result, refused-whole}
-use Rattle.model.specs.HistoryLaws.{Kept, after-history, lengths-of, lengthsFor, right-size, size-right}
+use Rattle.model.specs.ReleaseLaws.{alike-visible, length-release, non-interference, visible-ascending, visible-simple, alike-node}
+use Rattle.model.specs.UpdateLaws.{answer-accepted, answer-near, update-refused, wanted-there}
+use Rattle.model.specs.HistoryLaws.{Kept, lengths-of, lengthsFor, right-size, size-right, history-told}
+use Rattle.model.specs.RefusalLaws.{judged-refused, judged-result}
 use Rattle.model.specs.ReadingLaws.{marked, summary-encode, told-count, told-summarises}
 use Rattle.model.specs.ReadBackLaws.{decode-release, only-releases, release-is, visible-alike, visible-proper}
 use Rattle.model.specs.ProgramLaws.{program-fits}
-use Rattle.model.specs.Demands.{Demand1, Demand2, Demand3, GroupedExactly, ReadExactly, Refused}
+use Rattle.model.specs.Demands.{AskedExactly, Demand1, Demand2, Demand3, GroupedExactly, NoRelease, ReadExactly, Refuses, visibleNeighbours}
 
 -- what a source's tables hold
 pub kept : (x : Source) → Kept (lengths (tablesOfSource x)) (graphOfSource x) (tablesOfSource x)
-kept (byHistory t n cs ok) = record {
+kept (byHistory s n cs ok) = record {
   tables = k .tables;
   proper = k .proper;
-  fits = ap lengths (k .tables) ∙ lengths-of (plain (lengths t) (emptyGraph n) cs);
+  fits = ap lengths (k .tables) ∙ lengths-of (graphOfSource (byHistory s n cs ok));
 }
   where
-    k : Kept (lengths t) (plain (lengths t) (emptyGraph n) cs) (history t (opening n ∷ cs))
-    k = after-history t n cs ok .0
+    k : Kept (lengths (s .tables)) (graphOfSource (byHistory s n cs ok)) (tablesOfSource (byHistory s n cs ok))
+    k = history-told s n cs ok .0 .tables
 kept (handedIn t n w h) = record {
   tables = held-tables n t h;
   proper = held-proper n t h (right-size n (lengths t) w .0);
@@ -48,40 +53,39 @@ kept (handedIn t n w h) = record {
 }
 
 pub calls-of : (x : Source) → CallsTold x
-calls-of (byHistory t n cs ok) = after-history t n cs ok .1
+calls-of (byHistory s n cs ok) = history-told s n cs ok .1
 calls-of (handedIn t n w h) = tt
 
--- a refused update of a batch
-batch-skips : (g : Graph) (c : Update) (cs : List Update) → Refused (refusal g c) → batchGraph g (c ∷ cs) ≡ batchGraph g cs
-unfolding batchGraph
-batch-skips g c cs h = rw (ne-eqb (refusal g c) 0 h, batchGraph)
-
-answers-skip : (g : Graph) (c : Update) (cs : List Update) → Refused (refusal g c) → answers g (c ∷ cs) ≡ (pos (refusal g c) ∷ answers g cs)
-unfolding answers answer
-answers-skip g c cs h = rw (ne-eqb (refusal g c) 0 h, answers, answer)
-
 -- DEMAND 1
+refuses : {A : Type 0} (result : A → ℕ) (refused : ℕ → A) (numbers : List ℕ) (rs : Reasons) (done : A) → map (λ (r : Bool × ℕ). r .1) rs ≡ numbers → ((r : ℕ) → result (refused r) ≡ r) → result done ≡ 0
+    → Refuses result refused numbers rs (judged rs refused done)
+refuses result refused numbers rs done l k d = record {
+  listed = l;
+  first = e;
+  kept = λ h. judged-refused rs refused done (λ z. h (e ∙ z)) ∙ ap refused (sym e);
+}
+  where
+    e : result (judged rs refused done) ≡ firstOf rs
+    e = judged-result result rs refused done k d
+
+-- a refused update of a batch
+batch-refused : (g : Graph) (c : Update) (cs : List Update) → (refusal g c ≡ 0 → ⊥)
+    → _≡_ {A = ℕ × Graph × List ℤ} (refusal g c, batchGraph g (c ∷ cs), answers g (c ∷ cs)) (refusal g c, batchGraph g cs, pos (refusal g c) ∷ answers g cs)
+unfolding batchGraph answers run
+batch-refused g c cs h = ap (λ (x : Stepped Graph ℤ). (refusal g c, batchGraph (x .after) cs, x .outcome ∷ answers (x .after) cs)) (update-refused g c h)
+
 pub demand1 : Demand1
-unfolding openReasons openCall applyReasons applyCall updateReasons refusal neighboursReasons neighboursCall tiedReasons tiedCall groupReasons groupCall releaseReasons releaseCall released readReasons readCall fileNeighboursReasons fileNeighboursCall
+unfolding openReasons openCall applyReasons applyCall neighboursReasons neighboursCall tiedReasons tiedCall groupReasons groupCall releaseReasons releaseCall released readReasons readCall fileNeighboursReasons fileNeighboursCall updateReasons refusal
 demand1 = record {
-  opening = λ n t. record { listed = refl; first = judged-result (openReasons n t) (openRefused t) _ (λ (o : Opened). o .result) refl (λ r. refl) };
-  opening-refused = λ n t h. refused-whole (openReasons n t) (openRefused t) _ (λ (o : Opened). o .result) refl (λ r. refl) h;
-  batch = λ n t xs out. record { listed = refl; first = judged-result (applyReasons n t xs out) (applyRefused t out) _ (λ (o : Applied). o .result) refl (λ r. refl) };
-  batch-refused = λ n t xs out h. refused-whole (applyReasons n t xs out) (applyRefused t out) _ (λ (o : Applied). o .result) refl (λ r. refl) h;
-  update = λ g c. record { listed = refl; first = refl };
-  update-refused = λ g c cs h. (batch-skips g c cs h, answers-skip g c cs h);
-  neighbours = λ n t p out. record { listed = refl; first = judged-result (neighboursReasons n t p out) (listRefused out) _ (λ (o : Listed). o .result) refl (λ r. refl) };
-  neighbours-refused = λ n t p out h. refused-whole (neighboursReasons n t p out) (listRefused out) _ (λ (o : Listed). o .result) refl (λ r. refl) h;
-  tied = λ n t p q. record { listed = refl; first = judged-result (tiedReasons n t p q) tiedRefused _ (λ (o : Tied). o .result) refl (λ r. refl) };
-  tied-refused = λ n t p q h. refused-whole (tiedReasons n t p q) tiedRefused _ (λ (o : Tied). o .result) refl (λ r. refl) h;
-  group = λ n t p. record { listed = refl; first = judged-result (groupReasons n t p) groupRefused _ (λ (o : Grouped). o .result) refl (λ r. refl) };
-  group-refused = λ n t p h. refused-whole (groupReasons n t p) groupRefused _ (λ (o : Grouped). o .result) refl (λ r. refl) h;
-  releasing = λ n t out. record { listed = refl; first = judged-result (releaseReasons n t out) (releaseRefused out) _ (λ (o : Released). o .result) refl (λ r. refl) };
-  releasing-refused = λ n t out h. refused-whole (releaseReasons n t out) (releaseRefused out) _ (λ (o : Released). o .result) refl (λ r. refl) h;
-  reading = λ n t file. record { listed = refl; first = judged-result (readReasons n t file) (openRefused t) _ (λ (o : Opened). o .result) refl (λ r. refl) };
-  reading-refused = λ n t file h. refused-whole (readReasons n t file) (openRefused t) _ (λ (o : Opened). o .result) refl (λ r. refl) h;
-  file-neighbours = λ file p out. record { listed = refl; first = judged-result (fileNeighboursReasons file p out) (listRefused out) _ (λ (o : Listed). o .result) refl (λ r. refl) };
-  file-neighbours-refused = λ file p out h. refused-whole (fileNeighboursReasons file p out) (listRefused out) _ (λ (o : Listed). o .result) refl (λ r. refl) h;
+  opening = λ n t. refuses _ _ _ _ _ refl (λ r. refl) refl;
+  batch = λ n t xs out. refuses _ _ _ _ _ refl (λ r. refl) refl;
+  update = λ g c cs. record { listed = refl; first = refl; kept = batch-refused g c cs };
+  neighbours = λ n t p out. refuses _ _ _ _ _ refl (λ r. refl) refl;
+  tied = λ n t p q. refuses _ _ _ _ _ refl (λ r. refl) refl;
+  group = λ n t p. refuses _ _ _ _ _ refl (λ r. refl) refl;
+  releasing = λ n t out. refuses _ _ _ _ _ refl (λ r. refl) refl;
+  reading = λ n t file. refuses _ _ _ _ _ refl (λ r. refl) refl;
+  file-neighbours = λ file p out. refuses _ _ _ _ _ refl (λ r. refl) refl;
   program = program-fits;
 }
 
@@ -113,97 +117,196 @@ module _ (l : Lengths) (g : Graph) (t : Tables) (h : Kept l g t) where
 -- the file of a proper graph tells a summary of its visible part
 module _ (g : Graph) (h : Proper g) where
   abbrev gs : List (List ℕ)
-  gs = algorithm1 (visible g) (visibleEdge g)
+  gs = algorithm1 (visible g)
 
-  pub file-summary : summaryIn (release g) ≡ summaryBy (map (marked (visibleEdge g)) gs) (superedges (visibleEdge g) 0 gs)
+  pub file-summary : summaryIn (release g) ≡ summaryBy (map (marked (visible g)) gs) (superedges (visible g .edge) 0 gs)
   unfolding release
-  file-summary = summary-encode (g .nodeCount) (visible g) (visibleEdge g) gs
+  file-summary = summary-encode (g .nodeCount) (visible g) gs
 
-  pub file-summarises : Summarises (visible g) (visibleEdge g) (summaryIn (release g))
-  file-summarises = rw file-summary (told-summarises (visible g) (visibleEdge g) (visible-simple g h) (visible-ascending g))
+  pub file-summarises : Summarises (visible g) (summaryIn (release g))
+  file-summarises = rw file-summary (told-summarises (visible g) (visible-simple g h) (visible-ascending g))
 
   pub file-count : summaryIn (release g) .count ≡ length (visibleGroups g)
   unfolding visibleGroups
-  file-count = ap (λ (d : Summary). d .count) file-summary ∙ told-count (visible g) (visibleEdge g) (visible-simple g h) (visible-ascending g)
+  file-count = ap (λ (d : Summary). d .count) file-summary ∙ told-count (visible g) (visible-simple g h) (visible-ascending g)
 
 -- DEMAND 2
 grouped-exactly : (l : Lengths) (g : Graph) (t : Tables) → Kept l g t → GroupedExactly g t
 grouped-exactly l g t h = record {
   groups = told;
-  exact = rw (told, ap (graphOf (g .nodeCount)) (h .tables) ∙ read-back g (h .proper)) (algorithm1-summarises (nodes (g .nodeCount)) (g .edge) (proper-simple g (h .proper)) (nodes-ascending (g .nodeCount)));
+  exact = rw (told, ap (graphOf (g .nodeCount)) (h .tables) ∙ read-back g (h .proper)) (algorithm1-summarises (whole g) (proper-simple g (h .proper)) (nodes-ascending (g .nodeCount)));
 }
   where
-    told : groupsIn (g .nodeCount) (t .nodes) ≡ algorithm1 (nodes (g .nodeCount)) (g .edge)
+    told : groupsIn (g .nodeCount) (t .nodes) ≡ algorithm1 (whole g)
     told = ap (λ (x : Tables). groupsIn (g .nodeCount) (x .nodes)) (h .tables) ∙ unfold tablesOf in groups-told g (h .proper)
 
-module _ (n : ℕ) (t : Tables) (file : List ℕ) (w : wrongSize n (lengths t) ≡ false) where
-  reasons-none : readCall n t file .result ≡ 0 → (isRelease file ≡ true) × (decode file .nodeCount ≡ n)
-  unfolding readCall readReasons
-  reasons-none ok =
-      let z = sym (judged-result (readReasons n t file) (openRefused t) (record { result = 0; tables = tablesOf (decode file) }) (λ (o : Opened). o .result) refl (λ r. refl)) ∙ ok in
-      let a = first-none (wrongSize n (lengths t)) 11 _ refl z in
-      let b = first-none (not (isRelease file)) 19 _ refl (a .1) in
-      (not-false _ (b .0), eqb-true (decode file .nodeCount) n (not-false _ (first-none (not (eqb (decode file .nodeCount) n)) 20 _ refl (b .1) .0)))
+-- what passes for a release is one
+no-release : (file : List ℕ) → isRelease file ≡ false ↔ NoRelease file
+no-release file = (λ z g h same. differ (ap isRelease same ∙ release-is g h) z, λ none. step none (decide (isRelease file)))
+  where
+    step : NoRelease file → (isRelease file ≡ true) ⊎ (isRelease file ≡ false) → isRelease file ≡ false
+    step none (inl t) = let b = only-releases file t in absurd (none (b .0) (b .1) (b .2))
+    step none (inr t) = t
 
-  module _ (g : Graph) (h : Proper g) (size : g .nodeCount ≡ n) (same : file ≡ release g) where
+-- a file read into tables of the right size
+module _ (n : ℕ) (t : Tables) (file : List ℕ) (w : wrongSize n (lengths t) ≡ false) where
+  -- the number, by whether the bytes are a release and for n
+  numbered : Bool → Bool → ℕ
+  numbered a b = cond a (cond b 0 20) 19
+
+  result-is : readCall n t file .result ≡ numbered (isRelease file) (eqb (decode file .nodeCount) n)
+  unfolding readCall readReasons numbered firstOf
+  result-is =
+      judged-result (λ (o : Opened). o .result) (readReasons n t file) (openRefused t) (record { result = 0; tables = tablesOf (decode file) }) (λ r. refl) refl
+      ∙ rw w (step (isRelease file) (eqb (decode file .nodeCount) n))
+    where
+      step : (a b : Bool) → cond (not a) 19 (cond (not b) 20 0) ≡ numbered a b
+      step true true = refl
+      step true false = refl
+      step false b = refl
+
+  by-19 : (a b : Bool) → numbered a b ≡ 19 → a ≡ false
+  unfolding numbered
+  by-19 true true z = absurd (omega arith)
+  by-19 true false z = absurd (omega arith)
+  by-19 false b z = refl
+
+  by-20 : (a b : Bool) → numbered a b ≡ 20 → (a ≡ true) × (b ≡ false)
+  unfolding numbered
+  by-20 true true z = absurd (omega arith)
+  by-20 true false z = (refl, refl)
+  by-20 false b z = absurd (omega arith)
+
+  by-0 : (a b : Bool) → numbered a b ≡ 0 → (a ≡ true) × (b ≡ true)
+  unfolding numbered
+  by-0 true true z = (refl, refl)
+  by-0 true false z = absurd (omega arith)
+  by-0 false b z = absurd (omega arith)
+
+  -- of a release
+  module _ (g : Graph) (h : Proper g) (same : file ≡ release g) where
     told : decode file ≡ visiblePart g
     told = ap decode same ∙ decode-release g h
 
-    pub read-done : readCall n t file ≡ record { result = 0; tables = tablesOf (visiblePart g) }
-    unfolding readCall readReasons firstOf visiblePart
-    read-done = rw (w, ap isRelease same ∙ release-is g h, told, eq-eqb (g .nodeCount) n size)
+    count : decode file .nodeCount ≡ g .nodeCount
+    count = ap (λ (x : Graph). x .nodeCount) told ∙ unfold visiblePart in refl
 
-    -- released again
-    pub read-again : (out : List ℕ) → length file ≤ length out
-        → (releaseCall n (readCall n t file .tables) out .result ≡ 0) × (releaseCall n (readCall n t file .tables) out .out ≡ onto file out)
-    read-again out k = rw call (unfold released in (refl, ap (λ (s : List ℕ). onto s out) back))
-      where
-        v : Proper (visiblePart g)
-        v = visible-proper g (h .small) (simple-test g h)
+    passes : isRelease file ≡ true
+    passes = ap isRelease same ∙ release-is g h
 
-        back : release (visiblePart g) ≡ file
-        back = non-interference (visiblePart g) g (visible-alike g) ∙ sym same
+    read-other : (g .nodeCount ≡ n → ⊥) → readCall n t file .result ≡ 20
+    read-other d = result-is ∙ rw (passes, count, ne-eqb (g .nodeCount) n d) (unfold numbered in refl)
 
-        kept-part : Kept (lengthsFor n) (visiblePart g) (tablesOf (visiblePart g))
-        kept-part = record { tables = refl; proper = v; fits = unfold visiblePart in ap lengthsFor (sym size) }
+    module _ (size : g .nodeCount ≡ n) where
+      read-done : readCall n t file ≡ record { result = 0; tables = tablesOf (visiblePart g) }
+      unfolding readCall readReasons firstOf visiblePart
+      read-done = rw (w, passes, told, eq-eqb (g .nodeCount) n size)
 
-        part-size : n ≡ visiblePart g .nodeCount
-        part-size = unfold visiblePart in sym size
+      -- released again
+      read-again : (out : List ℕ) → length file ≤ length out
+          → (releaseCall n (readCall n t file .tables) out .result ≡ 0) × (releaseCall n (readCall n t file .tables) out .out ≡ onto file out)
+      read-again out k = rw call (unfold released in (refl, ap (λ (s : List ℕ). onto s out) back))
+        where
+          v : Proper (visiblePart g)
+          v = visible-proper g (h .small) (simple-test g h)
 
-        call : releaseCall n (readCall n t file .tables) out ≡ released (visiblePart g) out
-        call =
-            ap₂ (λ (m : ℕ) (x : Opened). releaseCall m (x .tables) out) part-size read-done
-            ∙ release-written (lengthsFor n) (visiblePart g) (tablesOf (visiblePart g)) kept-part out (rw back k)
+          back : release (visiblePart g) ≡ file
+          back = non-interference (visiblePart g) g (visible-alike g) ∙ sym same
 
-  pub read-only : readCall n t file .result ≡ 0 → (g : Graph) × Proper g × (g .nodeCount ≡ n) × (file ≡ release g)
-  read-only ok =
-      let r = reasons-none ok in
+          kept-part : Kept (lengthsFor n) (visiblePart g) (tablesOf (visiblePart g))
+          kept-part = record { tables = refl; proper = v; fits = unfold visiblePart in ap lengthsFor (sym size) }
+
+          part-size : n ≡ visiblePart g .nodeCount
+          part-size = unfold visiblePart in sym size
+
+          call : releaseCall n (readCall n t file .tables) out ≡ released (visiblePart g) out
+          call =
+              ap₂ (λ (m : ℕ) (x : Opened). releaseCall m (x .tables) out) part-size read-done
+              ∙ release-written (lengthsFor n) (visiblePart g) (tablesOf (visiblePart g)) kept-part out (rw back k)
+
+  read-only : readCall n t file .result ≡ 0 → (g : Graph) × Proper g × (g .nodeCount ≡ n) × (file ≡ release g)
+  read-only z =
+      let r = by-0 (isRelease file) (eqb (decode file .nodeCount) n) (sym result-is ∙ z) in
       let b = only-releases file (r .0) in
-      (b .0, b .1, size (b .0) (b .1) (b .2) (r .1), b .2)
-    where
-      size : (b : Graph) → Proper b → file ≡ release b → decode file .nodeCount ≡ n → b .nodeCount ≡ n
-      size b h s e = sym (ap (λ (x : Graph). x .nodeCount) (ap decode s ∙ decode-release b h) ∙ unfold visiblePart in refl) ∙ e
+      (b .0, b .1, sym (count (b .0) (b .1) (b .2)) ∙ eqb-true (decode file .nodeCount) n (r .1), b .2)
+
+  other-only : readCall n t file .result ≡ 20 → (g : Graph) × Proper g × (g .nodeCount ≡ n → ⊥) × (file ≡ release g)
+  other-only z =
+      let r = by-20 (isRelease file) (eqb (decode file .nodeCount) n) (sym result-is ∙ z) in
+      let b = only-releases file (r .0) in
+      (b .0, b .1, λ e. eqb-false (decode file .nodeCount) n (r .1) (count (b .0) (b .1) (b .2) ∙ e), b .2)
 
   read-exactly : ReadExactly n t file
   read-exactly = record {
-    only = read-only;
-    every = λ g h s e. ap (λ (x : Opened). x .result) (read-done g h s e);
-    tables = λ g h s e. ap (λ (x : Opened). x .tables) (read-done g h s e);
-    again = λ ok. let b = read-only ok in read-again (b .0) (b .1) (b .2) (b .3);
+    none = (
+      λ z. no-release file .0 (by-19 (isRelease file) (eqb (decode file .nodeCount) n) (sym result-is ∙ z)),
+      λ z. result-is ∙ rw (no-release file .1 z) (unfold numbered in refl),
+    );
+    other = (other-only, λ x. read-other (x .0) (x .1) (x .3) (x .2));
+    done = (read-only, λ x. ap (λ (o : Opened). o .result) (read-done (x .0) (x .1) (x .3) (x .2)));
+    tables = λ g h s e. ap (λ (x : Opened). x .tables) (read-done g h e s);
+    again = λ ok. let b = read-only ok in read-again (b .0) (b .1) (b .3) (b .2);
+  }
+
+-- a file asked for neighbours
+module _ (file : List ℕ) (p : ℕ) (out : List ℕ) where
+  abbrev rest : Reasons
+  rest = (not (isVisible (decode file) p), 14) ∷ (ltb (length out) (length (neighbours (decode file) p)), 18) ∷ []
+
+  first-is : fileNeighboursCall file p out .result ≡ firstOf ((not (isRelease file), 19) ∷ rest)
+  unfolding fileNeighboursCall fileNeighboursReasons
+  first-is = judged-result (λ (o : Listed). o .result) (fileNeighboursReasons file p out) (listRefused out) _ (λ r. refl) refl
+
+  asked-19 : (a b c : Bool) → firstOf ((not a, 19) ∷ (b, 14) ∷ (c, 18) ∷ []) ≡ 19 → a ≡ false
+  unfolding firstOf
+  asked-19 true true c z = absurd (omega arith)
+  asked-19 true false true z = absurd (omega arith)
+  asked-19 true false false z = absurd (omega arith)
+  asked-19 false b c z = refl
+
+  module _ (g : Graph) (h : Proper g) (same : file ≡ release g) where
+    listed : isVisible g p ≡ true → neighbours (visiblePart g) p ≡ visibleNeighbours g p
+    unfolding neighbours visiblePart visibleEdge visibleNeighbours
+    listed v = filter-cong (λ q. isVisible g p && (isVisible g q && g .edge p q)) (λ q. isVisible g q && g .edge p q) (nodes (g .nodeCount)) (λ q m. rw v)
+
+    asked : (b : Bool) → isVisible g p ≡ b → fileNeighboursCall file p out ≡ cond b (cond (ltb (length out) (length (neighbours (visiblePart g) p))) (listRefused out 18) (record { result = 0; count = length (neighbours (visiblePart g) p); out = onto (neighbours (visiblePart g) p) out })) (listRefused out 14)
+    unfolding fileNeighboursCall fileNeighboursReasons firstOf
+    asked b e = rw (ap isRelease same ∙ release-is g h, ap decode same ∙ decode-release g h, alike-node (visiblePart g) g (visible-alike g) p ∙ e) (step b (ltb (length out) (length (neighbours (visiblePart g) p))))
+      where
+        done : Listed
+        done = record { result = 0; count = length (neighbours (visiblePart g) p); out = onto (neighbours (visiblePart g) p) out }
+
+        step : (b c : Bool) → cond (eqb (cond (not b) 14 (cond c 18 0)) 0) done (listRefused out (cond (not b) 14 (cond c 18 0))) ≡ cond b (cond c (listRefused out 18) done) (listRefused out 14)
+        step true true = refl
+        step true false = refl
+        step false c = refl
+
+  asked-exactly : AskedExactly file p out
+  asked-exactly = record {
+    none = (
+      λ z. no-release file .0 (asked-19 (isRelease file) _ _ (sym first-is ∙ z)),
+      λ z. first-is ∙ rw (no-release file .1 z) (unfold firstOf in refl),
+    );
+    hidden = λ g h s v. asked g h s false v;
+    short = λ g h s v l. asked g h s true v ∙ rw (listed g h s v, lt-ltb (length out) (length (visibleNeighbours g p)) l);
+    told = λ g h s v l. asked g h s true v ∙ rw (listed g h s v, le-ltb (length out) (length (visibleNeighbours g p)) l);
   }
 
 pub demand2 : Demand2
 demand2 = record {
   grouped = λ x. grouped-exactly (lengths (tablesOfSource x)) (graphOfSource x) (tablesOfSource x) (kept x);
-  answered = λ x c ok. record { difference = answer-accepted (graphOfSource x) c ok; range = answer-near (graphOfSource x) c (kept x .proper) ok };
+  answered = λ x c ok. record { effect = wanted-there (graphOfSource x) c; difference = answer-accepted (graphOfSource x) c ok; range = answer-near (graphOfSource x) c (kept x .proper) ok };
   unfolded = λ x. file-summarises (graphOfSource x) (kept x .proper);
   reading = read-exactly;
+  asking = asked-exactly;
 }
 
 -- DEMAND 3
 released-alike : (a b : Graph) → Alike a b → (out : List ℕ) → released a out ≡ released b out
 unfolding released visibleGroups superedgeCount
-released-alike a b h out = rw (alike-visible a b h, alike-edges a b h, non-interference a b h)
+released-alike a b h out =
+    let seen = alike-visible a b h in
+    rw (seen, ap (λ (v : View). v .nodes) seen, ap (λ (v : View). v .edge) seen, non-interference a b h)
 
 pub demand3 : Demand3
 demand3 = record {
@@ -215,7 +318,7 @@ demand3 = record {
     bytes = length-release g (k .proper);
     summarises = file-summarises g (k .proper);
     counted = file-count g (k .proper);
-    fewest = λ d s. unfold visibleGroups in fewest (visible g) (visibleEdge g) (visible-simple g (k .proper)) (visible-ascending g) d s;
+    fewest = λ d s. unfold visibleGroups in fewest (visible g) (visible-simple g (k .proper)) (visible-ascending g) d s;
   };
   alike = λ x y h out.
       release-told (lengths (tablesOfSource x)) (graphOfSource x) (tablesOfSource x) (kept x) out

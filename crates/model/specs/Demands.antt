@@ -2,85 +2,101 @@
 -- they hold is proved in DemandLaws (demand1, demand2, demand3). Every call of the code is equated with its definition in
 -- Calls, so what is said here of openCall, applyCall, releaseCall and the others is said of the code.
 use mathlib.Core.Path.{_≡_}
-use mathlib.Core.Bool.{Bool, false}
+use mathlib.Core.Bool.{Bool, true, false, _&&_}
 use mathlib.Core.List.{List, [], _∷_, map}
+use mathlib.Core.Logic.{_↔_}
 use Prim.Native.Nat.{ℕ, _+_, _*_, _≤_, _<_}
 use lib.IntN.{ℤ, pos, subℕ, natAbs}
 use lib.ListN.{length}
-use Rattle.model.specs.Lists.{nodes}
-use Rattle.model.specs.Graph.{Graph, Proper, emptyGraph}
+use Rattle.model.specs.Graph.{Graph, Proper, emptyGraph, whole}
+use Rattle.model.specs.Lists.{filter, nodes}
 use Rattle.model.specs.Grouping.{algorithm1}
 use Rattle.model.specs.Summary.{Summarises, Summary, summaryOf}
 use Rattle.model.specs.Tables.{Tables, graphOf, groupsIn, tablesOf}
 use Rattle.model.specs.Refusals.{Reasons, firstOf, lengths, wrongSize}
-use Rattle.model.specs.Updates.{Update, answer, answers, batchGraph, groupCount, refusal, updateReasons, updated}
-use Rattle.model.specs.Release.{release, superedgeCount, visible, visibleEdge, visibleGroups, visiblePart}
+use Rattle.model.specs.Updates.{Update, answer, answers, batchGraph, groupCount, refusal, updateReasons, updated, there, wanted}
+use Rattle.model.specs.Release.{release, superedgeCount, visible, visibleGroups, visiblePart, isVisible}
 use Rattle.model.specs.Reading.{summaryIn}
-use Rattle.model.specs.Calls.{applyCall, applyReasons, applyRefused, fileNeighboursCall, fileNeighboursReasons, groupCall, groupReasons, groupRefused, listRefused, neighboursCall, neighboursReasons, onto, openCall, openReasons, openRefused, readCall, readReasons, releaseCall, releaseReasons, releaseRefused, released, tiedCall, tiedReasons, tiedRefused}
+use Rattle.model.specs.Calls.{Applied, Grouped, Listed, Opened, Released, Tied, applyCall, applyReasons, applyRefused, fileNeighboursCall, fileNeighboursReasons, groupCall, groupReasons, groupRefused, listRefused, neighboursCall, neighboursReasons, onto, openCall, openReasons, openRefused, readCall, readReasons, releaseCall, releaseReasons, releaseRefused, released, tiedCall, tiedReasons, tiedRefused}
 use Rattle.model.specs.History.{Alike, CallsTold, Source, graphOfSource, tablesOfSource}
 use Rattle.model.specs.Program.{accepted, inputOf, maxBytes}
 
--- DEMAND 1. A call is refused by the listed numbers, tested in this order, each for its listed reason; and a refused call
--- leaves every table and buffer, and returns 0 and `no`.
-pub record Refuses (numbers : List ℕ) (rs : Reasons) (result : ℕ) : Type 0 where
+-- DEMAND 1. A call is refused by the listed numbers, each for its listed reason.
+pub record Refuses {A : Type 0} (result : A → ℕ) (refused : ℕ → A) (numbers : List ℕ) (rs : Reasons) (call : A) : Type 0 where
+  -- the numbers, in the order in which their reasons are tested
   pub listed : map (λ (r : Bool × ℕ). r .1) rs ≡ numbers
-  pub first : result ≡ firstOf rs
-
-abbrev pub Refused : ℕ → Type 0
-Refused result = result ≡ 0 → ⊥
+  -- the first whose reason holds is given; 0 where none does
+  pub first : result call ≡ firstOf rs
+  -- and then every table and buffer is as it was, and all else that is returned is 0 and `no`
+  pub kept : (result call ≡ 0 → ⊥) → call ≡ refused (result call)
 
 pub record Demand1 : Type 0 where
-  pub opening : (n : ℕ) (t : Tables) → Refuses (11 ∷ []) (openReasons n t) (openCall n t .result)
-  pub opening-refused : (n : ℕ) (t : Tables) → Refused (openCall n t .result) → openCall n t ≡ openRefused t (openCall n t .result)
-  pub batch : (n : ℕ) (t : Tables) (xs : List ℕ) (out : List ℤ) → Refuses (11 ∷ 12 ∷ 18 ∷ []) (applyReasons n t xs out) (applyCall n t xs out .result)
-  pub batch-refused : (n : ℕ) (t : Tables) (xs : List ℕ) (out : List ℤ) → Refused (applyCall n t xs out .result) → applyCall n t xs out ≡ applyRefused t out (applyCall n t xs out .result)
+  pub opening : (n : ℕ) (t : Tables) → Refuses (λ (o : Opened). o .result) (openRefused t) (11 ∷ []) (openReasons n t) (openCall n t)
+  pub batch : (n : ℕ) (t : Tables) (xs : List ℕ) (out : List ℤ) → Refuses (λ (o : Applied). o .result) (applyRefused t out) (11 ∷ 12 ∷ 18 ∷ []) (applyReasons n t xs out) (applyCall n t xs out)
   -- an update of a batch: a refused one only writes its number among the answers
-  pub update : (g : Graph) (c : Update) → Refuses (13 ∷ 14 ∷ 15 ∷ 16 ∷ 17 ∷ []) (updateReasons g c) (refusal g c)
-  pub update-refused : (g : Graph) (c : Update) (cs : List Update) → Refused (refusal g c)
-      → (batchGraph g (c ∷ cs) ≡ batchGraph g cs) × (answers g (c ∷ cs) ≡ (pos (refusal g c) ∷ answers g cs))
-  pub neighbours : (n : ℕ) (t : Tables) (p : ℕ) (out : List ℕ) → Refuses (11 ∷ 12 ∷ 14 ∷ 18 ∷ []) (neighboursReasons n t p out) (neighboursCall n t p out .result)
-  pub neighbours-refused : (n : ℕ) (t : Tables) (p : ℕ) (out : List ℕ) → Refused (neighboursCall n t p out .result) → neighboursCall n t p out ≡ listRefused out (neighboursCall n t p out .result)
-  pub tied : (n : ℕ) (t : Tables) (p q : ℕ) → Refuses (11 ∷ 12 ∷ 14 ∷ 15 ∷ []) (tiedReasons n t p q) (tiedCall n t p q .result)
-  pub tied-refused : (n : ℕ) (t : Tables) (p q : ℕ) → Refused (tiedCall n t p q .result) → tiedCall n t p q ≡ tiedRefused (tiedCall n t p q .result)
-  pub group : (n : ℕ) (t : Tables) (p : ℕ) → Refuses (11 ∷ 12 ∷ 14 ∷ []) (groupReasons n t p) (groupCall n t p .result)
-  pub group-refused : (n : ℕ) (t : Tables) (p : ℕ) → Refused (groupCall n t p .result) → groupCall n t p ≡ groupRefused (groupCall n t p .result)
-  pub releasing : (n : ℕ) (t : Tables) (out : List ℕ) → Refuses (11 ∷ 12 ∷ 18 ∷ []) (releaseReasons n t out) (releaseCall n t out .result)
-  pub releasing-refused : (n : ℕ) (t : Tables) (out : List ℕ) → Refused (releaseCall n t out .result) → releaseCall n t out ≡ releaseRefused out (releaseCall n t out .result)
-  pub reading : (n : ℕ) (t : Tables) (file : List ℕ) → Refuses (11 ∷ 19 ∷ 20 ∷ []) (readReasons n t file) (readCall n t file .result)
-  pub reading-refused : (n : ℕ) (t : Tables) (file : List ℕ) → Refused (readCall n t file .result) → readCall n t file ≡ openRefused t (readCall n t file .result)
-  pub file-neighbours : (file : List ℕ) (p : ℕ) (out : List ℕ) → Refuses (19 ∷ 14 ∷ 18 ∷ []) (fileNeighboursReasons file p out) (fileNeighboursCall file p out .result)
-  pub file-neighbours-refused : (file : List ℕ) (p : ℕ) (out : List ℕ) → Refused (fileNeighboursCall file p out .result) → fileNeighboursCall file p out ≡ listRefused out (fileNeighboursCall file p out .result)
+  pub update : (g : Graph) (c : Update) (cs : List Update) → Refuses (λ (o : ℕ × Graph × List ℤ). o .0) (λ r. (r, batchGraph g cs, pos r ∷ answers g cs))
+      (13 ∷ 14 ∷ 15 ∷ 16 ∷ 17 ∷ []) (updateReasons g c) (refusal g c, batchGraph g (c ∷ cs), answers g (c ∷ cs))
+  pub neighbours : (n : ℕ) (t : Tables) (p : ℕ) (out : List ℕ) → Refuses (λ (o : Listed). o .result) (listRefused out) (11 ∷ 12 ∷ 14 ∷ 18 ∷ []) (neighboursReasons n t p out) (neighboursCall n t p out)
+  pub tied : (n : ℕ) (t : Tables) (p q : ℕ) → Refuses (λ (o : Tied). o .result) tiedRefused (11 ∷ 12 ∷ 14 ∷ 15 ∷ []) (tiedReasons n t p q) (tiedCall n t p q)
+  pub group : (n : ℕ) (t : Tables) (p : ℕ) → Refuses (λ (o : Grouped). o .result) groupRefused (11 ∷ 12 ∷ 14 ∷ []) (groupReasons n t p) (groupCall n t p)
+  pub releasing : (n : ℕ) (t : Tables) (out : List ℕ) → Refuses (λ (o : Released). o .result) (releaseRefused out) (11 ∷ 12 ∷ 18 ∷ []) (releaseReasons n t out) (releaseCall n t out)
+  pub reading : (n : ℕ) (t : Tables) (file : List ℕ) → Refuses (λ (o : Opened). o .result) (openRefused t) (11 ∷ 19 ∷ 20 ∷ []) (readReasons n t file) (readCall n t file)
+  pub file-neighbours : (file : List ℕ) (p : ℕ) (out : List ℕ) → Refuses (λ (o : Listed). o .result) (listRefused out) (19 ∷ 14 ∷ 18 ∷ []) (fileNeighboursReasons file p out) (fileNeighboursCall file p out)
   -- the program's release buffer is never too short
   pub program : (bytes : List ℕ) (n : ℕ) (cs : List Update) → inputOf bytes ≡ accepted n cs → length (release (batchGraph (emptyGraph n) cs)) ≤ maxBytes
 
 -- DEMAND 2. What the tables of a source tell, for its plain graph g.
 pub record GroupedExactly (g : Graph) (t : Tables) : Type 0 where
   -- the groups are exactly those of Algorithm 1
-  pub groups : groupsIn (g .nodeCount) (t .nodes) ≡ algorithm1 (nodes (g .nodeCount)) (g .edge)
+  pub groups : groupsIn (g .nodeCount) (t .nodes) ≡ algorithm1 (whole g)
   -- unfolding them, with the kinds and superedges that the tables tell, gives exactly the edges that the accepted updates leave
-  pub exact : Summarises (nodes (g .nodeCount)) (g .edge) (summaryOf (graphOf (g .nodeCount) t .edge) (groupsIn (g .nodeCount) (t .nodes)))
+  pub exact : Summarises (whole g) (summaryOf (whole (graphOf (g .nodeCount) t)) (groupsIn (g .nodeCount) (t .nodes)))
 
--- an accepted update answers with the groups after it minus the groups before it, from -2 to 2
+-- what an accepted update wants is there after it, and it answers with the groups after it minus the groups before it, from
+-- -2 to 2
 pub record Answered (g : Graph) (c : Update) : Type 0 where
+  pub effect : there (updated g c) c ≡ wanted c
   pub difference : answer g c ≡ subℕ (groupCount (updated g c)) (groupCount g)
   pub range : natAbs (answer g c) ≤ 2
 
--- a file is read, into tables of the right size, exactly if it is the release of some graph of n nodes
+-- the bytes are no graph's release, for any n to 512
+abbrev pub NoRelease : List ℕ → Type 0
+NoRelease file = (g : Graph) → Proper g → file ≡ release g → ⊥
+
+-- a file is read into tables of the right size
 pub record ReadExactly (n : ℕ) (t : Tables) (file : List ℕ) : Type 0 where
-  pub only : readCall n t file .result ≡ 0 → (g : Graph) × Proper g × (g .nodeCount ≡ n) × (file ≡ release g)
-  pub every : (g : Graph) → Proper g → g .nodeCount ≡ n → file ≡ release g → readCall n t file .result ≡ 0
+  -- 19 exactly if it is no graph's release
+  pub none : readCall n t file .result ≡ 19 ↔ NoRelease file
+  -- 20 exactly if it is the release of a graph with another number of nodes
+  pub other : readCall n t file .result ≡ 20 ↔ ((g : Graph) × Proper g × (g .nodeCount ≡ n → ⊥) × (file ≡ release g))
+  -- 0 exactly if it is the release of a graph with n nodes
+  pub done : readCall n t file .result ≡ 0 ↔ ((g : Graph) × Proper g × (g .nodeCount ≡ n) × (file ≡ release g))
   -- the tables are then those of the visible part, whose hidden nodes have no edges
   pub tables : (g : Graph) → Proper g → g .nodeCount ≡ n → file ≡ release g → readCall n t file .tables ≡ tablesOf (visiblePart g)
   -- released again, it has the same bytes
   pub again : readCall n t file .result ≡ 0 → (out : List ℕ) → length file ≤ length out
       → (releaseCall n (readCall n t file .tables) out .result ≡ 0) × (releaseCall n (readCall n t file .tables) out .out ≡ onto file out)
 
+-- the visible nodes with an edge to p, ascending
+unfoldable pub visibleNeighbours : Graph → ℕ → List ℕ
+visibleNeighbours g p = filter (λ q. isVisible g q && g .edge p q) (nodes (g .nodeCount))
+
+-- the neighbours of p, asked of a file: 19 exactly if it is no graph's release
+pub record AskedExactly (file : List ℕ) (p : ℕ) (out : List ℕ) : Type 0 where
+  pub none : fileNeighboursCall file p out .result ≡ 19 ↔ NoRelease file
+  -- of a graph's release: 14 unless p is visible in it; 18 if its visible neighbours find no room, else they are written
+  pub hidden : (g : Graph) → Proper g → file ≡ release g → isVisible g p ≡ false → fileNeighboursCall file p out ≡ listRefused out 14
+  pub short : (g : Graph) → Proper g → file ≡ release g → isVisible g p ≡ true → length out < length (visibleNeighbours g p) → fileNeighboursCall file p out ≡ listRefused out 18
+  pub told : (g : Graph) → Proper g → file ≡ release g → isVisible g p ≡ true → length (visibleNeighbours g p) ≤ length out
+      → fileNeighboursCall file p out ≡ record { result = 0; count = length (visibleNeighbours g p); out = onto (visibleNeighbours g p) out }
+
 pub record Demand2 : Type 0 where
   pub grouped : (x : Source) → GroupedExactly (graphOfSource x) (tablesOfSource x)
   pub answered : (x : Source) (c : Update) → refusal (graphOfSource x) c ≡ 0 → Answered (graphOfSource x) c
   -- a release unfolds to the edges among visible nodes
-  pub unfolded : (x : Source) → Summarises (visible (graphOfSource x)) (visibleEdge (graphOfSource x)) (summaryIn (release (graphOfSource x)))
+  pub unfolded : (x : Source) → Summarises (visible (graphOfSource x)) (summaryIn (release (graphOfSource x)))
   pub reading : (n : ℕ) (t : Tables) (file : List ℕ) → wrongSize n (lengths t) ≡ false → ReadExactly n t file
+  pub asking : (file : List ℕ) (p : ℕ) (out : List ℕ) → AskedExactly file p out
 
 -- DEMAND 3. What is claimed of one source: a history, refused calls included, or tables handed in; g is its plain graph.
 pub record Faithful (x : Source) (g : Graph) (t : Tables) : Type 0 where
@@ -92,12 +108,12 @@ pub record Faithful (x : Source) (g : Graph) (t : Tables) : Type 0 where
   -- a shorter one is refused with 18 and left as it is
   pub short : (out : List ℕ) → length out < length (release g)
       → releaseCall (g .nodeCount) t out ≡ releaseRefused out 18
-  pub bytes : length (release g) ≡ 10 + 4 * length (visibleGroups g) + 2 * length (visible g) + 6 * superedgeCount g
+  pub bytes : length (release g) ≡ 10 + 4 * length (visibleGroups g) + 2 * length (visible g .nodes) + 6 * superedgeCount g
   -- its groups unfold to the edges among visible nodes, and its head counts them
-  pub summarises : Summarises (visible g) (visibleEdge g) (summaryIn (release g))
+  pub summarises : Summarises (visible g) (summaryIn (release g))
   pub counted : summaryIn (release g) .count ≡ length (visibleGroups g)
   -- every other division of these nodes that unfolds to the same edges has at least as many groups
-  pub fewest : (d : Summary) → Summarises (visible g) (visibleEdge g) d → length (visibleGroups g) ≤ d .count
+  pub fewest : (d : Summary) → Summarises (visible g) d → length (visibleGroups g) ≤ d .count
 
 pub record Demand3 : Type 0 where
   pub each : (x : Source) → Faithful x (graphOfSource x) (tablesOfSource x)

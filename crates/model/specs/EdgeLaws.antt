@@ -9,9 +9,10 @@ use lib.Dec.{eqb}
 use lib.ListN.{length, length-append}
 use borrow.Author.Tests.{eqb-true, eqb-false}
 use Rattle.model.specs.Lists.{_∈_, filter, nodes}
-use Rattle.model.specs.Graph.{Graph, Proper, emptyGraph}
+use Rattle.model.specs.Graph.{Graph, Proper, View, emptyGraph, whole}
 use Rattle.model.specs.Grouping.{adjacent, algorithm1, group, leaders, least, similar}
-use Rattle.model.specs.Updates.{Update, batchGraph, isPair, onEdge, refusal, updated}
+use Rattle.model.specs.Updates.{Update, batchGraph, isPair, onEdge, update, updated}
+use Rattle.model.specs.Steps.{run}
 use Rattle.model.specs.Release.{isVisible, release, superedgeCount, superedges, superedgesFrom, visible, visibleEdge, visibleGroups}
 use Rattle.model.specs.TestLaws.{decide}
 use Rattle.model.specs.ListLaws.{Ascending, filter-cong, filter-elim, length-filter, nodes-ascending}
@@ -20,6 +21,7 @@ use Rattle.model.specs.ClassLaws.{leader-out, leaders-apart, leaders-asc
 use Rattle.model.specs.SummaryLaws.{adjacent-law, algorithm1-classes, equivalence, length-groups}
 use Rattle.model.specs.TableLaws.{length-nodes}
 use Rattle.model.specs.ReleaseLaws.{length-release, visible-ascending, visible-simple}
+use Rattle.model.specs.UpdateLaws.{update-cases}
 
 -- the number of edges among the nodes of an ascending list
 unfoldable pub edgeCount : (ℕ → ℕ → Bool) → List ℕ → ℕ
@@ -78,49 +80,49 @@ length-superedgesFrom e groupOf i p (q ∷ qs) j h = rw (h q (List·Memᴰ·head
     step true below = ap suc below
     step false below = below
 
-module _ (vs : List ℕ) (e : ℕ → ℕ → Bool) (g : Simple vs e) (asc : Ascending vs) where
+module _ (v : View) (g : Simple v) (asc : Ascending (v .nodes)) where
   abbrev r : ℕ → ℕ → Bool
-  r = similar vs e
+  r = similar v
 
-  apart : (x y : ℕ) → x ∈ vs → y ∈ vs → least vs r x ≡ x → least vs r y ≡ y → x < y → r x y ≡ false
+  apart : (x y : ℕ) → x ∈ v .nodes → y ∈ v .nodes → least (v .nodes) r x ≡ x → least (v .nodes) r y ≡ y → x < y → r x y ≡ false
   apart x y mx my lx ly l = step (decide (r x y))
     where
       step : (r x y ≡ true) ⊎ (r x y ≡ false) → r x y ≡ false
-      step (inl t) = let z : x ≡ y = leaders-apart vs r (equivalence vs e g asc) asc x y mx my lx ly t in absurd (omega arith)
+      step (inl t) = let z : x ≡ y = leaders-apart (v .nodes) r (equivalence v g asc) asc x y mx my lx ly t in absurd (omega arith)
       step (inr t) = t
 
-  length-superedges : (ls : List ℕ) (i : ℕ) → Ascending ls → ((x : ℕ) → x ∈ ls → (x ∈ vs) × (least vs r x ≡ x)) → length (superedges e i (map (group vs r) ls)) ≡ edgeCount e ls
+  length-superedges : (ls : List ℕ) (i : ℕ) → Ascending ls → ((x : ℕ) → x ∈ ls → (x ∈ v .nodes) × (least (v .nodes) r x ≡ x)) → length (superedges (v .edge) i (map (group (v .nodes) r) ls)) ≡ edgeCount (v .edge) ls
   unfolding superedges edgeCount
   length-superedges [] i a led = refl
   length-superedges (p ∷ ps) i a led =
-      length-append (superedgesFrom e i (group vs r p) (suc i) (map (group vs r) ps)) (superedges e (suc i) (map (group vs r) ps))
-      ∙ ap₂ _+_ (length-superedgesFrom e (group vs r) i p ps (suc i) edge) (length-superedges ps (suc i) (a .1) (λ x m. led x (List·Memᴰ·tail m)))
+      length-append (superedgesFrom (v .edge) i (group (v .nodes) r p) (suc i) (map (group (v .nodes) r) ps)) (superedges (v .edge) (suc i) (map (group (v .nodes) r) ps))
+      ∙ ap₂ _+_ (length-superedgesFrom (v .edge) (group (v .nodes) r) i p ps (suc i) edge) (length-superedges ps (suc i) (a .1) (λ x m. led x (List·Memᴰ·tail m)))
     where
-      edge : (q : ℕ) → q ∈ ps → adjacent e (group vs r p) (group vs r q) ≡ e p q
+      edge : (q : ℕ) → q ∈ ps → adjacent (v .edge) (group (v .nodes) r p) (group (v .nodes) r q) ≡ v .edge p q
       edge q m =
           let lp = led p (List·Memᴰ·head refl) in
           let lq = led q (List·Memᴰ·tail m) in
-          adjacent-law vs e g asc p q (lp .0) (lq .0) (apart p q (lp .0) (lq .0) (lp .1) (lq .1) (a .0 q m))
+          adjacent-law v g asc p q (lp .0) (lq .0) (apart p q (lp .0) (lq .0) (lp .1) (lq .1) (a .0 q m))
 
-  pub superedges-le-edges : length (superedges e 0 (algorithm1 vs e)) ≤ edgeCount e vs
+  pub superedges-le-edges : length (superedges (v .edge) 0 (algorithm1 v)) ≤ edgeCount (v .edge) (v .nodes)
   unfolding leaders
   superedges-le-edges =
-      rw (algorithm1-classes vs e g asc)
+      rw (algorithm1-classes v g asc)
       (omega (
         arith,
-        length-superedges (leaders vs r) 0 (leaders-ascending vs r (equivalence vs e g asc) asc) (leader-out vs r (equivalence vs e g asc) asc),
-        edgeCount-filter e (λ p. eqb (least vs r p) p) vs,
+        length-superedges (leaders (v .nodes) r) 0 (leaders-ascending (v .nodes) r (equivalence v g asc) asc) (leader-out (v .nodes) r (equivalence v g asc) asc),
+        edgeCount-filter (v .edge) (λ p. eqb (least (v .nodes) r p) p) (v .nodes),
       ))
 
 -- the visible part has at most as many edges as the graph
-pub edgeCount-visible : (g : Graph) → edgeCount (visibleEdge g) (visible g) ≤ edgeCount (g .edge) (nodes (g .nodeCount))
-unfolding visible visibleEdge
-edgeCount-visible g = omega (arith, edgeCount-cong (visibleEdge g) (g .edge) (visible g) same, edgeCount-filter (g .edge) (isVisible g) (nodes (g .nodeCount)))
+pub edgeCount-visible : (g : Graph) → edgeCount (visible g .edge) (visible g .nodes) ≤ edgeCount (whole g .edge) (whole g .nodes)
+unfolding visibleEdge
+edgeCount-visible g = omega (arith, edgeCount-cong (visible g .edge) (g .edge) (visible g .nodes) same, edgeCount-filter (g .edge) (isVisible g) (nodes (g .nodeCount)))
   where
-    shown : (p : ℕ) → p ∈ visible g → isVisible g p ≡ true
+    shown : (p : ℕ) → p ∈ visible g .nodes → isVisible g p ≡ true
     shown p m = filter-elim (isVisible g) (nodes (g .nodeCount)) p m .1
 
-    same : (p q : ℕ) → p ∈ visible g → q ∈ visible g → visibleEdge g p q ≡ g .edge p q
+    same : (p q : ℕ) → p ∈ visible g .nodes → q ∈ visible g .nodes → visible g .edge p q ≡ g .edge p q
     same p q mp mq = rw (shown p mp, shown q mq)
 
 -- two tests that agree but at x, on an ascending list
@@ -186,15 +188,13 @@ pub edgeCount-updated : (g : Graph) (c : Update) (l : List ℕ) → Ascending l 
 unfolding updated
 edgeCount-updated g c l a = edgeCount-pair (updated g c .edge) (g .edge) (c .u) (c .v) l a (λ p q h. rw (h, and-false (onEdge c)))
 
+edgeCount-stepped : (g : Graph) (c : Update) (l : List ℕ) → Ascending l → edgeCount (update g c .after .edge) l ≤ 1 + edgeCount (g .edge) l
+edgeCount-stepped g c l a = update-cases g c (λ x. edgeCount (x .after .edge) l ≤ 1 + edgeCount (g .edge) l) (λ z. omega arith) (λ ok. edgeCount-updated g c l a)
+
 batch-adds : (cs : List Update) (g : Graph) (l : List ℕ) → Ascending l → edgeCount (batchGraph g cs .edge) l ≤ length cs + edgeCount (g .edge) l
-unfolding batchGraph
+unfolding batchGraph run
 batch-adds [] g l a = omega arith
-batch-adds (c ∷ cs) g l a = step (λ h. batch-adds cs h l a) (decide (eqb (refusal g c) 0))
-  where
-    step : ((h : Graph) → edgeCount (batchGraph h cs .edge) l ≤ length cs + edgeCount (h .edge) l) → (eqb (refusal g c) 0 ≡ true) ⊎ (eqb (refusal g c) 0 ≡ false)
-        → edgeCount (batchGraph g (c ∷ cs) .edge) l ≤ suc (length cs) + edgeCount (g .edge) l
-    step below (inl t) = rw (t, batchGraph) (omega (arith, below (updated g c), edgeCount-updated g c l a))
-    step below (inr t) = rw (t, batchGraph) (omega (arith, below g))
+batch-adds (c ∷ cs) g l a = omega (arith, batch-adds cs (update g c .after) l a, edgeCount-stepped g c l a)
 
 -- no edges at first
 filter-none : (l : List ℕ) → filter (λ q. false) l ≡ []
@@ -212,16 +212,16 @@ unfolding emptyGraph
 edgeCount-batch n cs = omega (arith, batch-adds cs (emptyGraph n) (nodes n) (nodes-ascending n), edgeCount-none (nodes n))
 
 -- so few edges make a short release
-pub release-le : (g : Graph) → Proper g → length (release g) ≤ 10 + 6 * g .nodeCount + 6 * edgeCount (g .edge) (nodes (g .nodeCount))
-unfolding visibleGroups superedgeCount leaders visible
+pub release-le : (g : Graph) → Proper g → length (release g) ≤ 10 + 6 * g .nodeCount + 6 * edgeCount (whole g .edge) (whole g .nodes)
+unfolding visibleGroups superedgeCount leaders
 release-le g h =
     omega (
       arith,
       length-release g h,
-      length-groups (visible g) (visibleEdge g) (visible-simple g h) (visible-ascending g),
-      length-filter (λ p. eqb (least (visible g) (similar (visible g) (visibleEdge g)) p) p) (visible g),
+      length-groups (visible g) (visible-simple g h) (visible-ascending g),
+      length-filter (λ p. eqb (least (visible g .nodes) (similar (visible g)) p) p) (visible g .nodes),
       length-filter (isVisible g) (nodes (g .nodeCount)),
       length-nodes (g .nodeCount),
-      superedges-le-edges (visible g) (visibleEdge g) (visible-simple g h) (visible-ascending g),
+      superedges-le-edges (visible g) (visible-simple g h) (visible-ascending g),
       edgeCount-visible g,
     )

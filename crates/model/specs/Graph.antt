@@ -1,7 +1,9 @@
 -- Document 01, "What the index does": a graph (a bundle there) and its four limits.
 use mathlib.Core.Path.{_≡_}
 use mathlib.Core.Bool.{Bool, true, false}
+use mathlib.Core.List.{List}
 use Prim.Native.Nat.{ℕ, _≤_, _<_}
+use Rattle.model.specs.Lists.{nodes}
 
 -- the limits: persons, changes in a sheet, words in a row, numbers for a person
 abbrev pub maxNodes : ℕ
@@ -21,6 +23,15 @@ pub record Graph : Type 0 where
   pub nodeCount : ℕ
   pub edge : ℕ → ℕ → Bool
   pub hidden : ℕ → Bool
+
+-- nodes in ascending order and the edges between them, as seen: the whole graph's, or those of its visible part
+pub record View : Type 0 where
+  pub nodes : List ℕ
+  pub edge : ℕ → ℕ → Bool
+
+-- nodes 0 to nodeCount - 1 with all edges
+abbrev pub whole : Graph → View
+whole g = record { nodes = nodes (g .nodeCount); edge = g .edge }
 
 -- a new bundle
 unfoldable pub emptyGraph : ℕ → Graph

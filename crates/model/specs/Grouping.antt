@@ -1,27 +1,28 @@
 -- Document 01, "Grouping": Algorithm 1 of source document 002, kinds of groups, superedges and keys.
--- `vs` lists the nodes of a graph in ascending order, and `e p q` says whether there is an edge between p and q.
+-- `vs` lists nodes in ascending order, and `e p q` says whether there is an edge between p and q.
 use mathlib.Core.Bool.{Bool, true, false, not, _&&_, _||_, cond, Bool·beq}
 use mathlib.Core.List.{List, [], _∷_, _++_}
 use Prim.Native.Nat.{ℕ, _+_, _*_, _^_, _%_}
 use lib.Dec.{eqb, leb}
 use lib.ListN.{length}
 use Rattle.model.specs.Lists.{all, any, filter, member, headOr}
+use Rattle.model.specs.Graph.{View}
 
 -- r is in N+(p); that r is in N(p) is e p r itself
 unfoldable pub closed : (ℕ → ℕ → Bool) → ℕ → ℕ → Bool
 closed e p r = e p r || eqb p r
 
 -- N(p) = N(q)
-unfoldable pub falseTwins : List ℕ → (ℕ → ℕ → Bool) → ℕ → ℕ → Bool
-falseTwins vs e p q = all vs (λ r. Bool·beq (e p r) (e q r))
+unfoldable pub falseTwins : View → ℕ → ℕ → Bool
+falseTwins v p q = all (v .nodes) (λ r. Bool·beq (v .edge p r) (v .edge q r))
 
 -- N+(p) = N+(q)
-unfoldable pub trueTwins : List ℕ → (ℕ → ℕ → Bool) → ℕ → ℕ → Bool
-trueTwins vs e p q = all vs (λ r. Bool·beq (closed e p r) (closed e q r))
+unfoldable pub trueTwins : View → ℕ → ℕ → Bool
+trueTwins v p q = all (v .nodes) (λ r. Bool·beq (closed (v .edge) p r) (closed (v .edge) q r))
 
 -- Algorithm 1, line 6
-unfoldable pub similar : List ℕ → (ℕ → ℕ → Bool) → ℕ → ℕ → Bool
-similar vs e p q = falseTwins vs e p q || trueTwins vs e p q
+unfoldable pub similar : View → ℕ → ℕ → Bool
+similar v p q = falseTwins v p q || trueTwins v p q
 
 -- Algorithm 1, lines 3 to 8, for any relation r in the place of line 6: `us` are the nodes that the loop of line 3 has yet to
 -- come to, `done` those whose status is True.
@@ -35,8 +36,8 @@ greedy vs r (u ∷ us) done =
           s ∷ greedy vs r us (s ++ done)
     ]
 
-unfoldable pub algorithm1 : List ℕ → (ℕ → ℕ → Bool) → List (List ℕ)
-algorithm1 vs e = greedy vs (similar vs e) vs []
+unfoldable pub algorithm1 : View → List (List ℕ)
+algorithm1 v = greedy (v .nodes) (similar v) (v .nodes) []
 
 -- the group of p among the nodes vs, where r says who shares a group; its least member; the nodes that are the least of theirs
 unfoldable pub group : List ℕ → (ℕ → ℕ → Bool) → ℕ → List ℕ
@@ -75,8 +76,8 @@ unfoldable pub sumCubes : List ℕ → ℕ
 sumCubes [] = 0
 sumCubes (q ∷ qs) = cube q + sumCubes qs
 
-unfoldable pub openKey : List ℕ → (ℕ → ℕ → Bool) → ℕ → ℕ
-openKey vs e p = sumCubes (filter (e p) vs) % 2 ^ 32
+unfoldable pub openKey : View → ℕ → ℕ
+openKey v p = sumCubes (filter (v .edge p) (v .nodes)) % 2 ^ 32
 
-unfoldable pub closedKey : List ℕ → (ℕ → ℕ → Bool) → ℕ → ℕ
-closedKey vs e p = (sumCubes (filter (e p) vs) + cube p) % 2 ^ 32
+unfoldable pub closedKey : View → ℕ → ℕ
+closedKey v p = (sumCubes (filter (v .edge p) (v .nodes)) + cube p) % 2 ^ 32

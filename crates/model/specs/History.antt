@@ -8,82 +8,85 @@ use lib.IntN.{ℤ}
 use lib.ListN.{length}
 use Rattle.model.specs.Graph.{Graph, emptyGraph}
 use Rattle.model.specs.Tables.{Tables, graphOf, holds}
-use Rattle.model.specs.Refusals.{Reasons, firstOf, Lengths, lengths, wrongSize}
-use Rattle.model.specs.Updates.{updateCount, wrongBatch, inThrees, batchGraph, answers}
+use Rattle.model.specs.Refusals.{Lengths, judged, lengths, wrongSize}
+use Rattle.model.specs.Steps.{Stepped, run}
+use Rattle.model.specs.Updates.{answers, batchGraph, updateCount, updatesIn, wrongBatch}
 use Rattle.model.specs.Release.{isVisible}
-use Rattle.model.specs.Calls.{judged, onto, openCall, applyCall}
+use Rattle.model.specs.Calls.{Applied, Opened, applyCall, onto, openCall}
+
+-- what calls find and leave
+pub record State : Type 0 where
+  pub tables : Tables
 
 -- a call of a history by its arguments: an opening for n; a batch for n, with its numbers and the answer buffer
 pub data Call : Type 0 where
   opening : ℕ → Call
   batch : ℕ → List ℕ → List ℤ → Call
 
--- what a call gives back beside the tables; an opening has no answers
+-- what a call gives back; an opening has no answers
 pub record Outcome : Type 0 where
   pub result : ℕ
   pub answers : List ℤ
 
--- each call finds the tables as the last one left them
-unfoldable pub tablesAfter : Tables → Call → Tables
-tablesAfter t (opening n) = openCall n t .tables
-tablesAfter t (batch n xs out) = applyCall n t xs out .tables
+abbrev pub openStep : Opened → Stepped State Outcome
+openStep o = record { outcome = record { result = o .result; answers = [] }; after = record { tables = o .tables } }
 
-unfoldable pub outcome : Tables → Call → Outcome
-outcome t (opening n) = record { result = openCall n t .result; answers = [] }
-outcome t (batch n xs out) = record { result = applyCall n t xs out .result; answers = applyCall n t xs out .answers }
+abbrev pub applyStep : Applied → Stepped State Outcome
+applyStep a = record { outcome = record { result = a .result; answers = a .answers }; after = record { tables = a .tables } }
 
-unfoldable pub history : Tables → List Call → Tables
-history t [] = t
-history t (c ∷ cs) = history (tablesAfter t c) cs
+-- each call finds what the last one left
+unfoldable pub callStep : State → Call → Stepped State Outcome
+callStep s (opening n) = openStep (openCall n (s .tables))
+callStep s (batch n xs out) = applyStep (applyCall n (s .tables) xs out)
 
-unfoldable pub outcomes : Tables → List Call → List Outcome
-outcomes t [] = []
-outcomes t (c ∷ cs) = outcome t c ∷ outcomes (tablesAfter t c) cs
+-- what the plain side knows; before the first opening, nothing
+pub record Plain : Type 0 where
+  pub graph : Graph
 
--- the plain graph is fed the calls' arguments only; of tables and answer buffers it knows the lengths, so 12 never arises
-unfoldable pub plainReasons : Lengths → Call → Reasons
-plainReasons l (opening n) = (wrongSize n l, 11) ∷ []
-plainReasons l (batch n xs out) =
-    (wrongSize n l || wrongBatch xs, 11)
-    ∷ (ltb (length out) (updateCount xs), 18)
-    ∷ []
+abbrev pub unopened : Plain
+unopened = record { graph = emptyGraph 0 }
 
-unfoldable pub plainAfter : Lengths → Graph → Call → Graph
-plainAfter l g (opening n) = judged (plainReasons l (opening n)) (λ r. g) (emptyGraph n)
-plainAfter l g (batch n xs out) = judged (plainReasons l (batch n xs out)) (λ r. g) (batchGraph g (inThrees xs))
+abbrev pub plainRefused : Plain → List ℤ → ℕ → Stepped Plain Outcome
+plainRefused p out r = record { outcome = record { result = r; answers = out }; after = p }
 
-unfoldable pub plainOutcome : Lengths → Graph → Call → Outcome
-plainOutcome l g (opening n) = record { result = firstOf (plainReasons l (opening n)); answers = [] }
-plainOutcome l g (batch n xs out) =
-    judged (plainReasons l (batch n xs out))
-    (λ r. record { result = r; answers = out })
-    (record { result = 0; answers = onto (answers g (inThrees xs)) out })
-
-unfoldable pub plain : Lengths → Graph → List Call → Graph
-plain l g [] = g
-plain l g (c ∷ cs) = plain l (plainAfter l g c) cs
-
-unfoldable pub plainOutcomes : Lengths → Graph → List Call → List Outcome
-plainOutcomes l g [] = []
-plainOutcomes l g (c ∷ cs) = plainOutcome l g c ∷ plainOutcomes l (plainAfter l g c) cs
+-- it is fed the calls' arguments only; of tables and answer buffers it knows the lengths, so 12 never arises
+unfoldable pub plainStep : Lengths → Plain → Call → Stepped Plain Outcome
+plainStep l p (opening n) =
+    judged ((wrongSize n l, 11) ∷ []) (plainRefused p [])
+    (record { outcome = record { result = 0; answers = [] }; after = record { graph = emptyGraph n } })
+plainStep l p (batch n xs out) =
+    judged
+    ((wrongSize n l || wrongBatch xs, 11) ∷ (ltb (length out) (updateCount xs), 18) ∷ [])
+    (plainRefused p out)
+    (record {
+      outcome = record { result = 0; answers = onto (answers (p .graph) (updatesIn xs)) out };
+      after = record { graph = batchGraph (p .graph) (updatesIn xs) };
+    })
 
 -- where tables come from: a history whose first call is an opening that is done, or handed in from elsewhere, holding a graph
 pub data Source : Type 0 where
-  byHistory : (t : Tables) (n : ℕ) (cs : List Call) → openCall n t .result ≡ 0 → Source
+  byHistory : (s : State) (n : ℕ) (cs : List Call) → callStep s (opening n) .outcome .result ≡ 0 → Source
   handedIn : (t : Tables) (n : ℕ) → wrongSize n (lengths t) ≡ false → holds n t ≡ true → Source
+
+-- its history, and the plain side of it
+abbrev pub history : State → ℕ → List Call → Stepped State (List Outcome)
+history s n cs = run callStep s (opening n ∷ cs)
+
+abbrev pub plain : State → ℕ → List Call → Stepped Plain (List Outcome)
+plain s n cs = run (plainStep (lengths (s .tables))) unopened (opening n ∷ cs)
 
 -- its tables, and its plain graph: of tables handed in, read off the edge bits and marks
 abbrev pub tablesOfSource : Source → Tables
-tablesOfSource (byHistory t n cs ok) = history t (opening n ∷ cs)
+tablesOfSource (byHistory s n cs ok) = history s n cs .after .tables
 tablesOfSource (handedIn t n w h) = t
 
 abbrev pub graphOfSource : Source → Graph
-graphOfSource (byHistory t n cs ok) = plain (lengths t) (emptyGraph n) cs
+graphOfSource (byHistory s n cs ok) = plain s n cs .after .graph
 graphOfSource (handedIn t n w h) = graphOf n t
 
 -- every call of its history gave the number and the answers that the plain graph tells
 abbrev pub CallsTold : Source → Type 0
-CallsTold (byHistory t n cs ok) = outcomes (tablesAfter t (opening n)) cs ≡ plainOutcomes (lengths t) (emptyGraph n) cs
+CallsTold (byHistory s n cs ok) = history s n cs .outcome ≡ plain s n cs .outcome
 CallsTold (handedIn t n w h) = Unit {0}
 
 -- equally many nodes, the same ones hidden, and the same edges among the rest

@@ -1,6 +1,6 @@
 -- After a history the tables hold its plain graph, and each call gave the number and the answers that the plain graph tells.
 use mathlib.Core.Path.{_≡_, refl, sym, ap, ap₂, _∙_}
-use mathlib.Core.Bool.{true, false, not, _||_, cond}
+use mathlib.Core.Bool.{true, false, not, _||_}
 use mathlib.Core.List.{List, [], _∷_}
 use mathlib.Core.Logic.{_⊎_, inl, inr}
 use Prim.Native.Nat.{ℕ, _*_, _≤_}
@@ -11,14 +11,16 @@ use lib.ListN.{length}
 use borrow.Author.Tests.{eqb-true, eq-eqb, ltb-false, le-ltb, not-false}
 use Rattle.model.specs.Graph.{Graph, Proper, emptyGraph, maxNodes, nodeNumbers, rowWords}
 use Rattle.model.specs.Tables.{Tables, graphOf, holds, tablesOf}
-use Rattle.model.specs.Refusals.{Lengths, firstOf, lengths, wrongSize}
-use Rattle.model.specs.Updates.{Update, answers, batchGraph, inThrees, updateCount, wrongBatch}
-use Rattle.model.specs.Calls.{Applied, Opened, applyCall, applyReasons, onto, openCall, openReasons}
-use Rattle.model.specs.History.{Call, Outcome, batch, history, opening, outcome, outcomes, plain, plainAfter, plainOutcome, plainOutcomes, plainReasons, tablesAfter}
+use Rattle.model.specs.Refusals.{Lengths, Reasons, firstOf, lengths, wrongSize}
+use Rattle.model.specs.Steps.{run}
+use Rattle.model.specs.Updates.{answers, batchGraph, updateCount, updatesIn, wrongBatch}
+use Rattle.model.specs.Calls.{Opened, applyCall, applyReasons, applyRefused, onto, openCall, openReasons, openRefused}
+use Rattle.model.specs.History.{Call, Plain, State, applyStep, batch, callStep, history, openStep, opening, plain, plainRefused, plainStep, unopened}
 use Rattle.model.specs.TestLaws.{decide, or-none}
 use Rattle.model.specs.TableLaws.{length-edges, length-keys, length-nodes-of, proper-holds, read-back}
-use Rattle.model.specs.UpdateLaws.{first-none, proper-batch, proper-empty}
-use Rattle.model.specs.CallLaws.{judged-result}
+use Rattle.model.specs.UpdateLaws.{proper-batch, proper-empty}
+use Rattle.model.specs.RefusalLaws.{first-none, judged-related, judged-result}
+use Rattle.model.specs.StepLaws.{Matched, run-matched}
 
 -- tables of a graph have the right lengths
 abbrev pub lengthsFor : ℕ → Lengths
@@ -50,108 +52,112 @@ pub record Kept (l : Lengths) (g : Graph) (t : Tables) : Type 0 where
   pub proper : Proper g
   pub fits : l ≡ lengthsFor (g .nodeCount)
 
-module _ (l : Lengths) (g : Graph) (t : Tables) (h : Kept l g t) where
-  lengths-t : lengths t ≡ l
-  lengths-t = ap lengths (h .tables) ∙ lengths-of g ∙ sym (h .fits)
+-- what a new graph's opening leaves
+opening-kept : (n : ℕ) (l : Lengths) → firstOf ((wrongSize n l, 11) ∷ []) ≡ 0 → Kept l (emptyGraph n) (tablesOf (emptyGraph n))
+opening-kept n l ok =
+    let s = right-size n l (first-none (wrongSize n l) 11 [] refl ok .0) in
+    record { tables = refl; proper = proper-empty n (s .0); fits = s .1 ∙ unfold emptyGraph in refl }
 
-  same-n : (n : ℕ) → wrongSize n l ≡ false → n ≡ g .nodeCount
-  same-n n w = let a : l .edges ≡ rowWords * n = ap (λ (x : Lengths). x .edges) (right-size n l w .1) in let z : l .edges ≡ rowWords * g .nodeCount = ap (λ (x : Lengths). x .edges) (h .fits) in omega arith
+-- what calls find and leave agrees with what the plain side knows
+pub record Agrees (l : Lengths) (s : State) (p : Plain) : Type 0 where
+  pub tables : Kept l (p .graph) (s .tables)
 
-  graph-t : graphOf (g .nodeCount) t ≡ g
-  graph-t = ap (graphOf (g .nodeCount)) (h .tables) ∙ read-back g (h .proper)
+module _ (l : Lengths) (s : State) (p : Plain) (h : Agrees l s p) where
+  abbrev g : Graph
+  g = p .graph
 
-  -- what is to be shown of a call: the tables that it leaves, and what it gives back
-  abbrev pub Told : Call → Type 0
-  Told c = Kept l (plainAfter l g c) (tablesAfter t c) × (outcome t c ≡ plainOutcome l g c)
+  abbrev t : Tables
+  t = s .tables
+
+  lengths-t : lengths (s .tables) ≡ l
+  lengths-t = ap lengths (h .tables .tables) ∙ lengths-of g ∙ sym (h .tables .fits)
+
+  same-n : (n : ℕ) → wrongSize n l ≡ false → n ≡ p .graph .nodeCount
+  same-n n w =
+      let a : l .edges ≡ rowWords * n = ap (λ (x : Lengths). x .edges) (right-size n l w .1) in
+      let z : l .edges ≡ rowWords * p .graph .nodeCount = ap (λ (x : Lengths). x .edges) (h .tables .fits) in
+      omega arith
+
+  graph-t : graphOf (p .graph .nodeCount) (s .tables) ≡ p .graph
+  graph-t = ap (graphOf (g .nodeCount)) (h .tables .tables) ∙ read-back g (h .tables .proper)
+
+  -- what is to be shown of a call
+  abbrev Told : Call → Type 0
+  Told c = Matched (Agrees l) (callStep s c) (plainStep l p c)
 
   opening-told : (n : ℕ) → Told (opening n)
-  unfolding tablesAfter outcome openCall openReasons plainAfter plainOutcome plainReasons
-  opening-told n = rw (lengths-t, tablesAfter) (step (decide (eqb (firstOf ((wrongSize n l, 11) ∷ [])) 0)))
-    where
-      r : ℕ
-      r = firstOf ((wrongSize n l, 11) ∷ [])
+  unfolding callStep plainStep openCall openReasons
+  opening-told n =
+      judged-related (λ o x. Matched (Agrees l) (openStep o) x)
+      ((wrongSize n (lengths t), 11) ∷ []) ((wrongSize n l, 11) ∷ []) (openRefused t) (plainRefused p []) _ _
+      (ap (λ (k : Lengths). firstOf ((wrongSize n k, 11) ∷ [])) lengths-t)
+      (λ z. (h, refl))
+      (λ ok. (record { tables = opening-kept n l ok }, refl))
 
-      opened : Opened
-      opened = cond (eqb r 0) (record { result = 0; tables = tablesOf (emptyGraph n) }) (record { result = r; tables = t })
-
-      step : (eqb r 0 ≡ true) ⊎ (eqb r 0 ≡ false)
-          → Kept l (cond (eqb r 0) (emptyGraph n) g) (opened .tables) × (_≡_ {A = Outcome} (record { result = opened .result; answers = [] }) (record { result = r; answers = [] }))
-      step (inl x) =
-          let w = first-none (wrongSize n l) 11 [] refl (eqb-true r 0 x) .0 in
-          rw x (
-            record { tables = refl; proper = proper-empty n (right-size n l w .0); fits = right-size n l w .1 ∙ unfold emptyGraph in refl },
-            ap (λ (k : ℕ). record { result = k; answers = [] }) (sym (eqb-true r 0 x)),
-          )
-      step (inr x) = rw x (h, refl)
+  -- why a batch is refused, as the plain side knows it
+  abbrev plainReasons : ℕ → List ℕ → List ℤ → Reasons
+  plainReasons n xs out = (wrongSize n l || wrongBatch xs, 11) ∷ (ltb (length out) (updateCount xs), 18) ∷ []
 
   -- with the right n, 12 never arises
-  batch-refusal : (n : ℕ) (xs : List ℕ) (out : List ℤ) → firstOf (applyReasons n t xs out) ≡ firstOf (plainReasons l (batch n xs out))
-  unfolding applyReasons plainReasons firstOf
+  batch-refusal : (n : ℕ) (xs : List ℕ) (out : List ℤ)
+      → firstOf (applyReasons n (s .tables) xs out) ≡ firstOf (plainReasons n xs out)
+  unfolding applyReasons firstOf
   batch-refusal n xs out = rw lengths-t (step (decide (wrongSize n l)))
     where
       step : (wrongSize n l ≡ true) ⊎ (wrongSize n l ≡ false)
           → firstOf ((wrongSize n l || wrongBatch xs, 11) ∷ (not (holds n t), 12) ∷ (ltb (length out) (updateCount xs), 18) ∷ [])
-          ≡ firstOf ((wrongSize n l || wrongBatch xs, 11) ∷ (ltb (length out) (updateCount xs), 18) ∷ [])
+          ≡ firstOf (plainReasons n xs out)
       step (inl w) = rw w
-      step (inr w) = rw (ap₂ holds (same-n n w) (h .tables) ∙ proper-holds g (h .proper))
-
-  batch-right : (n : ℕ) (xs : List ℕ) (out : List ℤ) → firstOf (plainReasons l (batch n xs out)) ≡ 0 → n ≡ g .nodeCount
-  unfolding plainReasons
-  batch-right n xs out ok = same-n n (or-none (wrongSize n l) _ (first-none _ 11 _ refl ok .0) .0)
+      step (inr w) = rw (ap₂ holds (same-n n w) (h .tables .tables) ∙ proper-holds g (h .tables .proper))
 
   batch-told : (n : ℕ) (xs : List ℕ) (out : List ℤ) → Told (batch n xs out)
-  unfolding tablesAfter outcome applyCall plainAfter plainOutcome
-  batch-told n xs out = rw (batch-refusal n xs out, tablesAfter) (step (decide (eqb r 0)))
+  unfolding callStep plainStep applyCall
+  batch-told n xs out =
+      judged-related (λ a x. Matched (Agrees l) (applyStep a) x)
+      (applyReasons n t xs out) (plainReasons n xs out) (applyRefused t out) (plainRefused p out) _ _
+      (batch-refusal n xs out)
+      (λ z. (h, refl))
+      done
     where
-      r : ℕ
-      r = firstOf (plainReasons l (batch n xs out))
-
-      cs : List Update
-      cs = inThrees xs
-
-      applied : Applied
-      applied = cond (eqb r 0) (record { result = 0; tables = tablesOf (batchGraph (graphOf n t) cs); answers = onto (answers (graphOf n t) cs) out }) (record { result = r; tables = t; answers = out })
-
-      plainly : Outcome
-      plainly = cond (eqb r 0) (record { result = 0; answers = onto (answers g cs) out }) (record { result = r; answers = out })
-
-      step : (eqb r 0 ≡ true) ⊎ (eqb r 0 ≡ false)
-          → Kept l (cond (eqb r 0) (batchGraph g cs) g) (applied .tables) × (_≡_ {A = Outcome} (record { result = applied .result; answers = applied .answers }) plainly)
-      step (inl x) =
-          let q : graphOf n t ≡ g = ap (λ (k : ℕ). graphOf k t) (batch-right n xs out (eqb-true r 0 x)) ∙ graph-t in
-          let s = proper-batch cs g (h .proper) in
-          rw x (
+      done : firstOf (plainReasons n xs out) ≡ 0
+          → Matched (Agrees l)
+          (applyStep (record { result = 0; tables = tablesOf (batchGraph (graphOf n t) (updatesIn xs)); answers = onto (answers (graphOf n t) (updatesIn xs)) out }))
+          (record { outcome = record { result = 0; answers = onto (answers g (updatesIn xs)) out }; after = record { graph = batchGraph g (updatesIn xs) } })
+      done ok =
+          let w = or-none (wrongSize n l) _ (first-none _ 11 _ refl ok .0) .0 in
+          let q : graphOf n t ≡ g = ap (λ (k : ℕ). graphOf k t) (same-n n w) ∙ graph-t in
+          let k = proper-batch (updatesIn xs) g (h .tables .proper) in (
             record {
-              tables = ap (λ (d : Graph). tablesOf (batchGraph d cs)) q;
-              proper = s .0;
-              fits = h .fits ∙ ap lengthsFor (sym (s .1));
+              tables = record {
+                tables = ap (λ (d : Graph). tablesOf (batchGraph d (updatesIn xs))) q;
+                proper = k .0;
+                fits = h .tables .fits ∙ ap lengthsFor (sym (k .1));
+              };
             },
-            ap (λ (d : Graph). record { result = 0; answers = onto (answers d cs) out }) q,
+            ap (λ (d : Graph). record { result = 0; answers = onto (answers d (updatesIn xs)) out }) q,
           )
-      step (inr x) = rw x (h, refl)
 
-  pub call-told : (c : Call) → Told c
-  call-told (opening n) = opening-told n
-  call-told (batch n xs out) = batch-told n xs out
+pub call-told : (l : Lengths) (s : State) (p : Plain) (c : Call) → Agrees l s p → Matched (Agrees l) (callStep s c) (plainStep l p c)
+call-told l s p (opening n) h = opening-told l s p h n
+call-told l s p (batch n xs out) h = batch-told l s p h n xs out
 
-pub calls-told : (l : Lengths) (cs : List Call) (g : Graph) (t : Tables) → Kept l g t → Kept l (plain l g cs) (history t cs) × (outcomes t cs ≡ plainOutcomes l g cs)
-unfolding plain history outcomes plainOutcomes
-calls-told l [] g t h = (h, refl)
-calls-told l (c ∷ cs) g t h =
-    let k = call-told l g t h c in
-    let r = calls-told l cs (plainAfter l g c) (tablesAfter t c) (k .0) in
-    (r .0, ap₂ _∷_ (k .1) (r .1))
+-- the first call, an opening that is done
+first-told : (s : State) (p : Plain) (n : ℕ) → callStep s (opening n) .outcome .result ≡ 0 → Matched (Agrees (lengths (s .tables))) (callStep s (opening n)) (plainStep (lengths (s .tables)) p (opening n))
+unfolding callStep plainStep openCall openReasons
+first-told s p n ok =
+    let l : Lengths = lengths (s .tables) in
+    let rs : Reasons = (wrongSize n l, 11) ∷ [] in
+    let z : firstOf rs ≡ 0 = sym (judged-result (λ (o : Opened). o .result) rs (openRefused (s .tables)) (record { result = 0; tables = tablesOf (emptyGraph n) }) (λ r. refl) refl) ∙ ok in
+    judged-related (λ o x. Matched (Agrees l) (openStep o) x)
+    rs rs (openRefused (s .tables)) (plainRefused p []) _ _ refl
+    (λ d. absurd (d z))
+    (λ d. (record { tables = opening-kept n l d }, refl))
 
--- an opening that is done makes the tables of a new graph
-pub opening-kept : (t : Tables) (n : ℕ) → openCall n t .result ≡ 0 → Kept (lengths t) (emptyGraph n) (tablesAfter t (opening n))
-unfolding tablesAfter openCall openReasons
-opening-kept t n ok =
-    let r : firstOf ((wrongSize n (lengths t), 11) ∷ []) ≡ 0 = sym (judged-result ((wrongSize n (lengths t), 11) ∷ []) (λ k. record { result = k; tables = t }) (record { result = 0; tables = tablesOf (emptyGraph n) }) (λ (o : Opened). o .result) refl (λ k. refl)) ∙ ok in
-    let s = right-size n (lengths t) (first-none (wrongSize n (lengths t)) 11 [] refl r .0) in
-    rw (eq-eqb (firstOf ((wrongSize n (lengths t), 11) ∷ [])) 0 r, tablesAfter) (record { tables = refl; proper = proper-empty n (s .0); fits = s .1 ∙ unfold emptyGraph in refl })
-
--- a history begins with an opening that is done
-pub after-history : (t : Tables) (n : ℕ) (cs : List Call) → openCall n t .result ≡ 0
-    → Kept (lengths t) (plain (lengths t) (emptyGraph n) cs) (history t (opening n ∷ cs)) × (outcomes (tablesAfter t (opening n)) cs ≡ plainOutcomes (lengths t) (emptyGraph n) cs)
-unfolding history
-after-history t n cs ok = calls-told (lengths t) cs (emptyGraph n) (tablesAfter t (opening n)) (opening-kept t n ok)
+-- a whole history
+pub history-told : (s : State) (n : ℕ) (cs : List Call) → callStep s (opening n) .outcome .result ≡ 0 → Matched (Agrees (lengths (s .tables))) (history s n cs) (plain s n cs)
+unfolding run
+history-told s n cs ok =
+    let l : Lengths = lengths (s .tables) in
+    let k = first-told s unopened n ok in
+    let m = run-matched (Agrees l) callStep (plainStep l) (λ x p c. call-told l x p c) cs (callStep s (opening n) .after) (plainStep l unopened (opening n) .after) (k .0) in
+    (m .0, ap₂ _∷_ (k .1) (m .1))

@@ -4,6 +4,7 @@ pub mod Grouping
 pub mod Summary
 pub mod Tables
 pub mod Refusals
+pub mod Steps
 pub mod Updates
 pub mod Queries
 pub mod Release
@@ -12,6 +13,8 @@ pub mod Calls
 pub mod History
 pub mod Program
 pub mod TestLaws
+pub mod RefusalLaws
+pub mod StepLaws
 pub mod ListLaws
 pub mod TwinLaws
 pub mod ClassLaws
@@ -21,7 +24,6 @@ pub mod TableLaws
 pub mod ReleaseLaws
 pub mod BoundLaws
 pub mod UpdateLaws
-pub mod CallLaws
 pub mod HistoryLaws
 pub mod ReadingLaws
 pub mod ReadBackLaws

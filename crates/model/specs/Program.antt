@@ -11,7 +11,7 @@ use Rattle.model.specs.Lists.{all, concat, headOr, sameList}
 use Rattle.model.specs.Graph.{Graph, emptyGraph, maxNodes, maxUpdates}
 use Rattle.model.specs.Grouping.{kindOf}
 use Rattle.model.specs.Updates.{Update, batchGraph, answers}
-use Rattle.model.specs.Release.{visible, visibleEdge, visibleGroups, superedges, kindByte}
+use Rattle.model.specs.Release.{visible, visibleGroups, superedges, kindByte}
 
 -- input longer than this is refused; the release buffer has as many bytes
 abbrev pub maxBytes : ℕ
@@ -150,8 +150,8 @@ superedgeLine ij = text "J" ++ (spaced (ij .0) ++ (spaced (ij .1) ++ text "\n"))
 unfoldable pub releaseLines : Graph → List ℕ
 releaseLines g =
     let gs : List (List ℕ) = visibleGroups g in
-    let js : List (ℕ × ℕ) = superedges (visibleEdge g) 0 gs in
-    openLine (length (visible g)) (length gs) (length js) ++ (concat (map (groupLine (visibleEdge g)) gs) ++ concat (map superedgeLine js))
+    let js : List (ℕ × ℕ) = superedges (visible g .edge) 0 gs in
+    openLine (length (visible g .nodes)) (length gs) (length js) ++ (concat (map (groupLine (visible g .edge)) gs) ++ concat (map superedgeLine js))
 
 unfoldable pub printed : Input → List ℕ
 printed (refusedAt k) = refusedLine k

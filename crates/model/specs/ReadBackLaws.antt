@@ -23,12 +23,11 @@ pub visible-inside : (b : Graph) (p : ℕ) → isVisible b p ≡ true → p < b 
 unfolding isVisible
 visible-inside b p t = ltb-true p (b .nodeCount) (and-fst (ltb p (b .nodeCount)) (not (b .hidden p)) t)
 
-pub member-visible : (b : Graph) (p : ℕ) → member p (visible b) ≡ isVisible b p
-unfolding visible
+pub member-visible : (b : Graph) (p : ℕ) → member p (visible b .nodes) ≡ isVisible b p
 member-visible b p = iff-eq (member p (filter (isVisible b) (nodes (b .nodeCount)))) (isVisible b p) (λ t. filter-elim (isVisible b) (nodes (b .nodeCount)) p (member-elim p (filter (isVisible b) (nodes (b .nodeCount))) t) .1) (λ t. member-intro p _ (filter-intro (isVisible b) (nodes (b .nodeCount)) p (nodes-in (b .nodeCount) p (visible-inside b p t)) t))
 
 module _ (b : Graph) (h : Proper b) where
-  edge-back : (p q : ℕ) → (member p (visible b) && (member q (visible b) && visibleEdge b p q)) ≡ visibleEdge b p q
+  edge-back : (p q : ℕ) → (member p (visible b .nodes) && (member q (visible b .nodes) && visible b .edge p q)) ≡ visible b .edge p q
   unfolding visibleEdge
   edge-back p q = rw (member-visible b p, member-visible b q) (twice (isVisible b p) (isVisible b q) (b .edge p q))
     where
@@ -37,7 +36,7 @@ module _ (b : Graph) (h : Proper b) where
       twice true false t = refl
       twice false y t = refl
 
-  held-back : (p : ℕ) → (ltb p (b .nodeCount) && not (member p (visible b))) ≡ (ltb p (b .nodeCount) && b .hidden p)
+  held-back : (p : ℕ) → (ltb p (b .nodeCount) && not (member p (visible b .nodes))) ≡ (ltb p (b .nodeCount) && b .hidden p)
   held-back p = rw (member-visible b p) (unfold isVisible in flip (ltb p (b .nodeCount)) (b .hidden p))
     where
       flip : (x w : Bool) → (x && not (x && not w)) ≡ (x && w)
@@ -48,11 +47,11 @@ module _ (b : Graph) (h : Proper b) where
   pub decode-release : decode (release b) ≡ visiblePart b
   unfolding release visiblePart graphBy decode
   decode-release =
-      ap₂ graphBy (count-encode (b .nodeCount) (visible b) (visibleEdge b) (algorithm1 (visible b) (visibleEdge b))) (summary-encode (b .nodeCount) (visible b) (visibleEdge b) (algorithm1 (visible b) (visibleEdge b)))
+      ap₂ graphBy (count-encode (b .nodeCount) (visible b) (algorithm1 (visible b))) (summary-encode (b .nodeCount) (visible b) (algorithm1 (visible b)))
       ∙ (λ i. record {
         nodeCount = b .nodeCount;
-        edge = fun-ext (λ p. fun-ext (λ q. read-edge (visible b) (visibleEdge b) (visible-simple b h) (visible-ascending b) p q ∙ edge-back p q)) i;
-        hidden = fun-ext (λ p. ap (λ (t : Bool). ltb p (b .nodeCount) && not t) (read-placed (visible b) (visibleEdge b) (visible-simple b h) (visible-ascending b) p) ∙ held-back p) i;
+        edge = fun-ext (λ p. fun-ext (λ q. read-edge (visible b) (visible-simple b h) (visible-ascending b) p q ∙ edge-back p q)) i;
+        hidden = fun-ext (λ p. ap (λ (t : Bool). ltb p (b .nodeCount) && not t) (read-placed (visible b) (visible-simple b h) (visible-ascending b) p) ∙ held-back p) i;
       })
 
 -- the visible part is alike, and proper where the graph is simple

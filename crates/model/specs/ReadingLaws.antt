@@ -10,6 +10,7 @@ use lib.ListN.{length, getD, drop}
 use lib.Seq.{drop-at}
 use borrow.Author.Tests.{eqb-true, eqb-false, eq-eqb, ne-eqb, ltb-true, ltb-false, lt-ltb}
 use Rattle.model.specs.Lists.{_∈_, concat, member}
+use Rattle.model.specs.Graph.{View}
 use Rattle.model.specs.Grouping.{Kind, adjacent, algorithm1, clique, group, independent, isClique, kindOf, leaders, similar, singleton}
 use Rattle.model.specs.Summary.{Summarises, Summary, position, reconstruct, summaryOf}
 use Rattle.model.specs.Release.{encode, endRecord, groupRecord, headRecord, kindByte, superedgeRecord, superedges, superedgesFrom, u16}
@@ -34,9 +35,9 @@ u16s-back (x ∷ xs) r = ap₂ _∷_ (omega arith) (u16s-back xs r)
 u16s-rest : (l r : List ℕ) → drop (2 * length l) (concat (map u16 l) ++ r) ≡ r
 u16s-rest l r = drop-at (concat (map u16 l)) r (2 * length l) (length-u16s l)
 
-module _ (e : ℕ → ℕ → Bool) where
+module _ (v : View) where
   abbrev pub marked : List ℕ → Bool × List ℕ
-  marked g = (isClique (kindOf e g), g)
+  marked g = (isClique (kindOf (v .edge) g), g)
 
   mark-back : (k : Kind) → eqb (kindByte k) 0x43 ≡ isClique k
   unfolding kindByte isClique
@@ -45,39 +46,39 @@ module _ (e : ℕ → ℕ → Bool) where
   mark-back clique = refl
 
   -- one group record, before whatever follows
-  pub count-back : (g r : List ℕ) → u16At (groupRecord e g ++ r) 2 ≡ length g
+  pub count-back : (g r : List ℕ) → u16At (groupRecord v g ++ r) 2 ≡ length g
   unfolding groupRecord u16At u16
   count-back g r = omega arith
 
-  pub body : (g r : List ℕ) → drop 4 (groupRecord e g ++ r) ≡ concat (map u16 g) ++ r
+  pub body : (g r : List ℕ) → drop 4 (groupRecord v g ++ r) ≡ concat (map u16 g) ++ r
   unfolding groupRecord u16
   body g r = refl
 
-  first : (g r : List ℕ) → eqb (getD (groupRecord e g ++ r) 1 0) 0x43 ≡ isClique (kindOf e g)
+  first : (g r : List ℕ) → eqb (getD (groupRecord v g ++ r) 1 0) 0x43 ≡ isClique (kindOf (v .edge) g)
   unfolding groupRecord
-  first g r = mark-back (kindOf e g)
+  first g r = mark-back (kindOf (v .edge) g)
 
-  pub next : (g r : List ℕ) → drop (2 * u16At (groupRecord e g ++ r) 2) (drop 4 (groupRecord e g ++ r)) ≡ r
+  pub next : (g r : List ℕ) → drop (2 * u16At (groupRecord v g ++ r) 2) (drop 4 (groupRecord v g ++ r)) ≡ r
   next g r = rw (count-back g r, body g r) (u16s-rest g r)
 
-  pub groups-back : (gs : List (List ℕ)) (r : List ℕ) → groupsAt (length gs) (concat (map (groupRecord e) gs) ++ r) ≡ map marked gs
+  pub groups-back : (gs : List (List ℕ)) (r : List ℕ) → groupsAt (length gs) (concat (map (groupRecord v) gs) ++ r) ≡ map marked gs
   unfolding groupsAt concat
   groups-back [] r = refl
   groups-back (g ∷ gs) r =
-      rw (append-assoc (groupRecord e g) (concat (map (groupRecord e) gs)) r)
+      rw (append-assoc (groupRecord v g) (concat (map (groupRecord v) gs)) r)
       (ap₂ _∷_
       (ap₂ (λ (b : Bool) (l : List ℕ). (b, l)) (first g rest) (rw (count-back g rest, body g rest) (u16s-back g rest)))
       (ap (groupsAt (length gs)) (next g rest) ∙ groups-back gs r))
     where
       rest : List ℕ
-      rest = concat (map (groupRecord e) gs) ++ r
+      rest = concat (map (groupRecord v) gs) ++ r
 
-  pub groups-after : (gs : List (List ℕ)) (r : List ℕ) → afterGroups (length gs) (concat (map (groupRecord e) gs) ++ r) ≡ r
+  pub groups-after : (gs : List (List ℕ)) (r : List ℕ) → afterGroups (length gs) (concat (map (groupRecord v) gs) ++ r) ≡ r
   unfolding afterGroups concat
   groups-after [] r = refl
   groups-after (g ∷ gs) r =
-      rw (append-assoc (groupRecord e g) (concat (map (groupRecord e) gs)) r)
-      (ap (afterGroups (length gs)) (next g (concat (map (groupRecord e) gs) ++ r)) ∙ groups-after gs r)
+      rw (append-assoc (groupRecord v g) (concat (map (groupRecord v) gs)) r)
+      (ap (afterGroups (length gs)) (next g (concat (map (groupRecord v) gs) ++ r)) ∙ groups-after gs r)
 
 pub superedges-back : (js : List (ℕ × ℕ)) (k : ℕ) → length js ≤ k → superedgesAt k (concat (map superedgeRecord js) ++ endRecord) ≡ js
 unfolding superedgesAt concat superedgeRecord endRecord u16At u16
@@ -170,29 +171,29 @@ position-out p (g ∷ gs) l = step (position-out p gs) (decide (member p g)) l
         less : member p g ≡ false → cond (member p g) 0 (suc (position p gs)) < suc (length gs) → position p gs < length gs
         less t k = let z : suc (position p gs) < suc (length gs) = rw t at k in omega arith
 
-module _ (vs : List ℕ) (e : ℕ → ℕ → Bool) (g : Simple vs e) (asc : Ascending vs) where
+module _ (v : View) (g : Simple v) (asc : Ascending (v .nodes)) where
   abbrev gs : List (List ℕ)
-  gs = algorithm1 vs e
+  gs = algorithm1 v
 
   abbrev r : ℕ → ℕ → Bool
-  r = similar vs e
+  r = similar v
 
-  placed-in : (p : ℕ) → position p (algorithm1 vs e) < length (algorithm1 vs e) → p ∈ vs
+  placed-in : (p : ℕ) → position p (algorithm1 v) < length (algorithm1 v) → p ∈ v .nodes
   placed-in p l = let a = position-out p gs l in go (a .0) (a .1) (a .2)
     where
-      go : (h : List ℕ) → List·Memᴰ h (algorithm1 vs e) → p ∈ h → p ∈ vs
+      go : (h : List ℕ) → List·Memᴰ h (algorithm1 v) → p ∈ h → p ∈ v .nodes
       go h m k =
-          let b = map-out (group vs r) (leaders vs r) h (rw (algorithm1-classes vs e g asc) at m) in
-          group-out vs r (b .0) p (rw (b .2) at k) .0
+          let b = map-out (group (v .nodes) r) (leaders (v .nodes) r) h (rw (algorithm1-classes v g asc) at m) in
+          group-out (v .nodes) r (b .0) p (rw (b .2) at k) .0
 
   abbrev told : Summary
-  told = summaryBy (map (marked e) gs) (superedges e 0 gs)
+  told = summaryBy (map (marked v) gs) (superedges (v .edge) 0 gs)
 
-  members-back : (l : List (List ℕ)) → map (λ (g : Bool × List ℕ). g .1) (map (marked e) l) ≡ l
+  members-back : (l : List (List ℕ)) → map (λ (g : Bool × List ℕ). g .1) (map (marked v) l) ≡ l
   members-back [] = refl
   members-back (x ∷ xs) = ap (λ (l : List (List ℕ)). x ∷ l) (members-back xs)
 
-  marks-back : (l : List (List ℕ)) (i : ℕ) → i < length l → getD (map (λ (g : Bool × List ℕ). g .0) (map (marked e) l)) i false ≡ isClique (kindOf e (getD l i []))
+  marks-back : (l : List (List ℕ)) (i : ℕ) → i < length l → getD (map (λ (g : Bool × List ℕ). g .0) (map (marked v) l)) i false ≡ isClique (kindOf (v .edge) (getD l i []))
   marks-back [] i h = absurd (omega arith)
   marks-back (x ∷ xs) zero h = refl
   marks-back (x ∷ xs) (suc i) h = marks-back xs i (omega arith)
@@ -200,42 +201,42 @@ module _ (vs : List ℕ) (e : ℕ → ℕ → Bool) (g : Simple vs e) (asc : Asc
   abbrev pos : ℕ → ℕ
   pos p = position p gs
 
-  superedge-at : (p q : ℕ) → p ∈ vs → q ∈ vs → r p q ≡ false → (hasPair (superedges e 0 gs) (pos p) (pos q) || hasPair (superedges e 0 gs) (pos q) (pos p)) ≡ e p q
+  superedge-at : (p q : ℕ) → p ∈ v .nodes → q ∈ v .nodes → r p q ≡ false → (hasPair (superedges (v .edge) 0 gs) (pos p) (pos q) || hasPair (superedges (v .edge) 0 gs) (pos q) (pos p)) ≡ v .edge p q
   superedge-at p q mp mq apart = step (decide (ltb (pos p) (pos q)))
     where
       differs : pos p ≡ pos q → ⊥
-      differs x = differ (eq-eqb (pos p) (pos q) x) (position-similar vs e g asc p q mp mq ∙ apart)
+      differs x = differ (eq-eqb (pos p) (pos q) x) (position-similar v g asc p q mp mq ∙ apart)
 
       other : (x : ℕ) (y : ℕ) → r x y ≡ false → r y x ≡ false
       other x y h = turn (decide (r y x))
         where
           turn : (r y x ≡ true) ⊎ (r y x ≡ false) → r y x ≡ false
-          turn (inl k) = differ (similar-sym vs e y x k) h
+          turn (inl k) = differ (similar-sym v y x k) h
           turn (inr k) = k
 
-      up : (x y : ℕ) → x ∈ vs → y ∈ vs → r x y ≡ false → pos x < pos y → hasPair (superedges e 0 gs) (pos x) (pos y) ≡ e x y
+      up : (x y : ℕ) → x ∈ v .nodes → y ∈ v .nodes → r x y ≡ false → pos x < pos y → hasPair (superedges (v .edge) 0 gs) (pos x) (pos y) ≡ v .edge x y
       up x y mx my h l =
-          all-at e gs 0 (pos x) (pos y) (pos x) (pos y) (omega arith) (omega arith) l (position-in vs e g asc y my)
-          ∙ ap₂ (adjacent e) (position-group vs e g asc x mx) (position-group vs e g asc y my)
-          ∙ adjacent-law vs e g asc x y mx my h
+          all-at (v .edge) gs 0 (pos x) (pos y) (pos x) (pos y) (omega arith) (omega arith) l (position-in v g asc y my)
+          ∙ ap₂ (adjacent (v .edge)) (position-group v g asc x mx) (position-group v g asc y my)
+          ∙ adjacent-law v g asc x y mx my h
 
-      step : (ltb (pos p) (pos q) ≡ true) ⊎ (ltb (pos p) (pos q) ≡ false) → (hasPair (superedges e 0 gs) (pos p) (pos q) || hasPair (superedges e 0 gs) (pos q) (pos p)) ≡ e p q
-      step (inl t) = let l = ltb-true (pos p) (pos q) t in ap₂ _||_ (up p q mp mq apart l) (all-upward e gs 0 (pos q) (pos p) (omega arith)) ∙ or-false (e p q)
-      step (inr t) = let l = ltb-false (pos p) (pos q) t in ap₂ _||_ (all-upward e gs 0 (pos p) (pos q) l) (up q p mq mp (other p q apart) (omega (arith, differs))) ∙ g .symmetric q p mq mp
+      step : (ltb (pos p) (pos q) ≡ true) ⊎ (ltb (pos p) (pos q) ≡ false) → (hasPair (superedges (v .edge) 0 gs) (pos p) (pos q) || hasPair (superedges (v .edge) 0 gs) (pos q) (pos p)) ≡ v .edge p q
+      step (inl t) = let l = ltb-true (pos p) (pos q) t in ap₂ _||_ (up p q mp mq apart l) (all-upward (v .edge) gs 0 (pos q) (pos p) (omega arith)) ∙ or-false (v .edge p q)
+      step (inr t) = let l = ltb-false (pos p) (pos q) t in ap₂ _||_ (all-upward (v .edge) gs 0 (pos p) (pos q) l) (up q p mq mp (other p q apart) (omega (arith, differs))) ∙ g .symmetric q p mq mp
 
-  read-exact : (p q : ℕ) → p ∈ vs → q ∈ vs → reconstruct told p q ≡ e p q
+  read-exact : (p q : ℕ) → p ∈ v .nodes → q ∈ v .nodes → reconstruct told p q ≡ v .edge p q
   unfolding reconstruct summaryBy
   read-exact p q mp mq =
-      rw (members-back gs, position-similar vs e g asc p q mp mq, marks-back gs (pos p) (position-in vs e g asc p mp), position-group vs e g asc p mp)
+      rw (members-back gs, position-similar v g asc p q mp mq, marks-back gs (pos p) (position-in v g asc p mp), position-group v g asc p mp)
       (step (decide (r p q)) (decide (eqb p q)))
     where
       step : (r p q ≡ true) ⊎ (r p q ≡ false) → (eqb p q ≡ true) ⊎ (eqb p q ≡ false)
-          → cond (r p q) (isClique (kindOf e (group vs r p)) && not (eqb p q)) (hasPair (superedges e 0 gs) (pos p) (pos q) || hasPair (superedges e 0 gs) (pos q) (pos p)) ≡ e p q
-      step (inl h) (inl x) = rw (h, x) (and-false (isClique (kindOf e (group vs r p))) ∙ sym (g .irreflexive p mp) ∙ ap (e p) (eqb-true p q x))
-      step (inl h) (inr x) = rw (h, x) (and-one (isClique (kindOf e (group vs r p))) ∙ clique-law vs e g asc p q mp mq (eqb-false p q x) h)
+          → cond (r p q) (isClique (kindOf (v .edge) (group (v .nodes) r p)) && not (eqb p q)) (hasPair (superedges (v .edge) 0 gs) (pos p) (pos q) || hasPair (superedges (v .edge) 0 gs) (pos q) (pos p)) ≡ v .edge p q
+      step (inl h) (inl x) = rw (h, x) (and-false (isClique (kindOf (v .edge) (group (v .nodes) r p))) ∙ sym (g .irreflexive p mp) ∙ ap (v .edge p) (eqb-true p q x))
+      step (inl h) (inr x) = rw (h, x) (and-one (isClique (kindOf (v .edge) (group (v .nodes) r p))) ∙ clique-law v g asc p q mp mq (eqb-false p q x) h)
       step (inr h) x = rw h (superedge-at p q mp mq h)
 
-  length-marked : (l : List (List ℕ)) → length (map (marked e) l) ≡ length l
+  length-marked : (l : List (List ℕ)) → length (map (marked v) l) ≡ length l
   length-marked [] = refl
   length-marked (x ∷ xs) = ap suc (length-marked xs)
 
@@ -243,53 +244,53 @@ module _ (vs : List ℕ) (e : ℕ → ℕ → Bool) (g : Simple vs e) (asc : Asc
   unfolding summaryBy
   told-count = length-marked gs
 
-  pub read-placed : (p : ℕ) → ltb (told .groupOf p) (told .count) ≡ member p vs
+  pub read-placed : (p : ℕ) → ltb (told .groupOf p) (told .count) ≡ member p (v .nodes)
   unfolding summaryBy
-  read-placed p = rw (members-back gs, length-marked gs) (iff-eq (ltb (pos p) (length gs)) (member p vs) (λ t. member-intro p vs (placed-in p (ltb-true (pos p) (length gs) t))) (λ t. lt-ltb (pos p) (length gs) (position-in vs e g asc p (member-elim p vs t))))
+  read-placed p = rw (members-back gs, length-marked gs) (iff-eq (ltb (pos p) (length gs)) (member p (v .nodes)) (λ t. member-intro p (v .nodes) (placed-in p (ltb-true (pos p) (length gs) t))) (λ t. lt-ltb (pos p) (length gs) (position-in v g asc p (member-elim p (v .nodes) t))))
 
   -- what is read is the graph
-  pub read-edge : (p q : ℕ) → (ltb (told .groupOf p) (told .count) && (ltb (told .groupOf q) (told .count) && reconstruct told p q)) ≡ (member p vs && (member q vs && e p q))
-  read-edge p q = rw (read-placed p, read-placed q) (step (decide (member p vs)) (decide (member q vs)))
+  pub read-edge : (p q : ℕ) → (ltb (told .groupOf p) (told .count) && (ltb (told .groupOf q) (told .count) && reconstruct told p q)) ≡ (member p (v .nodes) && (member q (v .nodes) && v .edge p q))
+  read-edge p q = rw (read-placed p, read-placed q) (step (decide (member p (v .nodes))) (decide (member q (v .nodes))))
     where
-      step : (member p vs ≡ true) ⊎ (member p vs ≡ false) → (member q vs ≡ true) ⊎ (member q vs ≡ false) → (member p vs && (member q vs && reconstruct told p q)) ≡ (member p vs && (member q vs && e p q))
-      step (inl x) (inl y) = rw (x, y) (read-exact p q (member-elim p vs x) (member-elim q vs y))
+      step : (member p (v .nodes) ≡ true) ⊎ (member p (v .nodes) ≡ false) → (member q (v .nodes) ≡ true) ⊎ (member q (v .nodes) ≡ false) → (member p (v .nodes) && (member q (v .nodes) && reconstruct told p q)) ≡ (member p (v .nodes) && (member q (v .nodes) && v .edge p q))
+      step (inl x) (inl y) = rw (x, y) (read-exact p q (member-elim p (v .nodes) x) (member-elim q (v .nodes) y))
       step (inl x) (inr y) = rw (x, y)
       step (inr x) y = rw x
 
   -- the summary that a file tells is one of the graph
-  pub told-summarises : Summarises vs e told
+  pub told-summarises : Summarises v told
   told-summarises = record {
-    placed = λ p m. ltb-true (told .groupOf p) (told .count) (read-placed p ∙ member-intro p vs m);
-    inhabited = λ i l. at i (algorithm1-summarises vs e g asc .inhabited i (unfold summaryOf in rw told-count at l));
+    placed = λ p m. ltb-true (told .groupOf p) (told .count) (read-placed p ∙ member-intro p (v .nodes) m);
+    inhabited = λ i l. at i (algorithm1-summarises v g asc .inhabited i (unfold summaryOf in rw told-count at l));
     exact = read-exact;
   }
     where
-      at : (i : ℕ) → (p : ℕ) × (p ∈ vs) × (summaryOf e gs .groupOf p ≡ i) → (p : ℕ) × (p ∈ vs) × (told .groupOf p ≡ i)
+      at : (i : ℕ) → (p : ℕ) × (p ∈ v .nodes) × (summaryOf v gs .groupOf p ≡ i) → (p : ℕ) × (p ∈ v .nodes) × (told .groupOf p ≡ i)
       at i s = (s .0, s .1, unfold summaryBy summaryOf in (ap (position (s .0)) (members-back gs) ∙ s .2))
 
 -- a file is read as the summary that it was made of
-pub summary-encode : (n : ℕ) (vs : List ℕ) (e : ℕ → ℕ → Bool) (gs : List (List ℕ)) → summaryIn (encode n vs e gs) ≡ summaryBy (map (marked e) gs) (superedges e 0 gs)
+pub summary-encode : (n : ℕ) (v : View) (gs : List (List ℕ)) → summaryIn (encode n v gs) ≡ summaryBy (map (marked v) gs) (superedges (v .edge) 0 gs)
 unfolding summaryIn
-summary-encode n vs e gs = ap₂ summaryBy at-groups at-superedges
+summary-encode n v gs = ap₂ summaryBy at-groups at-superedges
   where
     s : List ℕ
-    s = encode n vs e gs
+    s = encode n v gs
 
     tail : List ℕ
-    tail = concat (map superedgeRecord (superedges e 0 gs)) ++ endRecord
+    tail = concat (map superedgeRecord (superedges (v .edge) 0 gs)) ++ endRecord
 
     at-g : u16At s 6 ≡ length gs
     at-g = unfold encode headRecord u16At u16 in omega arith
 
-    rest : drop 8 s ≡ concat (map (groupRecord e) gs) ++ tail
+    rest : drop 8 s ≡ concat (map (groupRecord v) gs) ++ tail
     rest = unfold encode headRecord u16 in refl
 
-    at-groups : groupsAt (u16At s 6) (drop 8 s) ≡ map (marked e) gs
-    at-groups = ap₂ groupsAt at-g rest ∙ groups-back e gs tail
+    at-groups : groupsAt (u16At s 6) (drop 8 s) ≡ map (marked v) gs
+    at-groups = ap₂ groupsAt at-g rest ∙ groups-back v gs tail
 
-    at-superedges : superedgesAt (length s) (afterGroups (u16At s 6) (drop 8 s)) ≡ superedges e 0 gs
-    at-superedges = ap (superedgesAt (length s)) (ap₂ afterGroups at-g rest ∙ groups-after e gs tail) ∙ superedges-back (superedges e 0 gs) (length s) (omega (arith, length-encode n vs e gs))
+    at-superedges : superedgesAt (length s) (afterGroups (u16At s 6) (drop 8 s)) ≡ superedges (v .edge) 0 gs
+    at-superedges = ap (superedgesAt (length s)) (ap₂ afterGroups at-g rest ∙ groups-after v gs tail) ∙ superedges-back (superedges (v .edge) 0 gs) (length s) (omega (arith, length-encode n v gs))
 
-pub count-encode : (n : ℕ) (vs : List ℕ) (e : ℕ → ℕ → Bool) (gs : List (List ℕ)) → u16At (encode n vs e gs) 2 ≡ n
+pub count-encode : (n : ℕ) (v : View) (gs : List (List ℕ)) → u16At (encode n v gs) 2 ≡ n
 unfolding encode headRecord u16At u16
-count-encode n vs e gs = omega arith
+count-encode n v gs = omega arith

@@ -15,6 +15,10 @@ unfoldable pub firstOf : Reasons → ℕ
 firstOf [] = 0
 firstOf (t ∷ ts) = cond (t .0) (t .1) (firstOf ts)
 
+-- refused by the first reason that holds, else done
+abbrev pub judged : {A : Type 0} → Reasons → (ℕ → A) → A → A
+judged rs refused done = cond (eqb (firstOf rs) 0) done (refused (firstOf rs))
+
 -- tables by their lengths alone
 pub record Lengths : Type 0 where
   pub edges : ℕ

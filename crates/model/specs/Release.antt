@@ -5,18 +5,20 @@ use Prim.Native.Nat.{ℕ, suc, _/_, _%_}
 use lib.Dec.{ltb}
 use lib.ListN.{length}
 use Rattle.model.specs.Lists.{concat, filter, nodes}
-use Rattle.model.specs.Graph.{Graph}
+use Rattle.model.specs.Graph.{Graph, View}
 use Rattle.model.specs.Grouping.{Kind, adjacent, algorithm1, clique, independent, kindOf, singleton}
 
--- visible (open) nodes, and the edges between visible nodes only
+-- visible (open) nodes
 unfoldable pub isVisible : Graph → ℕ → Bool
 isVisible g p = ltb p (g .nodeCount) && not (g .hidden p)
 
-unfoldable pub visible : Graph → List ℕ
-visible g = filter (isVisible g) (nodes (g .nodeCount))
-
+-- an edge between visible nodes
 unfoldable pub visibleEdge : Graph → ℕ → ℕ → Bool
 visibleEdge g p q = isVisible g p && (isVisible g q && g .edge p q)
+
+-- the visible nodes and the edges between them
+abbrev pub visible : Graph → View
+visible g = record { nodes = filter (isVisible g) (nodes (g .nodeCount)); edge = visibleEdge g }
 
 -- the graph without its hidden nodes' edges
 unfoldable pub visiblePart : Graph → Graph
@@ -24,9 +26,12 @@ visiblePart g = record { nodeCount = g .nodeCount; edge = visibleEdge g; hidden 
 
 -- groups are worked out on those, not taken from the whole graph
 unfoldable pub visibleGroups : Graph → List (List ℕ)
-visibleGroups g = algorithm1 (visible g) (visibleEdge g)
+visibleGroups g = algorithm1 (visible g)
 
 -- numbers have 16 bits, low byte first
+abbrev pub u16Limit : ℕ
+u16Limit = 65536
+
 unfoldable pub u16 : ℕ → List ℕ
 u16 x = x % 256 ∷ x / 256 ∷ []
 
@@ -39,8 +44,8 @@ kindByte singleton = 0x49
 kindByte independent = 0x49
 kindByte clique = 0x43
 
-unfoldable pub groupRecord : (ℕ → ℕ → Bool) → List ℕ → List ℕ
-groupRecord e g = 0x47 ∷ kindByte (kindOf e g) ∷ (u16 (length g) ++ concat (map u16 g))
+unfoldable pub groupRecord : View → List ℕ → List ℕ
+groupRecord v g = 0x47 ∷ kindByte (kindOf (v .edge) g) ∷ (u16 (length g) ++ concat (map u16 g))
 
 unfoldable pub superedgeRecord : ℕ × ℕ → List ℕ
 superedgeRecord ij = 0x53 ∷ 0x45 ∷ (u16 (ij .0) ++ u16 (ij .1))
@@ -59,14 +64,13 @@ superedges e i [] = []
 superedges e i (g ∷ gs) = superedgesFrom e i g (suc i) gs ++ superedges e (suc i) gs
 
 unfoldable pub superedgeCount : Graph → ℕ
-superedgeCount g = length (superedges (visibleEdge g) 0 (visibleGroups g))
+superedgeCount g = length (superedges (visible g .edge) 0 (visibleGroups g))
 
--- the file of n nodes, of which vs are visible with the edges e and the groups gs
-unfoldable pub encode : ℕ → List ℕ → (ℕ → ℕ → Bool) → List (List ℕ) → List ℕ
-encode n vs e gs = headRecord n (length vs) (length gs) ++ (concat (map (groupRecord e) gs) ++ (concat (map superedgeRecord (superedges e 0 gs)) ++ endRecord))
+-- the file of n nodes, of which v is visible, with the groups gs
+unfoldable pub encode : ℕ → View → List (List ℕ) → List ℕ
+encode n v gs = headRecord n (length (v .nodes)) (length gs) ++ (concat (map (groupRecord v) gs) ++ (concat (map superedgeRecord (superedges (v .edge) 0 gs)) ++ endRecord))
 
 unfoldable pub release : Graph → List ℕ
 release g =
-    let vs : List ℕ = visible g in
-    let gs : List (List ℕ) = algorithm1 vs (visibleEdge g) in
-    encode (g .nodeCount) vs (visibleEdge g) gs
+    let gs : List (List ℕ) = algorithm1 (visible g) in
+    encode (g .nodeCount) (visible g) gs

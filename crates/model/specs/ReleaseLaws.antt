@@ -1,5 +1,5 @@
 -- The length of a release, and what it does not depend on.
-use mathlib.Core.Path.{_≡_, refl, sym, ap, _∙_, fun-ext}
+use mathlib.Core.Path.{_≡_, refl, sym, ap, ap₂, _∙_, fun-ext}
 use mathlib.Core.Bool.{Bool, true, false, not, _&&_, cond, and-false}
 use mathlib.Core.List.{List, [], _∷_, _++_, map, List·Memᴰ·head, List·Memᴰ·tail}
 use mathlib.Core.Logic.{_⊎_, inl, inr}
@@ -9,7 +9,7 @@ use lib.Dec.{eqb, ltb}
 use lib.ListN.{length, length-append}
 use borrow.Author.Tests.{eqb-true, eq-eqb, ne-eqb, ltb-true}
 use Rattle.model.specs.Lists.{_∈_, concat, filter, nodes}
-use Rattle.model.specs.Graph.{Graph, Proper}
+use Rattle.model.specs.Graph.{Graph, Proper, View}
 use Rattle.model.specs.Grouping.{algorithm1, group, leaders, least, similar}
 use Rattle.model.specs.Release.{encode, endRecord, groupRecord, headRecord, isVisible, release, superedgeCount, superedgeRecord, superedges, u16, visible, visibleEdge, visibleGroups}
 use Rattle.model.specs.History.{Alike}
@@ -21,7 +21,7 @@ use Rattle.model.specs.SummaryLaws.{algorithm1-classes, equivalence}
 
 -- graphs alike in what is visible have one release
 module _ (a b : Graph) (h : Alike a b) where
-  alike-node : (p : ℕ) → isVisible a p ≡ isVisible b p
+  pub alike-node : (p : ℕ) → isVisible a p ≡ isVisible b p
   unfolding isVisible
   alike-node p = rw (← h .nodeCount) (step (decide (ltb p (a .nodeCount))))
     where
@@ -39,15 +39,11 @@ module _ (a b : Graph) (h : Alike a b) where
       step false s y t = refl
 
   pub alike-visible : visible a ≡ visible b
-  unfolding visible
-  alike-visible = rw (fun-ext alike-node, h .nodeCount)
-
-  pub alike-edges : visibleEdge a ≡ visibleEdge b
-  alike-edges = fun-ext (λ p. fun-ext (alike-edge p))
+  alike-visible = rw (fun-ext alike-node, fun-ext (λ p. fun-ext (alike-edge p)), h .nodeCount)
 
   pub non-interference : release a ≡ release b
   unfolding release
-  non-interference = rw (alike-visible, alike-edges, h .nodeCount)
+  non-interference = ap₂ (λ (n : ℕ) (v : View). encode n v (algorithm1 v)) (h .nodeCount) alike-visible
 
 -- the length of the records
 pub length-u16s : (l : List ℕ) → length (concat (map u16 l)) ≡ 2 * length l
@@ -55,29 +51,29 @@ unfolding concat u16
 length-u16s [] = refl
 length-u16s (x ∷ xs) = omega (arith, length-u16s xs)
 
-pub length-group-record : (e : ℕ → ℕ → Bool) (g : List ℕ) → length (groupRecord e g) ≡ 4 + 2 * length g
+pub length-group-record : (v : View) (g : List ℕ) → length (groupRecord v g) ≡ 4 + 2 * length g
 unfolding groupRecord u16
-length-group-record e g = omega (arith, length-u16s g)
+length-group-record v g = omega (arith, length-u16s g)
 
-pub length-group-records : (e : ℕ → ℕ → Bool) (gs : List (List ℕ)) → length (concat (map (groupRecord e) gs)) ≡ 4 * length gs + 2 * length (concat gs)
+pub length-group-records : (v : View) (gs : List (List ℕ)) → length (concat (map (groupRecord v) gs)) ≡ 4 * length gs + 2 * length (concat gs)
 unfolding concat
-length-group-records e [] = refl
-length-group-records e (g ∷ gs) = omega (arith, length-append (groupRecord e g) (concat (map (groupRecord e) gs)), length-group-record e g, length-group-records e gs, length-append g (concat gs))
+length-group-records v [] = refl
+length-group-records v (g ∷ gs) = omega (arith, length-append (groupRecord v g) (concat (map (groupRecord v) gs)), length-group-record v g, length-group-records v gs, length-append g (concat gs))
 
 pub length-superedge-records : (js : List (ℕ × ℕ)) → length (concat (map superedgeRecord js)) ≡ 6 * length js
 unfolding concat superedgeRecord u16
 length-superedge-records [] = refl
 length-superedge-records (j ∷ js) = omega (arith, length-superedge-records js)
 
-pub length-encode : (n : ℕ) (vs : List ℕ) (e : ℕ → ℕ → Bool) (gs : List (List ℕ)) → length (encode n vs e gs) ≡ 10 + 4 * length gs + 2 * length (concat gs) + 6 * length (superedges e 0 gs)
+pub length-encode : (n : ℕ) (v : View) (gs : List (List ℕ)) → length (encode n v gs) ≡ 10 + 4 * length gs + 2 * length (concat gs) + 6 * length (superedges (v .edge) 0 gs)
 unfolding encode headRecord u16 endRecord
-length-encode n vs e gs =
+length-encode n v gs =
     omega (
       arith,
-      length-append (concat (map (groupRecord e) gs)) (concat (map superedgeRecord (superedges e 0 gs)) ++ endRecord),
-      length-append (concat (map superedgeRecord (superedges e 0 gs))) endRecord,
-      length-group-records e gs,
-      length-superedge-records (superedges e 0 gs),
+      length-append (concat (map (groupRecord v) gs)) (concat (map superedgeRecord (superedges (v .edge) 0 gs)) ++ endRecord),
+      length-append (concat (map superedgeRecord (superedges (v .edge) 0 gs))) endRecord,
+      length-group-records v gs,
+      length-superedge-records (superedges (v .edge) 0 gs),
     )
 
 -- the groups hold each node once, so their sizes add up to the number of nodes
@@ -114,34 +110,33 @@ unfolding filter
 one-of x (y ∷ ys) a (List·Memᴰ·head q) = rw (eq-eqb x y q) (ap suc (none-of x ys (λ m. omega (arith, a .0 x m))))
 one-of x (y ∷ ys) a (List·Memᴰ·tail m) = rw (ne-eqb x y (λ q. omega (arith, a .0 x m))) (one-of x ys (a .1) m)
 
-module _ (vs : List ℕ) (e : ℕ → ℕ → Bool) (g : Simple vs e) (asc : Ascending vs) where
-  abbrev eq : Equivalence vs (similar vs e)
-  eq = equivalence vs e g asc
+module _ (v : View) (g : Simple v) (asc : Ascending (v .nodes)) where
+  abbrev eq : Equivalence (v .nodes) (similar v)
+  eq = equivalence v g asc
 
-  pub length-concat-groups : length (concat (algorithm1 vs e)) ≡ length vs
+  pub length-concat-groups : length (concat (algorithm1 v)) ≡ length (v .nodes)
   unfolding group
-  length-concat-groups = rw (algorithm1-classes vs e g asc) (parts-length (similar vs e) vs (leaders vs (similar vs e)) one-leader)
+  length-concat-groups = rw (algorithm1-classes v g asc) (parts-length (similar v) (v .nodes) (leaders (v .nodes) (similar v)) one-leader)
     where
-      one-leader : (v : ℕ) → v ∈ vs → length (filter (λ l. similar vs e l v) (leaders vs (similar vs e))) ≡ 1
-      one-leader v m =
-          ap length (filter-cong (λ l. similar vs e l v) (eqb (least vs (similar vs e) v)) (leaders vs (similar vs e)) (λ l k. iff-eq _ _ (there l k) (back l)))
-          ∙ one-of (least vs (similar vs e) v) (leaders vs (similar vs e)) (leaders-ascending vs (similar vs e) eq asc) (least-leads vs (similar vs e) eq asc v m)
+      one-leader : (p : ℕ) → p ∈ v .nodes → length (filter (λ l. similar v l p) (leaders (v .nodes) (similar v))) ≡ 1
+      one-leader p m =
+          ap length (filter-cong (λ l. similar v l p) (eqb (least (v .nodes) (similar v) p)) (leaders (v .nodes) (similar v)) (λ l k. iff-eq _ _ (there l k) (back l)))
+          ∙ one-of (least (v .nodes) (similar v) p) (leaders (v .nodes) (similar v)) (leaders-ascending (v .nodes) (similar v) eq asc) (least-leads (v .nodes) (similar v) eq asc p m)
         where
-          there : (l : ℕ) → l ∈ leaders vs (similar vs e) → similar vs e l v ≡ true → eqb (least vs (similar vs e) v) l ≡ true
-          there l k h = let t = leader-out vs (similar vs e) eq asc l k in eq-eqb _ l (sym (least-eq vs (similar vs e) eq asc l v (t .0) m h) ∙ t .1)
+          there : (l : ℕ) → l ∈ leaders (v .nodes) (similar v) → similar v l p ≡ true → eqb (least (v .nodes) (similar v) p) l ≡ true
+          there l k h = let t = leader-out (v .nodes) (similar v) eq asc l k in eq-eqb _ l (sym (least-eq (v .nodes) (similar v) eq asc l p (t .0) m h) ∙ t .1)
 
-          back : (l : ℕ) → eqb (least vs (similar vs e) v) l ≡ true → similar vs e l v ≡ true
-          back l h = rw (← eqb-true (least vs (similar vs e) v) l h) (similar-sym vs e v _ (least-rel vs (similar vs e) eq asc v m))
+          back : (l : ℕ) → eqb (least (v .nodes) (similar v) p) l ≡ true → similar v l p ≡ true
+          back l h = rw (← eqb-true (least (v .nodes) (similar v) p) l h) (similar-sym v p _ (least-rel (v .nodes) (similar v) eq asc p m))
 
-  pub length-law : (n : ℕ) → length (encode n vs e (algorithm1 vs e)) ≡ 10 + 4 * length (algorithm1 vs e) + 2 * length vs + 6 * length (superedges e 0 (algorithm1 vs e))
-  length-law n = omega (arith, length-encode n vs e (algorithm1 vs e), length-concat-groups)
+  pub length-law : (n : ℕ) → length (encode n v (algorithm1 v)) ≡ 10 + 4 * length (algorithm1 v) + 2 * length (v .nodes) + 6 * length (superedges (v .edge) 0 (algorithm1 v))
+  length-law n = omega (arith, length-encode n v (algorithm1 v), length-concat-groups)
 
 -- the visible part of a proper graph is a simple graph
-pub visible-ascending : (g : Graph) → Ascending (visible g)
-unfolding visible
+pub visible-ascending : (g : Graph) → Ascending (visible g .nodes)
 visible-ascending g = filter-ascending (isVisible g) (nodes (g .nodeCount)) (nodes-ascending (g .nodeCount))
 
-pub visible-simple : (g : Graph) → Proper g → Simple (visible g) (visibleEdge g)
+pub visible-simple : (g : Graph) → Proper g → Simple (visible g)
 unfolding visibleEdge
 visible-simple g h = record {
   symmetric = λ p q mp mq. turn (isVisible g p) (isVisible g q) (g .edge p q) (g .edge q p) (h .symmetric p q);
@@ -157,6 +152,6 @@ visible-simple g h = record {
     none false = refl
 
 -- m, g and s of a release and its length
-pub length-release : (g : Graph) → Proper g → length (release g) ≡ 10 + 4 * length (visibleGroups g) + 2 * length (visible g) + 6 * superedgeCount g
+pub length-release : (g : Graph) → Proper g → length (release g) ≡ 10 + 4 * length (visibleGroups g) + 2 * length (visible g .nodes) + 6 * superedgeCount g
 unfolding release visibleGroups superedgeCount
-length-release g h = length-law (visible g) (visibleEdge g) (visible-simple g h) (visible-ascending g) (g .nodeCount)
+length-release g h = length-law (visible g) (visible-simple g h) (visible-ascending g) (g .nodeCount)

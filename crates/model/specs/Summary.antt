@@ -6,6 +6,7 @@ use Prim.Native.Nat.{ℕ, suc, _<_}
 use lib.Dec.{eqb}
 use lib.ListN.{length, getD}
 use Rattle.model.specs.Lists.{_∈_, member}
+use Rattle.model.specs.Graph.{View}
 use Rattle.model.specs.Grouping.{adjacent, kindOf, isClique}
 
 -- groups by number, any of them cliques, any pairs of different groups with a superedge
@@ -22,22 +23,22 @@ reconstruct d p q =
     (d .cliques (d .groupOf p) && not (eqb p q))
     (d .superedges (d .groupOf p) (d .groupOf q) || d .superedges (d .groupOf q) (d .groupOf p))
 
--- d puts each node of vs in exactly one group, none empty, and unfolds to exactly the edges among them
-pub record Summarises (vs : List ℕ) (e : ℕ → ℕ → Bool) (d : Summary) : Type 0 where
-  pub placed : (p : ℕ) → p ∈ vs → d .groupOf p < d .count
-  pub inhabited : (i : ℕ) → i < d .count → (p : ℕ) × (p ∈ vs) × (d .groupOf p ≡ i)
-  pub exact : (p q : ℕ) → p ∈ vs → q ∈ vs → reconstruct d p q ≡ e p q
+-- d puts each node in exactly one group, none empty, and unfolds to exactly the edges among them
+pub record Summarises (v : View) (d : Summary) : Type 0 where
+  pub placed : (p : ℕ) → p ∈ v .nodes → d .groupOf p < d .count
+  pub inhabited : (i : ℕ) → i < d .count → (p : ℕ) × (p ∈ v .nodes) × (d .groupOf p ≡ i)
+  pub exact : (p q : ℕ) → p ∈ v .nodes → q ∈ v .nodes → reconstruct d p q ≡ v .edge p q
 
 -- the place of p's group in a list of groups
 unfoldable pub position : ℕ → List (List ℕ) → ℕ
 position p [] = 0
 position p (g ∷ gs) = cond (member p g) 0 (suc (position p gs))
 
--- groups of a graph, with their kinds and superedges by its edges
-unfoldable pub summaryOf : (ℕ → ℕ → Bool) → List (List ℕ) → Summary
-summaryOf e gs = record {
+-- groups of nodes, with their kinds and superedges by the edges
+unfoldable pub summaryOf : View → List (List ℕ) → Summary
+summaryOf v gs = record {
   count = length gs;
   groupOf = λ p. position p gs;
-  cliques = λ i. isClique (kindOf e (getD gs i []));
-  superedges = λ i j. adjacent e (getD gs i []) (getD gs j []);
+  cliques = λ i. isClique (kindOf (v .edge) (getD gs i []));
+  superedges = λ i j. adjacent (v .edge) (getD gs i []) (getD gs j []);
 }

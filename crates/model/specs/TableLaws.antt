@@ -11,7 +11,7 @@ use lib.ListN.{length, getD, length-append, List·getD-append}
 use lib.Seq.{getD-append-add}
 use borrow.Author.Tests.{eqb-true, eq-eqb, ne-eqb, ltb-true, ltb-false, not-true}
 use Rattle.model.specs.Lists.{_∈_, all, concat, filter, from, nodes, sameList}
-use Rattle.model.specs.Graph.{Graph, Proper, maxNodes}
+use Rattle.model.specs.Graph.{Graph, Proper, View, maxNodes, whole}
 use Rattle.model.specs.Grouping.{algorithm1, closedKey, group, leaders, least, openKey, similar}
 use Rattle.model.specs.Tables.{Tables, bitAt, edgeBit, edgesOf, graphOf, groupIn, groupsIn, holds, keyPair, keysOf, nodeNumber, nodeOf, nodesOf, rowOf, simple, tablesOf, word}
 use Rattle.model.specs.TestLaws.{and-fst, and-snd, and-true, beq-eq, decide, eq-beq, iff-eq}
@@ -214,11 +214,11 @@ module _ (n : ℕ) (t : Tables) (h : holds n t ≡ true) where
       held : (p : ℕ) → graphOf n t .hidden p ≡ true → p < graphOf n t .nodeCount
       held p e = unfold graphOf in (ltb-true p n (and-fst (ltb p n) _ e))
 
-pub proper-simple : (g : Graph) → Proper g → Simple (nodes (g .nodeCount)) (g .edge)
+pub proper-simple : (g : Graph) → Proper g → Simple (whole g)
 proper-simple g h = record { symmetric = λ p q m k. h .symmetric p q; irreflexive = λ p m. h .irreflexive p }
 
 -- the groups that the node table of a graph tells are Algorithm 1's
-pub least-at : (g : Graph) (p : ℕ) → p < g .nodeCount → nodeNumber (nodesOf g) p 0 ≡ least (nodes (g .nodeCount)) (similar (nodes (g .nodeCount)) (g .edge)) p
+pub least-at : (g : Graph) (p : ℕ) → p < g .nodeCount → nodeNumber (nodesOf g) p 0 ≡ least (whole g .nodes) (similar (whole g)) p
 unfolding nodeNumber nodesOf nodeOf groupIn least
 least-at g p h = rw (getD-blocks (nodeOf g) 4 (length-node g) (nodes (g .nodeCount)) p 0 (rw length-nodes h) (omega arith), getD-nodes (g .nodeCount) p h)
 
@@ -228,13 +228,13 @@ map-cong f h (x ∷ xs) s = ap₂ _∷_ (s x (List·Memᴰ·head refl)) (map-con
 
 module _ (g : Graph) (h : Proper g) where
   abbrev vs : List ℕ
-  vs = nodes (g .nodeCount)
+  vs = whole g .nodes
 
   abbrev r : ℕ → ℕ → Bool
-  r = similar vs (g .edge)
+  r = similar (whole g)
 
   abbrev eq : Equivalence vs r
-  eq = equivalence vs (g .edge) (proper-simple g h) (nodes-ascending (g .nodeCount))
+  eq = equivalence (whole g) (proper-simple g h) (nodes-ascending (g .nodeCount))
 
   pub least-told : (p : ℕ) → p ∈ vs → nodeNumber (nodesOf g) p 0 ≡ least vs r p
   least-told p m = least-at g p (nodes-out (g .nodeCount) p m)
@@ -255,14 +255,14 @@ module _ (g : Graph) (h : Proper g) where
       back : (p : ℕ) → p ∈ vs → r l p ≡ true → eqb (least vs r p) l ≡ true
       back p k t = eq-eqb (least vs r p) l (sym (least-eq vs r eq asc l p (leads .0) k t) ∙ leads .1)
 
-  pub groups-told : groupsIn (g .nodeCount) (nodesOf g) ≡ algorithm1 vs (g .edge)
+  pub groups-told : groupsIn (g .nodeCount) (nodesOf g) ≡ algorithm1 (whole g)
   unfolding groupsIn leaders
   groups-told =
       ap (map _) (filter-cong _ (λ p. eqb (least vs r p) p) vs (λ p m. ap (λ (x : ℕ). eqb x p) (least-told p m)))
       ∙ map-cong _ (group vs r) (leaders vs r) group-told
-      ∙ sym (algorithm1-classes vs (g .edge) (proper-simple g h) (nodes-ascending (g .nodeCount)))
+      ∙ sym (algorithm1-classes (whole g) (proper-simple g h) (nodes-ascending (g .nodeCount)))
 
 -- keys have 32 bits
-pub key-fits : (vs : List ℕ) (e : ℕ → ℕ → Bool) (p : ℕ) → (openKey vs e p < 2 ^ 32) × (closedKey vs e p < 2 ^ 32)
+pub key-fits : (v : View) (p : ℕ) → (openKey v p < 2 ^ 32) × (closedKey v p < 2 ^ 32)
 unfolding openKey closedKey
-key-fits vs e p = (omega arith, omega arith)
+key-fits v p = (omega arith, omega arith)

@@ -5,7 +5,7 @@ use Prim.Native.Nat.{ℕ, suc, zero, _+_, _*_, _/_, _%_, _^_}
 use lib.Dec.{eqb, ltb}
 use lib.ListN.{getD}
 use Rattle.model.specs.Lists.{all, filter, concat, sameList, headOr, lastOr, nodes}
-use Rattle.model.specs.Graph.{Graph, rowWords, nodeNumbers}
+use Rattle.model.specs.Graph.{Graph, nodeNumbers, rowWords, whole}
 use Rattle.model.specs.Grouping.{similar, group, openKey, closedKey}
 
 -- ties, persons and keys
@@ -30,7 +30,7 @@ edgesOf g = concat (map (rowOf g) (nodes (g .nodeCount)))
 
 -- nodes: the least member of its group, the next greater member, the previous one, the mark (1: hidden)
 unfoldable pub groupIn : Graph → ℕ → List ℕ
-groupIn g p = group (nodes (g .nodeCount)) (similar (nodes (g .nodeCount)) (g .edge)) p
+groupIn g p = group (whole g .nodes) (similar (whole g)) p
 
 -- in an ascending list: the greatest is followed by the least, and the previous one is the reverse of that
 unfoldable pub nextIn : List ℕ → ℕ → ℕ
@@ -47,7 +47,7 @@ nodesOf g = concat (map (nodeOf g) (nodes (g .nodeCount)))
 
 -- keys: open, closed
 unfoldable pub keyPair : Graph → ℕ → List ℕ
-keyPair g p = openKey (nodes (g .nodeCount)) (g .edge) p ∷ closedKey (nodes (g .nodeCount)) (g .edge) p ∷ []
+keyPair g p = openKey (whole g) p ∷ closedKey (whole g) p ∷ []
 
 unfoldable pub keysOf : Graph → List ℕ
 keysOf g = concat (map (keyPair g) (nodes (g .nodeCount)))

@@ -1,110 +1,110 @@
 -- Line 6 of Algorithm 1 is an equivalence on the nodes of a simple graph.
 use mathlib.Core.Path.{_≡_, refl, sym, _∙_}
-use mathlib.Core.Bool.{Bool, true, false, Bool·beq}
-use mathlib.Core.List.{List}
+use mathlib.Core.Bool.{true, false, Bool·beq}
 use mathlib.Core.Logic.{_⊎_, inl, inr}
 use Prim.Native.Nat.{ℕ}
 use lib.Dec.{eqb}
 use borrow.Author.Tests.{eqb-true, eqb-false, eq-eqb}
 use Rattle.model.specs.Lists.{_∈_}
+use Rattle.model.specs.Graph.{View}
 use Rattle.model.specs.Grouping.{closed, falseTwins, similar, trueTwins}
 use Rattle.model.specs.TestLaws.{beq-eq, decide, differ, eq-beq, or-cases, or-left, or-right}
 use Rattle.model.specs.ListLaws.{all-elim, all-intro}
 
--- edges have no direction, and nobody is edge to itself
-pub record Simple (vs : List ℕ) (e : ℕ → ℕ → Bool) : Type 0 where
-  pub symmetric : (p q : ℕ) → p ∈ vs → q ∈ vs → e p q ≡ e q p
-  pub irreflexive : (p : ℕ) → p ∈ vs → e p p ≡ false
+-- edges have no direction, and no node has an edge to itself
+pub record Simple (v : View) : Type 0 where
+  pub symmetric : (p q : ℕ) → p ∈ v .nodes → q ∈ v .nodes → v .edge p q ≡ v .edge q p
+  pub irreflexive : (p : ℕ) → p ∈ v .nodes → v .edge p p ≡ false
 
-module _ (vs : List ℕ) (e : ℕ → ℕ → Bool) where
-  pub falseTwins-at : (p q : ℕ) → falseTwins vs e p q ≡ true → (r : ℕ) → r ∈ vs → e p r ≡ e q r
+module _ (v : View) where
+  pub falseTwins-at : (p q : ℕ) → falseTwins v p q ≡ true → (r : ℕ) → r ∈ v .nodes → v .edge p r ≡ v .edge q r
   unfolding falseTwins
-  falseTwins-at p q h r m = beq-eq (e p r) (e q r) (all-elim vs (λ r. Bool·beq (e p r) (e q r)) h r m)
+  falseTwins-at p q h r m = beq-eq (v .edge p r) (v .edge q r) (all-elim (v .nodes) (λ r. Bool·beq (v .edge p r) (v .edge q r)) h r m)
 
-  pub trueTwins-at : (p q : ℕ) → trueTwins vs e p q ≡ true → (r : ℕ) → r ∈ vs → closed e p r ≡ closed e q r
+  pub trueTwins-at : (p q : ℕ) → trueTwins v p q ≡ true → (r : ℕ) → r ∈ v .nodes → closed (v .edge) p r ≡ closed (v .edge) q r
   unfolding trueTwins
-  trueTwins-at p q h r m = beq-eq (closed e p r) (closed e q r) (all-elim vs (λ r. Bool·beq (closed e p r) (closed e q r)) h r m)
+  trueTwins-at p q h r m = beq-eq (closed (v .edge) p r) (closed (v .edge) q r) (all-elim (v .nodes) (λ r. Bool·beq (closed (v .edge) p r) (closed (v .edge) q r)) h r m)
 
-  pub falseTwins-by : (p q : ℕ) → ((r : ℕ) → r ∈ vs → e p r ≡ e q r) → falseTwins vs e p q ≡ true
+  pub falseTwins-by : (p q : ℕ) → ((r : ℕ) → r ∈ v .nodes → v .edge p r ≡ v .edge q r) → falseTwins v p q ≡ true
   unfolding falseTwins
-  falseTwins-by p q h = all-intro vs _ (λ r m. eq-beq (e p r) (e q r) (h r m))
+  falseTwins-by p q h = all-intro (v .nodes) _ (λ r m. eq-beq (v .edge p r) (v .edge q r) (h r m))
 
-  pub trueTwins-by : (p q : ℕ) → ((r : ℕ) → r ∈ vs → closed e p r ≡ closed e q r) → trueTwins vs e p q ≡ true
+  pub trueTwins-by : (p q : ℕ) → ((r : ℕ) → r ∈ v .nodes → closed (v .edge) p r ≡ closed (v .edge) q r) → trueTwins v p q ≡ true
   unfolding trueTwins
-  trueTwins-by p q h = all-intro vs _ (λ r m. eq-beq (closed e p r) (closed e q r) (h r m))
+  trueTwins-by p q h = all-intro (v .nodes) _ (λ r m. eq-beq (closed (v .edge) p r) (closed (v .edge) q r) (h r m))
 
-  pub similar-cases : (p q : ℕ) → similar vs e p q ≡ true → (falseTwins vs e p q ≡ true) ⊎ (trueTwins vs e p q ≡ true)
+  pub similar-cases : (p q : ℕ) → similar v p q ≡ true → (falseTwins v p q ≡ true) ⊎ (trueTwins v p q ≡ true)
   unfolding similar
   similar-cases p q h = or-cases _ _ h
 
-  pub similar-N : (p q : ℕ) → falseTwins vs e p q ≡ true → similar vs e p q ≡ true
+  pub similar-N : (p q : ℕ) → falseTwins v p q ≡ true → similar v p q ≡ true
   unfolding similar
   similar-N p q h = or-left _ h
 
-  pub similar-N+ : (p q : ℕ) → trueTwins vs e p q ≡ true → similar vs e p q ≡ true
+  pub similar-N+ : (p q : ℕ) → trueTwins v p q ≡ true → similar v p q ≡ true
   unfolding similar
-  similar-N+ p q h = or-right (falseTwins vs e p q) h
+  similar-N+ p q h = or-right (falseTwins v p q) h
 
-  pub similar-refl : (p : ℕ) → similar vs e p p ≡ true
+  pub similar-refl : (p : ℕ) → similar v p p ≡ true
   similar-refl p = similar-N p p (falseTwins-by p p (λ r m. refl))
 
-  pub similar-sym : (p q : ℕ) → similar vs e p q ≡ true → similar vs e q p ≡ true
+  pub similar-sym : (p q : ℕ) → similar v p q ≡ true → similar v q p ≡ true
   similar-sym p q h = step (similar-cases p q h)
     where
-      step : (falseTwins vs e p q ≡ true) ⊎ (trueTwins vs e p q ≡ true) → similar vs e q p ≡ true
+      step : (falseTwins v p q ≡ true) ⊎ (trueTwins v p q ≡ true) → similar v q p ≡ true
       step (inl n) = similar-N q p (falseTwins-by q p (λ r m. sym (falseTwins-at p q n r m)))
       step (inr n) = similar-N+ q p (trueTwins-by q p (λ r m. sym (trueTwins-at p q n r m)))
 
-  module _ (g : Simple vs e) where
-    -- N(p) = N(q) keeps the two apart, N+(p) = N+(q) edges them
-    pub falseTwins-no-edge : (p q : ℕ) → q ∈ vs → falseTwins vs e p q ≡ true → e p q ≡ false
+  module _ (g : Simple v) where
+    -- N(p) = N(q) leaves the two without an edge, N+(p) = N+(q) gives them one
+    pub falseTwins-no-edge : (p q : ℕ) → q ∈ v .nodes → falseTwins v p q ≡ true → v .edge p q ≡ false
     falseTwins-no-edge p q m n = falseTwins-at p q n q m ∙ g .irreflexive q m
 
-    pub trueTwins-edge : (p q : ℕ) → q ∈ vs → (p ≡ q → ⊥) → trueTwins vs e p q ≡ true → e p q ≡ true
+    pub trueTwins-edge : (p q : ℕ) → q ∈ v .nodes → (p ≡ q → ⊥) → trueTwins v p q ≡ true → v .edge p q ≡ true
     unfolding closed
-    trueTwins-edge p q m ne n = step (or-cases (e p q) (eqb p q) (trueTwins-at p q n q m ∙ or-right (e q q) (eq-eqb q q refl)))
+    trueTwins-edge p q m ne n = step (or-cases (v .edge p q) (eqb p q) (trueTwins-at p q n q m ∙ or-right (v .edge q q) (eq-eqb q q refl)))
       where
-        step : (e p q ≡ true) ⊎ (eqb p q ≡ true) → e p q ≡ true
+        step : (v .edge p q ≡ true) ⊎ (eqb p q ≡ true) → v .edge p q ≡ true
         step (inl h) = h
         step (inr h) = absurd (ne (eqb-true p q h))
 
     -- the mixed case: N(p) = N(q), N+(q) = N+(r), the three different, cannot be
-    pub never-mixed : (p q r : ℕ) → p ∈ vs → q ∈ vs → r ∈ vs → (p ≡ q → ⊥) → (q ≡ r → ⊥) → falseTwins vs e p q ≡ true → trueTwins vs e q r ≡ true → p ≡ r
+    pub never-mixed : (p q r : ℕ) → p ∈ v .nodes → q ∈ v .nodes → r ∈ v .nodes → (p ≡ q → ⊥) → (q ≡ r → ⊥) → falseTwins v p q ≡ true → trueTwins v q r ≡ true → p ≡ r
     unfolding closed
-    never-mixed p q r mp mq mr pq qr n c = step (or-cases (e r p) (eqb r p) closed-rp)
+    never-mixed p q r mp mq mr pq qr n c = step (or-cases (v .edge r p) (eqb r p) closed-rp)
       where
-        -- q is edge to r, so p is edge to r; then r's closed neighbourhood holds p, so q's does: q and p are edge
-        edge-pr : e p r ≡ true
+        -- q has an edge to r, so p has one to r; then r's closed neighbourhood holds p, so q's does: q has an edge to p
+        edge-pr : v .edge p r ≡ true
         edge-pr = falseTwins-at p q n r mr ∙ trueTwins-edge q r mr qr c
 
-        closed-rp : closed e r p ≡ true
+        closed-rp : closed (v .edge) r p ≡ true
         closed-rp = or-left (eqb r p) (g .symmetric r p mr mp ∙ edge-pr)
 
-        closed-qp : (e q p ≡ true) ⊎ (eqb q p ≡ true)
-        closed-qp = or-cases (e q p) (eqb q p) (trueTwins-at q r c p mp ∙ closed-rp)
+        closed-qp : (v .edge q p ≡ true) ⊎ (eqb q p ≡ true)
+        closed-qp = or-cases (v .edge q p) (eqb q p) (trueTwins-at q r c p mp ∙ closed-rp)
 
-        clash : (e q p ≡ true) ⊎ (eqb q p ≡ true) → p ≡ r
+        clash : (v .edge q p ≡ true) ⊎ (eqb q p ≡ true) → p ≡ r
         clash (inl h) = differ (g .symmetric p q mp mq ∙ h) (falseTwins-no-edge p q mq n)
         clash (inr h) = absurd (pq (sym (eqb-true q p h)))
 
-        step : (e r p ≡ true) ⊎ (eqb r p ≡ true) → p ≡ r
+        step : (v .edge r p ≡ true) ⊎ (eqb r p ≡ true) → p ≡ r
         step (inl h) = clash closed-qp
         step (inr h) = sym (eqb-true r p h)
 
-    pub similar-trans : (p q r : ℕ) → p ∈ vs → q ∈ vs → r ∈ vs → similar vs e p q ≡ true → similar vs e q r ≡ true → similar vs e p r ≡ true
+    pub similar-trans : (p q r : ℕ) → p ∈ v .nodes → q ∈ v .nodes → r ∈ v .nodes → similar v p q ≡ true → similar v q r ≡ true → similar v p r ≡ true
     similar-trans p q r mp mq mr h k = apart (decide (eqb p q)) (decide (eqb q r))
       where
-        by-eq : p ≡ r → similar vs e p r ≡ true
+        by-eq : p ≡ r → similar v p r ≡ true
         by-eq x = rw x (similar-refl r)
 
-        both : (p ≡ q → ⊥) → (q ≡ r → ⊥) → (falseTwins vs e p q ≡ true) ⊎ (trueTwins vs e p q ≡ true) → (falseTwins vs e q r ≡ true) ⊎ (trueTwins vs e q r ≡ true) → similar vs e p r ≡ true
+        both : (p ≡ q → ⊥) → (q ≡ r → ⊥) → (falseTwins v p q ≡ true) ⊎ (trueTwins v p q ≡ true) → (falseTwins v q r ≡ true) ⊎ (trueTwins v q r ≡ true) → similar v p r ≡ true
         both pq qr (inl a) (inl b) = similar-N p r (falseTwins-by p r (λ x m. falseTwins-at p q a x m ∙ falseTwins-at q r b x m))
         both pq qr (inr a) (inr b) = similar-N+ p r (trueTwins-by p r (λ x m. trueTwins-at p q a x m ∙ trueTwins-at q r b x m))
         both pq qr (inl a) (inr b) = by-eq (never-mixed p q r mp mq mr pq qr a b)
         both pq qr (inr a) (inl b) =
             by-eq (sym (never-mixed r q p mr mq mp (λ x. qr (sym x)) (λ x. pq (sym x)) (falseTwins-by r q (λ x m. sym (falseTwins-at q r b x m))) (trueTwins-by q p (λ x m. sym (trueTwins-at p q a x m)))))
 
-        apart : (eqb p q ≡ true) ⊎ (eqb p q ≡ false) → (eqb q r ≡ true) ⊎ (eqb q r ≡ false) → similar vs e p r ≡ true
+        apart : (eqb p q ≡ true) ⊎ (eqb p q ≡ false) → (eqb q r ≡ true) ⊎ (eqb q r ≡ false) → similar v p r ≡ true
         apart (inl x) y = rw (eqb-true p q x) k
         apart (inr x) (inl y) = rw (← eqb-true q r y) h
         apart (inr x) (inr y) = both (eqb-false p q x) (eqb-false q r y) (similar-cases p q h) (similar-cases q r k)

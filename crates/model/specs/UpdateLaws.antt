@@ -3,26 +3,23 @@ use mathlib.Core.Path.{_≡_, refl, sym, ap, ap₂, _∙_}
 use mathlib.Core.Bool.{Bool, true, false, not, _&&_, _||_, cond, and-false, and-comm, or-comm}
 use mathlib.Core.List.{List, [], _∷_}
 use mathlib.Core.Logic.{_⊎_, inl, inr}
-use Prim.Native.Nat.{ℕ, suc, zero, _+_, _≤_, _<_}
+use Prim.Native.Nat.{ℕ, suc, _+_, _≤_, _<_}
 use native.Mathlib.Omega.{arith}
 use lib.Dec.{eqb, ltb}
-use lib.IntN.{subℕ, natAbs}
-use lib.ListN.{length}
+use lib.IntN.{ℤ, subℕ, natAbs}
+use lib.ListN.{length, getD, drop}
+use lib.Seq.{drop-cons}
 use borrow.Author.Tests.{eqb-true, eqb-false, eq-eqb, ne-eqb, ltb-true, ltb-false, not-false}
-use Rattle.model.specs.Lists.{nodes}
-use Rattle.model.specs.Graph.{Graph, Proper, emptyGraph, maxNodes}
-use Rattle.model.specs.Refusals.{Reasons, firstOf}
-use Rattle.model.specs.Updates.{Update, answer, answers, batchGraph, groupCount, isPair, onEdge, refusal, updateReasons, updated}
+use Rattle.model.specs.Graph.{Graph, Proper, emptyGraph, maxNodes, whole}
+use Rattle.model.specs.Updates.{Update, answer, answers, batchGraph, groupCount, isPair, onEdge, refusal, updateReasons, updated, there, update, updateCount, updateNumbers, updateRefused, updatesIn, wanted}
+use Rattle.model.specs.Lists.{all, nodes}
+use Rattle.model.specs.Steps.{Stepped, run}
 use Rattle.model.specs.TestLaws.{and-fst, and-snd, decide, differ, or-cases, or-none}
+use Rattle.model.specs.RefusalLaws.{first-below, first-none, judged-done, judged-refused, judged-related}
+use Rattle.model.specs.StepLaws.{run-keeps, run-length}
 use Rattle.model.specs.ListLaws.{nodes-ascending}
 use Rattle.model.specs.TableLaws.{proper-simple}
 use Rattle.model.specs.BoundLaws.{at-most-two}
-
--- reasons that do not hold, where nothing is refused
-pub first-none : (t : Bool) (r : ℕ) (ts : Reasons) → eqb r 0 ≡ false → firstOf ((t, r) ∷ ts) ≡ 0 → (t ≡ false) × (firstOf ts ≡ 0)
-unfolding firstOf
-first-none true r ts z h = absurd (eqb-false r 0 z h)
-first-none false r ts z h = (refl, h)
 
 pub proper-empty : (n : ℕ) → n ≤ maxNodes → Proper (emptyGraph n)
 unfolding emptyGraph
@@ -30,12 +27,14 @@ proper-empty n h = record { small = h; symmetric = λ p q. refl; irreflexive = �
 
 -- an accepted update
 module _ (g : Graph) (c : Update) (h : Proper g) (ok : refusal g c ≡ 0) where
-  facts : (not (ltb (c .u) (g .nodeCount)) || (onEdge c && not (ltb (c .v) (g .nodeCount))) ≡ false) × (cond (onEdge c) (eqb (c .u) (c .v)) (not (eqb (c .v) 0)) ≡ false)
+  facts : (not (ltb (c .u) (g .nodeCount)) || (onEdge c && not (ltb (c .v) (g .nodeCount))) ≡ false) × (cond (onEdge c) (eqb (c .u) (c .v)) (not (eqb (c .v) 0)) ≡ false) × ((wanted c && there g c) ≡ false) × (not (wanted c || there g c) ≡ false)
   unfolding refusal updateReasons
   facts =
       let a = first-none _ 13 _ refl ok in
       let d = first-none _ 14 _ refl (a .1) in
-      (d .0, first-none _ 15 _ refl (d .1) .0)
+      let e = first-none _ 15 _ refl (d .1) in
+      let f = first-none _ 16 _ refl (e .1) in
+      (d .0, e .0, f .0, first-none _ 17 _ refl (f .1) .0)
 
   pub u-inside : c .u < g .nodeCount
   u-inside = ltb-true (c .u) (g .nodeCount) (not-false _ (or-none (not (ltb (c .u) (g .nodeCount))) _ (facts .0) .0))
@@ -45,6 +44,14 @@ module _ (g : Graph) (c : Update) (h : Proper g) (ok : refusal g c ≡ 0) where
 
   pub apart : onEdge c ≡ true → c .u ≡ c .v → ⊥
   apart t = eqb-false (c .u) (c .v) (sym (ap (λ (x : Bool). cond x (eqb (c .u) (c .v)) (not (eqb (c .v) 0))) t) ∙ facts .1)
+
+  -- what is wanted is not there before
+  pub there-before : there g c ≡ not (wanted c)
+  there-before = step (wanted c) (there g c) (facts .2) (facts .3)
+    where
+      step : (w b : Bool) → (w && b) ≡ false → not (w || b) ≡ false → b ≡ not w
+      step true b x y = x
+      step false b x y = not-false b y
 
   pair-sym : (p q : ℕ) → isPair (c .u) (c .v) p q ≡ isPair (c .u) (c .v) q p
   pair-sym p q = ap₂ _||_ (and-comm (eqb p (c .u)) (eqb q (c .v))) (and-comm (eqb p (c .v)) (eqb q (c .u))) ∙ or-comm (eqb q (c .v) && eqb p (c .u)) (eqb q (c .u) && eqb p (c .v))
@@ -95,33 +102,62 @@ module _ (g : Graph) (c : Update) (h : Proper g) (ok : refusal g c ≡ 0) where
   pub answer-range : (groupCount (updated g c) ≤ 2 + groupCount g) × (groupCount g ≤ 2 + groupCount (updated g c))
   unfolding groupCount updated
   answer-range = (
-    at-most-two (nodes (g .nodeCount)) (nodes-ascending (g .nodeCount)) (c .u) (c .v) (updated g c .edge) (g .edge) (proper-simple (updated g c) proper-updated) (proper-simple g h) rows-kept,
-    at-most-two (nodes (g .nodeCount)) (nodes-ascending (g .nodeCount)) (c .u) (c .v) (g .edge) (updated g c .edge) (proper-simple g h) (proper-simple (updated g c) proper-updated) (λ p r x y. sym (rows-kept p r x y)),
+    at-most-two (whole (updated g c)) (g .edge) (proper-simple (updated g c) proper-updated) (proper-simple g h) (nodes-ascending (g .nodeCount)) (c .u) (c .v) rows-kept,
+    at-most-two (whole g) (updated g c .edge) (proper-simple g h) (proper-simple (updated g c) proper-updated) (nodes-ascending (g .nodeCount)) (c .u) (c .v) (λ p r x y. sym (rows-kept p r x y)),
   )
 
 pub updated-count : (g : Graph) (c : Update) → updated g c .nodeCount ≡ g .nodeCount
 unfolding updated
 updated-count g c = refl
 
+pub refusal-below : (g : Graph) (c : Update) → refusal g c < 18
+unfolding refusal updateReasons all
+refusal-below g c = first-below 18 (updateReasons g c) (omega arith) refl
+
+-- what is wanted is there after it
+pub wanted-there : (g : Graph) (c : Update) → there (updated g c) c ≡ wanted c
+unfolding updated
+wanted-there g c = rw (eq-eqb (c .u) (c .u) refl, eq-eqb (c .v) (c .v) refl) (step (onEdge c))
+  where
+    step : (b : Bool) → cond b (cond (b && true) (wanted c) (g .edge (c .u) (c .v))) (cond (not b && true) (wanted c) (g .hidden (c .u))) ≡ wanted c
+    step true = refl
+    step false = refl
+
+-- an update of a batch, accepted and refused
+pub update-accepted : (g : Graph) (c : Update) → refusal g c ≡ 0 → update g c ≡ record { outcome = subℕ (groupCount (updated g c)) (groupCount g); after = updated g c }
+unfolding update refusal
+update-accepted g c = judged-done (updateReasons g c) (updateRefused g) _
+
+pub update-refused : (g : Graph) (c : Update) → (refusal g c ≡ 0 → ⊥) → update g c ≡ updateRefused g (refusal g c)
+unfolding update refusal
+update-refused g c = judged-refused (updateReasons g c) (updateRefused g) _
+
+-- so one of the two is to be shown
+pub update-cases : (g : Graph) (c : Update) (P : Stepped Graph ℤ → Type 0) → ((refusal g c ≡ 0 → ⊥) → P (updateRefused g (refusal g c)))
+    → (refusal g c ≡ 0 → P (record { outcome = subℕ (groupCount (updated g c)) (groupCount g); after = updated g c })) → P (update g c)
+unfolding update refusal
+update-cases g c P refuses ok = judged-related (λ x y. P x) (updateReasons g c) (updateReasons g c) (updateRefused g) (updateRefused g) _ (updateRefused g 0) refl refuses ok
+
 -- a batch, update by update
+pub proper-stepped : (g : Graph) (c : Update) → Proper g → Proper (update g c .after) × (update g c .after .nodeCount ≡ g .nodeCount)
+proper-stepped g c h = update-cases g c (λ x. Proper (x .after) × (x .after .nodeCount ≡ g .nodeCount)) (λ z. (h, refl)) (λ ok. (proper-updated g c h ok, updated-count g c))
+
+pub batch-next : (g : Graph) (c : Update) (cs : List Update) → batchGraph g (c ∷ cs) ≡ batchGraph (update g c .after) cs
+unfolding batchGraph run
+batch-next g c cs = refl
+
+pub answers-next : (g : Graph) (c : Update) (cs : List Update) → answers g (c ∷ cs) ≡ (answer g c ∷ answers (update g c .after) cs)
+unfolding answers run
+answers-next g c cs = refl
+
 pub proper-batch : (cs : List Update) (g : Graph) → Proper g → Proper (batchGraph g cs) × (batchGraph g cs .nodeCount ≡ g .nodeCount)
 unfolding batchGraph
-proper-batch [] g h = (h, refl)
-proper-batch (c ∷ cs) g h = step (proper-batch cs) (decide (eqb (refusal g c) 0))
-  where
-    step : ((d : Graph) → Proper d → Proper (batchGraph d cs) × (batchGraph d cs .nodeCount ≡ d .nodeCount)) → (eqb (refusal g c) 0 ≡ true) ⊎ (eqb (refusal g c) 0 ≡ false)
-        → Proper (batchGraph g (c ∷ cs)) × (batchGraph g (c ∷ cs) .nodeCount ≡ g .nodeCount)
-    step below (inl t) = let r = below (updated g c) (proper-updated g c h (eqb-true (refusal g c) 0 t)) in rw (t, batchGraph) (r .0, r .1 ∙ updated-count g c)
-    step below (inr t) = rw (t, batchGraph) (below g h)
+proper-batch cs g h =
+    run-keeps update (λ d. Proper d × (d .nodeCount ≡ g .nodeCount)) (λ d c k. let r = proper-stepped d c (k .0) in (r .0, r .1 ∙ k .1)) cs g (h, refl)
 
 pub length-answers : (cs : List Update) (g : Graph) → length (answers g cs) ≡ length cs
 unfolding answers
-length-answers [] g = refl
-length-answers (c ∷ cs) g = step (decide (eqb (refusal g c) 0)) (length-answers cs)
-  where
-    step : (eqb (refusal g c) 0 ≡ true) ⊎ (eqb (refusal g c) 0 ≡ false) → ((d : Graph) → length (answers d cs) ≡ length cs) → length (answers g (c ∷ cs)) ≡ suc (length cs)
-    step (inl t) below = rw (t, answers) (ap suc (below (updated g c)))
-    step (inr t) below = rw (t, answers) (ap suc (below g))
+length-answers = run-length update
 
 -- an accepted update answers from -2 to 2
 near : (a b : ℕ) → a ≤ 2 + b → b ≤ 2 + a → natAbs (subℕ a b) ≤ 2
@@ -132,37 +168,23 @@ near a b h k = step (decide (ltb a b))
     step (inr t) = rw t (omega (arith, ltb-false a b t))
 
 pub answer-accepted : (g : Graph) (c : Update) → refusal g c ≡ 0 → answer g c ≡ subℕ (groupCount (updated g c)) (groupCount g)
-unfolding answer
-answer-accepted g c ok = rw (eq-eqb (refusal g c) 0 ok, answer)
+answer-accepted g c ok = ap (λ (x : Stepped Graph ℤ). x .outcome) (update-accepted g c ok)
 
 pub answer-near : (g : Graph) (c : Update) → Proper g → refusal g c ≡ 0 → natAbs (answer g c) ≤ 2
 answer-near g c h ok = rw (answer-accepted g c ok) (near (groupCount (updated g c)) (groupCount g) (answer-range g c h ok .0) (answer-range g c h ok .1))
 
--- the same update once more is refused: 16 where it is there already, 17 where it is not
-first-three : (t₁ t₂ t₃ t₄ t₅ s₄ s₅ : Bool) → firstOf ((t₁, 13) ∷ (t₂, 14) ∷ (t₃, 15) ∷ (t₄, 16) ∷ (t₅, 17) ∷ []) ≡ 0
-    → firstOf ((t₁, 13) ∷ (t₂, 14) ∷ (t₃, 15) ∷ (s₄, 16) ∷ (s₅, 17) ∷ []) ≡ cond s₄ 16 (cond s₅ 17 0)
-unfolding firstOf
-first-three true t₂ t₃ t₄ t₅ s₄ s₅ z = absurd (omega arith)
-first-three false true t₃ t₄ t₅ s₄ s₅ z = absurd (omega arith)
-first-three false false true t₄ t₅ s₄ s₅ z = absurd (omega arith)
-first-three false false false t₄ t₅ s₄ s₅ z = refl
+-- the updates in a list of numbers: how many, and the next one
+pub length-updates : (xs : List ℕ) → length (updatesIn xs) ≡ updateCount xs
+unfolding updatesIn updateCount
+length-updates [] = refl
+length-updates (k ∷ []) = refl
+length-updates (k ∷ (u ∷ [])) = refl
+length-updates (k ∷ (u ∷ (v ∷ rest))) = omega (arith, length-updates rest)
 
-pub again : (g : Graph) (c : Update) → refusal g c ≡ 0 → refusal (updated g c) c ≡ cond (eqb (c .kind) 1 || eqb (c .kind) 3) 16 17
-unfolding refusal updateReasons updated
-again g c ok = first-three _ _ _ _ _ _ _ ok ∙ rw (eq-eqb (c .u) (c .u) refl, eq-eqb (c .v) (c .v) refl) (step (c .kind) (not-false _ (first-none _ 13 _ refl ok .0)))
-  where
-    -- the edge and the mark after an update of kind k
-    e : ℕ → Bool
-    e k = cond ((eqb k 1 || eqb k 2) && true) (eqb k 1) (g .edge (c .u) (c .v))
-
-    m : ℕ → Bool
-    m k = cond (not (eqb k 1 || eqb k 2) && true) (eqb k 3) (g .hidden (c .u))
-
-    step : (k : ℕ) → (ltb 0 k && ltb k 5) ≡ true
-        → _≡_ {A = ℕ} (cond ((eqb k 1 && e k) || (eqb k 3 && m k)) 16 (cond ((eqb k 2 && not (e k)) || (eqb k 4 && not (m k))) 17 0)) (cond (eqb k 1 || eqb k 3) 16 17)
-    step zero h = differ h refl
-    step (suc zero) h = refl
-    step (suc (suc zero)) h = refl
-    step (suc (suc (suc zero))) h = refl
-    step (suc (suc (suc (suc zero)))) h = refl
-    step (suc (suc (suc (suc (suc k))))) h = absurd (omega (arith, ltb-true (suc (suc (suc (suc (suc k))))) 5 (and-snd (ltb 0 (suc (suc (suc (suc (suc k)))))) _ h)))
+pub updates-next : (xs : List ℕ) (a : ℕ) → a + updateNumbers ≤ length xs → updatesIn (drop a xs) ≡ (record { kind = getD xs a 0; u = getD xs (a + 1) 0; v = getD xs (a + 2) 0 } ∷ updatesIn (drop (a + updateNumbers) xs))
+unfolding updatesIn
+updates-next xs a h =
+    let e₁ : a + 1 ≡ suc a = omega arith in
+    let e₂ : a + 2 ≡ suc (suc a) = omega arith in
+    let e₃ : a + 3 ≡ suc (suc (suc a)) = omega arith in
+    rw (e₁, e₂, e₃, drop-cons xs a 0 (omega arith), drop-cons xs (suc a) 0 (omega arith), drop-cons xs (suc (suc a)) 0 (omega arith))

@@ -1,14 +1,14 @@
 -- Document 01, "Sheets": updates (changes), their refusals and effects, the answers, and batches (sheets) of them.
-use mathlib.Core.Bool.{Bool, true, false, not, _&&_, _||_, cond}
+use mathlib.Core.Bool.{Bool, not, _&&_, _||_, cond}
 use mathlib.Core.List.{List, [], _∷_}
 use Prim.Native.Nat.{ℕ, _%_, _/_}
 use lib.Dec.{eqb, ltb}
 use lib.ListN.{length}
 use lib.IntN.{ℤ, pos, subℕ}
-use Rattle.model.specs.Lists.{nodes}
-use Rattle.model.specs.Graph.{Graph, maxUpdates}
+use Rattle.model.specs.Graph.{Graph, maxUpdates, whole}
 use Rattle.model.specs.Grouping.{algorithm1}
-use Rattle.model.specs.Refusals.{Reasons, firstOf}
+use Rattle.model.specs.Refusals.{Reasons, firstOf, judged}
+use Rattle.model.specs.Steps.{Stepped, run}
 
 -- kinds: 1 insert (tie), 2 delete (untie), 3 hide (withhold) u, 4 reveal (reopen) u; for 3 and 4, v is 0
 pub record Update : Type 0 where
@@ -16,16 +16,25 @@ pub record Update : Type 0 where
   pub u : ℕ
   pub v : ℕ
 
+-- about the edge between u and v, or about u's mark
 abbrev pub onEdge : Update → Bool
 onEdge c = eqb (c .kind) 1 || eqb (c .kind) 2
+
+-- wants an edge there, or u hidden
+abbrev pub wanted : Update → Bool
+wanted c = eqb (c .kind) 1 || eqb (c .kind) 3
+
+-- an edge is there, or u is hidden
+abbrev pub there : Graph → Update → Bool
+there g c = cond (onEdge c) (g .edge (c .u) (c .v)) (g .hidden (c .u))
 
 unfoldable pub updateReasons : Graph → Update → Reasons
 updateReasons g c =
     (not (ltb 0 (c .kind) && ltb (c .kind) 5), 13)
     ∷ (not (ltb (c .u) (g .nodeCount)) || (onEdge c && not (ltb (c .v) (g .nodeCount))), 14)
     ∷ (cond (onEdge c) (eqb (c .u) (c .v)) (not (eqb (c .v) 0)), 15)
-    ∷ ((eqb (c .kind) 1 && g .edge (c .u) (c .v)) || (eqb (c .kind) 3 && g .hidden (c .u)), 16)
-    ∷ ((eqb (c .kind) 2 && not (g .edge (c .u) (c .v))) || (eqb (c .kind) 4 && not (g .hidden (c .u))), 17)
+    ∷ (wanted c && there g c, 16)
+    ∷ (not (wanted c || there g c), 17)
     ∷ []
 
 unfoldable pub refusal : Graph → Update → ℕ
@@ -35,41 +44,50 @@ refusal g c = firstOf (updateReasons g c)
 abbrev pub isPair : ℕ → ℕ → ℕ → ℕ → Bool
 isPair u v p q = (eqb p u && eqb q v) || (eqb p v && eqb q u)
 
--- an accepted update: an edge between u and v is there after kind 1 alone, u is hidden after kind 3 alone
+-- an accepted update: what is wanted is there after it
 unfoldable pub updated : Graph → Update → Graph
 updated g c = record {
   nodeCount = g .nodeCount;
-  edge = λ p q. cond (onEdge c && isPair (c .u) (c .v) p q) (eqb (c .kind) 1) (g .edge p q);
-  hidden = λ p. cond (not (onEdge c) && eqb p (c .u)) (eqb (c .kind) 3) (g .hidden p);
+  edge = λ p q. cond (onEdge c && isPair (c .u) (c .v) p q) (wanted c) (g .edge p q);
+  hidden = λ p. cond (not (onEdge c) && eqb p (c .u)) (wanted c) (g .hidden p);
 }
 
 -- the groups of the whole graph
 unfoldable pub groupCount : Graph → ℕ
-groupCount g = length (algorithm1 (nodes (g .nodeCount)) (g .edge))
+groupCount g = length (algorithm1 (whole g))
 
--- the refusal's number, or the count of groups after the update minus before
-unfoldable pub answer : Graph → Update → ℤ
-answer g c = elim (eqb (refusal g c) 0) [ true ↦ subℕ (groupCount (updated g c)) (groupCount g) | false ↦ pos (refusal g c) ]
+-- an update of a batch: the answer is the refusal's number, or the count of groups after it minus before
+abbrev pub updateRefused : Graph → ℕ → Stepped Graph ℤ
+updateRefused g r = record { outcome = pos r; after = g }
+
+unfoldable pub update : Graph → Update → Stepped Graph ℤ
+update g c =
+    judged (updateReasons g c) (updateRefused g)
+    (record { outcome = subℕ (groupCount (updated g c)) (groupCount g); after = updated g c })
+
+abbrev pub answer : Graph → Update → ℤ
+answer g c = update g c .outcome
 
 -- updates take effect in order; a refused one does not stop the batch
 unfoldable pub batchGraph : Graph → List Update → Graph
-batchGraph g [] = g
-batchGraph g (c ∷ cs) = elim (eqb (refusal g c) 0) [ true ↦ batchGraph (updated g c) cs | false ↦ batchGraph g cs ]
+batchGraph g cs = run update g cs .after
 
 unfoldable pub answers : Graph → List Update → List ℤ
-answers g [] = []
-answers g (c ∷ cs) = answer g c ∷ elim (eqb (refusal g c) 0) [ true ↦ answers (updated g c) cs | false ↦ answers g cs ]
+answers g cs = run update g cs .outcome
 
 -- a batch is lent as numbers, three for each update
-unfoldable pub updateCount : List ℕ → ℕ
-updateCount xs = length xs / 3
+abbrev pub updateNumbers : ℕ
+updateNumbers = 3
 
-unfoldable pub inThrees : List ℕ → List Update
-inThrees [] = []
-inThrees (k ∷ []) = []
-inThrees (k ∷ (u ∷ [])) = []
-inThrees (k ∷ (u ∷ (v ∷ rest))) = record { kind = k; u = u; v = v } ∷ inThrees rest
+unfoldable pub updateCount : List ℕ → ℕ
+updateCount xs = length xs / updateNumbers
+
+unfoldable pub updatesIn : List ℕ → List Update
+updatesIn [] = []
+updatesIn (k ∷ []) = []
+updatesIn (k ∷ (u ∷ [])) = []
+updatesIn (k ∷ (u ∷ (v ∷ rest))) = record { kind = k; u = u; v = v } ∷ updatesIn rest
 
 -- 11: not in threes, or over 4,096 updates
 unfoldable pub wrongBatch : List ℕ → Bool
-wrongBatch xs = not (eqb (length xs % 3) 0) || ltb maxUpdates (updateCount xs)
+wrongBatch xs = not (eqb (length xs % updateNumbers) 0) || ltb maxUpdates (updateCount xs)

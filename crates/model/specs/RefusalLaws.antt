@@ -1,0 +1,44 @@
+-- What is judged: the first reason that holds decides, and two that are judged alike are related if each case is.
+use mathlib.Core.Path.{_≡_, refl, sym, _∙_}
+use mathlib.Core.Bool.{Bool, true, false}
+use mathlib.Core.List.{[], _∷_, map}
+use mathlib.Core.Logic.{_⊎_, inl, inr}
+use Prim.Native.Nat.{ℕ, _<_}
+use lib.Dec.{eqb, ltb}
+use borrow.Author.Tests.{eqb-true, eqb-false, eq-eqb, ne-eqb, ltb-true}
+use Rattle.model.specs.Lists.{all}
+use Rattle.model.specs.Refusals.{Reasons, firstOf, judged}
+use Rattle.model.specs.TestLaws.{and-fst, and-snd, decide}
+
+-- reasons that do not hold, where nothing is refused
+pub first-none : (t : Bool) (r : ℕ) (ts : Reasons) → eqb r 0 ≡ false → firstOf ((t, r) ∷ ts) ≡ 0 → (t ≡ false) × (firstOf ts ≡ 0)
+unfolding firstOf
+first-none true r ts z h = absurd (eqb-false r 0 z h)
+first-none false r ts z h = (refl, h)
+
+-- a bound of the numbers bounds what is given
+pub first-below : (b : ℕ) (rs : Reasons) → 0 < b → all (map (λ (r : Bool × ℕ). r .1) rs) (λ r. ltb r b) ≡ true → firstOf rs < b
+unfolding firstOf all
+first-below b [] h k = h
+first-below b ((true, r) ∷ ts) h k = ltb-true r b (and-fst (ltb r b) _ k)
+first-below b ((false, r) ∷ ts) h k = first-below b ts h (and-snd (ltb r b) _ k)
+
+module _ {A : Type 0} (rs : Reasons) (refused : ℕ → A) (done : A) where
+  pub judged-done : firstOf rs ≡ 0 → judged rs refused done ≡ done
+  judged-done h = rw (eq-eqb (firstOf rs) 0 h)
+
+  pub judged-refused : (firstOf rs ≡ 0 → ⊥) → judged rs refused done ≡ refused (firstOf rs)
+  judged-refused h = rw (ne-eqb (firstOf rs) 0 h)
+
+-- two that are judged for the same first reason
+pub judged-related : {A B : Type 0} (R : A → B → Type 0) (rs qs : Reasons) (refused : ℕ → A) (refused′ : ℕ → B) (done : A) (done′ : B) → firstOf rs ≡ firstOf qs
+    → ((firstOf qs ≡ 0 → ⊥) → R (refused (firstOf qs)) (refused′ (firstOf qs))) → (firstOf qs ≡ 0 → R done done′) → R (judged rs refused done) (judged qs refused′ done′)
+judged-related R rs qs refused refused′ done done′ e refuses ok = rw e (step (decide (eqb (firstOf qs) 0)))
+  where
+    step : (eqb (firstOf qs) 0 ≡ true) ⊎ (eqb (firstOf qs) 0 ≡ false) → R (judged qs refused done) (judged qs refused′ done′)
+    step (inl t) = rw t (ok (eqb-true (firstOf qs) 0 t))
+    step (inr t) = rw t (refuses (eqb-false (firstOf qs) 0 t))
+
+-- the number of what is judged
+pub judged-result : {A : Type 0} (result : A → ℕ) (rs : Reasons) (refused : ℕ → A) (done : A) → ((r : ℕ) → result (refused r) ≡ r) → result done ≡ 0 → result (judged rs refused done) ≡ firstOf rs
+judged-result result rs refused done k d = judged-related (λ x y. result x ≡ firstOf rs) rs rs refused refused done done refl (λ z. k (firstOf rs)) (λ z. d ∙ sym z)
