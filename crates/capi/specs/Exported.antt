@@ -4,4 +4,4 @@ use Prim.Native.Nat.{ℕ}
 use Rattle.model.specs.Calls.{Released}
 
 abbrev pub releasedWith : ℕ → ℕ → ℕ → ℕ → ℕ → List ℕ → Released
-releasedWith r m g s length out = record { result = r; nodes = m; groups = g; superedges = s; bytes = length; out = out }
+releasedWith r m g s bytes out = record { result = r; nodes = m; groups = g; superedges = s; bytes = bytes; out = out }

@@ -110,15 +110,15 @@ pub extern "C" fn tegmulos_release(
     m: &mut u16,
     g: &mut u16,
     s: &mut u32,
-    length: &mut u32,
+    bytes: &mut u32,
 ) -> u16
-    ensures { λ r. ⌜ releasedWith r (now (m .exit)) (now (g .exit)) (now (s .exit)) (now (length .exit)) (now (out .exit)) ≡ releaseCall n (lent (now (edges .entry)) (now (nodes .entry)) (now (keys .entry))) (now (out .entry)) ⌝ }
+    ensures { λ r. ⌜ releasedWith r (now (m .exit)) (now (g .exit)) (now (s .exit)) (now (bytes .exit)) (now (out .exit)) ≡ releaseCall n (lent (now (edges .entry)) (now (nodes .entry)) (now (keys .entry))) (now (out .entry)) ⌝ }
 {
     let written = release::release(n, edges, nodes, keys, out);
     *m = written.nodes;
     *g = written.groups;
     *s = written.superedges;
-    *length = written.bytes;
+    *bytes = written.bytes;
     written.result
 }
 

@@ -1,14 +1,15 @@
 -- What the test of lent tables looks at. Together it is the model's `holds` (HoldLaws).
-use mathlib.Core.Bool.{Bool, not, _&&_, _||_}
+use mathlib.Core.Path.{_≡_}
+use mathlib.Core.Bool.{Bool, true, not, _&&_, _||_}
 use mathlib.Core.List.{List}
-use Prim.Native.Nat.{ℕ, _+_, _*_, _%_, _^_}
+use Prim.Native.Nat.{ℕ, _+_, _*_, _%_, _^_, _<_}
 use lib.Dec.{eqb, leb, ltb}
 use lib.ListN.{getD}
 use Rattle.model.specs.Lists.{all, nodes}
-use Rattle.model.specs.Graph.{maxNodes, rowWords}
+use Rattle.model.specs.Graph.{maxNodes, rowWords, whole}
 use Rattle.model.specs.Grouping.{cube, openKey}
 use Rattle.model.specs.Tables.{edgeBit, nodeNumber}
-use Rattle.rows.specs.Search.{edgesIn, firstFrom, joins, meets, rowIn}
+use Rattle.search.specs.Search.{firstFrom, joins, meets, rowIn, graphIn}
 
 -- q is another node of the graph, and p's bit stands in q's row
 unfoldable pub mirrored : ℕ → List ℕ → ℕ → ℕ → Bool
@@ -27,10 +28,18 @@ agrees keys p sum = eqb (getD keys (2 * p) 0) sum && eqb (getD keys (2 * p + 1) 
 
 -- both keys of p are those of its row
 unfoldable pub keysHold : ℕ → List ℕ → List ℕ → ℕ → Bool
-keysHold n edges keys p = agrees keys p (openKey (nodes n) (edgesIn n edges) p)
+keysHold n edges keys p = agrees keys p (openKey (whole (graphIn n edges)) p)
 
 unfoldable pub rowsHold : ℕ → List ℕ → List ℕ → Bool
 rowsHold n edges keys = all (nodes n) (λ p. rowHolds n edges p && keysHold n edges keys p)
+
+-- no node has an edge to itself
+unfoldable pub loopless : ℕ → List ℕ → Bool
+loopless n edges = all (nodes n) (λ p. not (edgeBit edges p p))
+
+-- the keys of the nodes below p are right
+abbrev pub KeysBelow : ℕ → List ℕ → List ℕ → ℕ → Type 0
+KeysBelow n edges keys p = (k : ℕ) → k < p → keysHold n edges keys k ≡ true
 
 -- l is not above p, leads a group, and p's row is that of a twin of l: of a true twin if there is an edge between the two
 unfoldable pub twinOf : List ℕ → List ℕ → ℕ → ℕ → Bool

@@ -1,9 +1,9 @@
--- Rows that are even across the diagonal, without loops, pass the test of rows if their keys do; twins' keys tell of one another.
+-- Rows that are symmetric across the diagonal, without loops, pass the test of rows if their keys do; twins' keys tell of one another.
 use mathlib.Core.Path.{_≡_, refl, sym, ap, _∙_}
 use mathlib.Core.Bool.{Bool, true, false, not, _&&_, _||_, and-false}
 use mathlib.Core.List.{List, []}
 use mathlib.Core.Logic.{_⊎_, inl, inr}
-use Prim.Native.Nat.{ℕ, _+_, _*_, _/_, _%_, _^_, _≤_, _<_}
+use Prim.Native.Nat.{ℕ, _+_, _*_, _%_, _^_, _≤_, _<_}
 use native.Mathlib.Omega.{arith}
 use lib.Dec.{eqb, ltb}
 use lib.ListN.{length, getD}
@@ -11,22 +11,21 @@ use borrow.Author.Tests.{eqb-true, ne-eqb, lt-ltb, ltb-true, ltb-false, not-true
 use Rattle.model.specs.Lists.{nodes}
 use Rattle.model.specs.Graph.{maxNodes, rowWords}
 use Rattle.model.specs.Grouping.{cube, openKey}
-use Rattle.model.specs.Tables.{bitAt, edgeBit, graphOf, keysOf, nodeNumber}
-use Rattle.model.specs.TestLaws.{and-true, decide, differ, eq-beq, iff-eq}
+use Rattle.model.specs.Tables.{edgeBit, graphOf, keysOf, nodeNumber}
+use Rattle.model.specs.TestLaws.{and-true, decide, differ, iff-eq}
 use Rattle.model.specs.ListLaws.{all-elim, all-intro, nodes-in, nodes-out}
 use Rattle.model.specs.TableLaws.{length-keys}
 use Rattle.rows.specs.Rows.{Words, lent, movedKey}
-use Rattle.rows.specs.Search.{Ready, keyAgrees, meets, rowIn}
-use Rattle.rows.specs.KeyLaws.{moved-out}
-use Rattle.rows.specs.SearchLaws.{meets-words}
-use Rattle.rows.specs.TwinRowLaws.{false-key, meet-false, meet-true, true-key}
-use Rattle.checks.specs.Checks.{agrees, bitHolds, keysHold, mirrored, rowHolds, rowsHold, twinsHold}
-use Rattle.checks.specs.WalkLaws.{bit-zero}
-use Rattle.checks.specs.StepLaws.{all-fail, all-pass}
+use Rattle.search.specs.Search.{Ready, keyAgrees, meets, rowIn}
+use Rattle.search.specs.SearchLaws.{meets-words}
+use Rattle.search.specs.TwinRowLaws.{false-key, meet-false, meet-true, true-key}
+use Rattle.keys.specs.KeySums.{RowInside, rowCubes, rowKey, twinKey}
+use Rattle.keys.specs.FourLaws.{dense-key}
+use Rattle.symmetry.specs.Symmetry.{symmetric}
+use Rattle.symmetry.specs.BlockLaws.{all-symmetric, outside, symmetric-all}
+use Rattle.checks.specs.Checks.{KeysBelow, agrees, bitHolds, keysHold, loopless, mirrored, rowHolds, rowsHold, twinsHold}
+use Rattle.buffers.specs.AllLaws.{all-fail, all-pass}
 use Rattle.checks.specs.HoldLaws.{closed-is, keys-told, mirror-back, no-loop, open-is, rows-ready, twin-low, twin-meets}
-use Rattle.checks.specs.Dense.{KeysBelow, RowInside, blockEven, columnEven, even, loopless, rowCubes, rowKey, twinKey}
-use Rattle.checks.specs.BlockLaws.{all-even, even-all, no-row}
-use Rattle.checks.specs.FourLaws.{dense-key}
 
 -- the keys of one node
 module _ (n : ℕ) (edges keys : List ℕ) (p : ℕ) where
@@ -38,60 +37,23 @@ module _ (n : ℕ) (edges keys : List ℕ) (p : ℕ) where
   unfolding rowsHold
   key-fails hp e = all-fail _ n p hp (rw e (and-false (rowHolds n edges p)))
 
--- the key of a twin
-module _ (keys : List ℕ) (c : Bool) (l p : ℕ) where
-  pub twin-closed : {x r : ℕ} → c ≡ true → x ≡ cube p → r < 2 ^ 32 → (r + x) % 2 ^ 32 ≡ getD keys (2 * l + 1) 0 → r ≡ twinKey keys c l p
-  unfolding twinKey
-  twin-closed {x} {r} t e h k = rw t (moved-out false (getD keys (2 * l + 1) 0) (cube p) r refl h (ap (λ (y : ℕ). (r + y) % 2 ^ 32) (sym e) ∙ k))
-
-  pub twin-open : c ≡ false → getD keys (2 * l) 0 ≡ twinKey keys c l p
-  unfolding twinKey
-  twin-open t = rw t
-
 module _ (n : ℕ) (edges : List ℕ) (small : n ≤ maxNodes) (size : length edges ≡ rowWords * n) where
-  outside : (p q : ℕ) → n ≤ p → edgeBit edges p q ≡ false
-  unfolding edgeBit
-  outside p q l = ap (λ (x : ℕ). bitAt x (q % 64)) (sym (no-row edges n p (q / 64) size l)) ∙ bit-zero (q % 64)
-
   set-inside : (p q : ℕ) → edgeBit edges p q ≡ true → p < n
   set-inside p q e = step (decide (ltb p n))
     where
       step : (ltb p n ≡ true) ⊎ (ltb p n ≡ false) → p < n
       step (inl t) = ltb-true p n t
-      step (inr t) = differ e (outside p q (ltb-false p n t))
+      step (inr t) = differ e (outside n edges size p q (ltb-false p n t))
 
-  -- blocks beyond the nodes
-  pub even-beyond : (i j : ℕ) → n ≤ 64 * i → i ≤ j → blockEven edges i j ≡ true
-  unfolding blockEven columnEven
-  even-beyond i j l h =
-      all-intro (nodes 64) _
-      (λ c mc.
-      all-intro (nodes 64) _
-      (λ k mk. eq-beq (edgeBit edges (64 * i + k) (64 * j + c)) (edgeBit edges (64 * j + c) (64 * i + k)) (outside (64 * i + k) (64 * j + c) (omega arith) ∙ sym (outside (64 * j + c) (64 * i + k) (omega arith)))))
-
-  no-bit : (i j k c : ℕ) → c < 64 → getD edges (rowWords * (64 * i + k) + j) 0 ≡ 0 → edgeBit edges (64 * i + k) (64 * j + c) ≡ false
-  unfolding edgeBit
-  no-bit i j k c hc h =
-      let e : (64 * j + c) / 64 ≡ j = omega arith in
-      ap (λ (w : ℕ). bitAt (getD edges (8 * (64 * i + k) + w) 0) ((64 * j + c) % 64)) e ∙ ap (λ (x : ℕ). bitAt x ((64 * j + c) % 64)) h ∙ bit-zero ((64 * j + c) % 64)
-
-  pub even-blank : (i j : ℕ) → n ≤ 64 * j → ((k : ℕ) → k < 64 → getD edges (rowWords * (64 * i + k) + j) 0 ≡ 0) → blockEven edges i j ≡ true
-  unfolding blockEven columnEven
-  even-blank i j l h =
-      all-intro (nodes 64) _
-      (λ c mc.
-      all-intro (nodes 64) _
-      (λ k mk. eq-beq (edgeBit edges (64 * i + k) (64 * j + c)) (edgeBit edges (64 * j + c) (64 * i + k)) (no-bit i j k c (nodes-out 64 c mc) (h k (nodes-out 64 k mk)) ∙ sym (outside (64 * j + c) (64 * i + k) (omega arith)))))
-
-  -- rows that pass are even
-  pub uneven : (keys : List ℕ) → length keys ≡ 2 * n → Words edges → even edges ≡ false → false ≡ rowsHold n edges keys
-  uneven keys size-k words e = step (decide (rowsHold n edges keys))
+  -- rows that pass are symmetric
+  pub asymmetric : (keys : List ℕ) → length keys ≡ 2 * n → Words edges → symmetric edges ≡ false → false ≡ rowsHold n edges keys
+  asymmetric keys size-k words e = step (decide (rowsHold n edges keys))
     where
       turn : rowsHold n edges keys ≡ true → (p q : ℕ) → q < 512 → edgeBit edges p q ≡ true → edgeBit edges q p ≡ true
       turn h p q hq t = mirror-back n (lent edges [] keys) small size size-k words h p q (set-inside p q t) hq t
 
       step : (rowsHold n edges keys ≡ true) ⊎ (rowsHold n edges keys ≡ false) → false ≡ rowsHold n edges keys
-      step (inl h) = differ (all-even edges (λ p q hp hq. iff-eq (edgeBit edges p q) (edgeBit edges q p) (turn h p q hq) (turn h q p hp))) e
+      step (inl h) = differ (all-symmetric edges (λ p q hp hq. iff-eq (edgeBit edges p q) (edgeBit edges q p) (turn h p q hq) (turn h q p hp))) e
       step (inr h) = sym h
 
   -- and have no loops
@@ -103,18 +65,18 @@ module _ (n : ℕ) (edges : List ℕ) (small : n ≤ maxNodes) (size : length ed
       step (inl h) = differ (all-intro (nodes n) _ (λ p m. ap not (no-loop n (lent edges [] keys) small size size-k words h p (nodes-out n p m)))) e
       step (inr h) = sym h
 
-  -- even rows without loops pass, if their keys do
-  module _ (h : even edges ≡ true) (free : loopless n edges ≡ true) where
+  -- symmetric rows without loops pass, if their keys do
+  module _ (h : symmetric edges ≡ true) (free : loopless n edges ≡ true) where
     turned : (p : ℕ) → p < n → (q : ℕ) → q < 512 → edgeBit edges p q ≡ true → edgeBit edges q p ≡ true
-    turned p hp q hq t = sym (even-all edges h p q (omega arith) hq) ∙ t
+    turned p hp q hq t = sym (symmetric-all edges h p q (omega arith) hq) ∙ t
 
     no-edge : (p : ℕ) → p < n → edgeBit edges p p ≡ false
     unfolding loopless
     no-edge p hp = not-true (edgeBit edges p p) (all-elim (nodes n) (λ p. not (edgeBit edges p p)) free p (nodes-in n p hp))
 
-    row-even : (p : ℕ) → p < n → rowHolds n edges p ≡ true
+    row-symmetric : (p : ℕ) → p < n → rowHolds n edges p ≡ true
     unfolding rowHolds bitHolds mirrored
-    row-even p hp = all-intro (nodes 512) _ (λ q m. at q (nodes-out 512 q m) (decide (edgeBit edges p q)))
+    row-symmetric p hp = all-intro (nodes 512) _ (λ q m. at q (nodes-out 512 q m) (decide (edgeBit edges p q)))
       where
         at : (q : ℕ) → q < 512 → (edgeBit edges p q ≡ true) ⊎ (edgeBit edges p q ≡ false) → (not (edgeBit edges p q) || (ltb q n && (not (eqb q p) && edgeBit edges q p))) ≡ true
         at q hq (inl t) = rw t (and-true (lt-ltb q n (set-inside q p (turned p hp q hq t))) (and-true (ap not (ne-eqb q p (λ z. differ t (ap (edgeBit edges p) z ∙ no-edge p hp)))) (turned p hp q hq t)))
@@ -122,7 +84,7 @@ module _ (n : ℕ) (edges : List ℕ) (small : n ≤ maxNodes) (size : length ed
 
     pub keys-pass : (keys : List ℕ) (p : ℕ) → n ≤ p → KeysBelow n edges keys p → true ≡ rowsHold n edges keys
     unfolding rowsHold
-    keys-pass keys p l k = all-pass _ n n (omega arith) (λ q hq. and-true (row-even q hq) (k q (omega arith)))
+    keys-pass keys p l k = all-pass _ n n (omega arith) (λ q hq. and-true (row-symmetric q hq) (k q (omega arith)))
 
     pub row-inside : (p : ℕ) → p < n → RowInside n edges p
     row-inside p hp q hq t = set-inside q p (turned p hp q hq t)

@@ -10,19 +10,19 @@ use lib.ListN.{length, getD}
 use lib.Seq.{ext-getD}
 use borrow.Author.Tests.{eqb-true, eqb-false, eq-eqb, ne-eqb, le-leb, leb-true, lt-ltb, ltb-true, not-true}
 use Rattle.model.specs.Lists.{nodes, sameList}
-use Rattle.model.specs.Graph.{Graph, Proper, maxNodes, nodeNumbers, rowWords}
+use Rattle.model.specs.Graph.{Graph, Proper, View, maxNodes, nodeNumbers, rowWords, whole}
 use Rattle.model.specs.Grouping.{cube, falseTwins, openKey, similar, trueTwins}
 use Rattle.model.specs.Tables.{Tables, edgeBit, edgesOf, graphOf, holds, keysOf, nodeNumber, nodesOf, simple, tablesOf}
 use Rattle.model.specs.TestLaws.{and-fst, and-snd, and-true, decide, differ, eq-beq, iff-eq, or-cases, or-left, or-right}
 use Rattle.model.specs.ListLaws.{all-elim, all-intro, nodes-in, nodes-out, same-refl}
 use Rattle.model.specs.TwinLaws.{Simple, falseTwins-by, falseTwins-no-edge, similar-N, similar-N+, similar-cases, trueTwins-edge}
 use Rattle.model.specs.TableLaws.{edge-bit, held-proper, held-tables, length-keys, mark-at, proper-simple, simple-edge, simple-loop, simple-proper}
-use Rattle.rows.specs.Rows.{Words}
-use Rattle.rows.specs.Search.{Ready, edgesIn, firstFrom, joins, meets, rowIn}
+use Rattle.rows.specs.Rows.{Words, keyOf}
+use Rattle.search.specs.Search.{Ready, edgesIn, firstFrom, joins, meets, rowIn, graphIn}
 use Rattle.rows.specs.EdgeLaws.{edges-by-bits}
-use Rattle.rows.specs.KeyLaws.{keyOf, keys-at}
-use Rattle.rows.specs.SearchLaws.{first-none, meets-by, meets-words, ready}
-use Rattle.rows.specs.TwinRowLaws.{false-meet, meet-false, meet-true, true-meet}
+use Rattle.rows.specs.KeyLaws.{keys-at}
+use Rattle.search.specs.SearchLaws.{first-none, meets-by, meets-words, ready}
+use Rattle.search.specs.TwinRowLaws.{false-meet, meet-false, meet-true, true-meet}
 use Rattle.rings.specs.Ring.{Of, Parts, Table}
 use Rattle.rings.specs.Steps.{Follows}
 use Rattle.rings.specs.NodesLaws.{graph-parts, is-nodes, mark-read, of-nodes}
@@ -38,13 +38,13 @@ both-false false b e = refl
 -- keys that pass
 module _ (n : ℕ) (edges keys : List ℕ) (p : ℕ) (h : keysHold n edges keys p ≡ true) where
   abbrev own : ℕ
-  own = openKey (nodes n) (edgesIn n edges) p
+  own = openKey (whole (graphIn n edges)) p
 
-  pub open-is : getD keys (2 * p) 0 ≡ openKey (nodes n) (edgesIn n edges) p
+  pub open-is : getD keys (2 * p) 0 ≡ openKey (whole (graphIn n edges)) p
   unfolding keysHold agrees
   open-is = eqb-true _ _ (and-fst (eqb (getD keys (2 * p) 0) own) _ h)
 
-  pub closed-is : getD keys (2 * p + 1) 0 ≡ (openKey (nodes n) (edgesIn n edges) p + cube p) % 2 ^ 32
+  pub closed-is : getD keys (2 * p + 1) 0 ≡ (openKey (whole (graphIn n edges)) p + cube p) % 2 ^ 32
   unfolding keysHold agrees
   closed-is = eqb-true _ _ (and-snd (eqb (getD keys (2 * p) 0) own) _ h)
 
@@ -79,14 +79,14 @@ module _ (n : ℕ) (t : Tables) (small : n ≤ maxNodes) (size : length (t .edge
         step (inl e) = absurd (eqb-false p p (not-true (eqb p p) (and-fst (not (eqb p p)) _ (and-snd (ltb p n) _ (mirror p p hp (omega arith) e)))) refl)
         step (inr e) = e
 
-    even : (p q : ℕ) → p < n → q < n → (ltb p n && (ltb q n && edgeBit (t .edges) p q)) ≡ (ltb q n && (ltb p n && edgeBit (t .edges) q p))
-    even p q hp hq = rw (lt-ltb p n hp, lt-ltb q n hq) (iff-eq (edgeBit (t .edges) p q) (edgeBit (t .edges) q p) (mirror-back p q hp (omega arith)) (mirror-back q p hq (omega arith)))
+    symmetric : (p q : ℕ) → p < n → q < n → (ltb p n && (ltb q n && edgeBit (t .edges) p q)) ≡ (ltb q n && (ltb p n && edgeBit (t .edges) q p))
+    symmetric p q hp hq = rw (lt-ltb p n hp, lt-ltb q n hq) (iff-eq (edgeBit (t .edges) p q) (edgeBit (t .edges) q p) (mirror-back p q hp (omega arith)) (mirror-back q p hq (omega arith)))
 
     rows-simple : simple (graphOf n t) ≡ true
     unfolding simple graphOf
     rows-simple =
         all-intro (nodes n) _
-        (λ p m. and-true (ap not (both-false (ltb p n) (ltb p n) (no-loop p (nodes-out n p m)))) (all-intro (nodes n) _ (λ q k. eq-beq _ _ (even p q (nodes-out n p m) (nodes-out n q k)))))
+        (λ p m. and-true (ap not (both-false (ltb p n) (ltb p n) (no-loop p (nodes-out n p m)))) (all-intro (nodes n) _ (λ q k. eq-beq _ _ (symmetric p q (nodes-out n p m) (nodes-out n q k)))))
 
     rows-edges : t .edges ≡ edgesOf (graphOf n t)
     rows-edges = edges-by-bits g (t .edges) (unfold graphOf in size) words (unfold graphOf in at)
@@ -107,11 +107,11 @@ module _ (n : ℕ) (t : Tables) (small : n ≤ maxNodes) (size : length (t .edge
 
         one : (p k : ℕ) → p < n → k < 2 → getD (t .keys) (2 * p + k) 0 ≡ keyOf (graphOf n t) p k
         one p zero hp hk =
-            let e : getD (t .keys) (2 * p) 0 ≡ openKey (nodes n) (edgesIn n (t .edges)) p = open-is n (t .edges) (t .keys) p (both p hp) in
+            let e : getD (t .keys) (2 * p) 0 ≡ openKey (whole (graphIn n (t .edges))) p = open-is n (t .edges) (t .keys) p (both p hp) in
             let z : 2 * p + 0 ≡ 2 * p = omega arith in
             rw z (omega arith)
         one p (suc zero) hp hk =
-            let e : getD (t .keys) (2 * p + 1) 0 ≡ (openKey (nodes n) (edgesIn n (t .edges)) p + cube p) % 2 ^ 32 = closed-is n (t .edges) (t .keys) p (both p hp) in
+            let e : getD (t .keys) (2 * p + 1) 0 ≡ (openKey (whole (graphIn n (t .edges))) p + cube p) % 2 ^ 32 = closed-is n (t .edges) (t .keys) p (both p hp) in
             omega arith
         one p (suc (suc k)) hp hk = absurd (omega arith)
 
@@ -137,12 +137,12 @@ module _ (n : ℕ) (t : Tables) (small : n ≤ maxNodes) (size : length (t .edge
   module _ (same-keys : t .keys ≡ keysOf (graphOf n t)) where
     pub keys-told : (p : ℕ) → p < n → keysHold n (t .edges) (t .keys) p ≡ true
     unfolding graphOf keysHold agrees openKey edgesIn
-    keys-told p hp = and-true (eq-eqb (getD (t .keys) (2 * p) 0) (openKey (nodes n) (edgesIn n (t .edges)) p) first) (eq-eqb (getD (t .keys) (2 * p + 1) 0) ((openKey (nodes n) (edgesIn n (t .edges)) p + cube p) % 2 ^ 32) (omega (arith, one 1 (omega arith))))
+    keys-told p hp = and-true (eq-eqb (getD (t .keys) (2 * p) 0) (openKey (whole (graphIn n (t .edges))) p) first) (eq-eqb (getD (t .keys) (2 * p + 1) 0) ((openKey (whole (graphIn n (t .edges))) p + cube p) % 2 ^ 32) (omega (arith, one 1 (omega arith))))
       where
         one : (k : ℕ) → k < 2 → getD (t .keys) (2 * p + k) 0 ≡ keyOf (graphOf n t) p k
         one k hk = ap (λ (s : List ℕ). getD s (2 * p + k) 0) same-keys ∙ keys-at (graphOf n t) p k hp hk
 
-        first : getD (t .keys) (2 * p) 0 ≡ openKey (nodes n) (edgesIn n (t .edges)) p
+        first : getD (t .keys) (2 * p) 0 ≡ openKey (whole (graphIn n (t .edges))) p
         first = let z : 2 * p + 0 ≡ 2 * p = omega arith in ap (λ (i : ℕ). getD (t .keys) i 0) (sym z) ∙ one 0 (omega arith) ∙ omega arith
 
   module _ (ok : simple (graphOf n t) ≡ true) (same-edges : t .edges ≡ edgesOf (graphOf n t)) (same-keys : t .keys ≡ keysOf (graphOf n t)) where
@@ -191,11 +191,11 @@ module _ (n : ℕ) (edges table : List ℕ) (twins : twinsHold n edges table ≡
 
 -- leaders of twins, none of which are similar, lead the groups
 module _ (n : ℕ) (edges table keys : List ℕ) (r : Ready n edges keys) where
-  abbrev e : ℕ → ℕ → Bool
-  e = edgesIn n edges
+  abbrev v : View
+  v = whole (graphIn n edges)
 
   abbrev R : ℕ → ℕ → Type 0
-  R = Of n (similar (nodes n) (edgesIn n edges))
+  R = Of n (similar (whole (graphIn n edges)))
 
   abbrev least : ℕ → ℕ
   least p = nodeNumber table p 0
@@ -203,17 +203,17 @@ module _ (n : ℕ) (edges table keys : List ℕ) (r : Ready n edges keys) where
   abbrev Rows : Bool → ℕ → ℕ → Type 0
   Rows c p l = meets c p l (rowIn edges p) (rowIn edges l) 8 ≡ true
 
-  rows-similar : (c : Bool) (p l : ℕ) → p < n → l < n → meets c p l (rowIn edges p) (rowIn edges l) 8 ≡ true → similar (nodes n) (edgesIn n edges) p l ≡ true
-  rows-similar true p l hp hl h = similar-N+ (nodes n) e p l (meet-true n edges keys r p l hp hl (meets-words true p l edges h))
-  rows-similar false p l hp hl h = similar-N (nodes n) e p l (meet-false n edges keys r p l hp hl (meets-words false p l edges h))
+  rows-similar : (c : Bool) (p l : ℕ) → p < n → l < n → meets c p l (rowIn edges p) (rowIn edges l) 8 ≡ true → similar (whole (graphIn n edges)) p l ≡ true
+  rows-similar true p l hp hl h = similar-N+ v p l (meet-true n edges keys r p l hp hl (meets-words true p l edges h))
+  rows-similar false p l hp hl h = similar-N v p l (meet-false n edges keys r p l hp hl (meets-words false p l edges h))
 
   module _ (twins : twinsHold n edges table ≡ true) (apart : leadersApart n edges table ≡ true) where
-    twin-similar : (p : ℕ) → p < n → similar (nodes n) (edgesIn n edges) p (nodeNumber table p 0) ≡ true
+    twin-similar : (p : ℕ) → p < n → similar (whole (graphIn n edges)) p (nodeNumber table p 0) ≡ true
     twin-similar p hp = rows-similar (edgeBit edges (least p) p) p (least p) hp (omega (arith, twin-low n edges table twins p hp)) (twin-meets n edges table twins p hp)
 
-    lone : (u q : ℕ) → u < n → q < u → nodeNumber table u 0 ≡ u → joins n edges table u u q ≡ false
+    no-other : (u q : ℕ) → u < n → q < u → nodeNumber table u 0 ≡ u → joins n edges table u u q ≡ false
     unfolding leadersApart alone
-    lone u q hu l s = step (first-cases (joins n edges table u u) 0 u)
+    no-other u q hu l s = step (first-cases (joins n edges table u u) 0 u)
       where
         f : ℕ
         f = firstFrom (joins n edges table u u) 0 u
@@ -225,36 +225,36 @@ module _ (n : ℕ) (edges table keys : List ℕ) (r : Ready n edges keys) where
         step (inl x) = absurd (omega (arith, x .0, none))
         step (inr x) = x .1 q (omega arith) (omega arith)
 
-    pub led-by-tests : Led n (Of n (similar (nodes n) (edgesIn n edges))) table
+    pub led-by-tests : Led n (Of n (similar (whole (graphIn n edges)))) table
     unfolding joins
     led-by-tests = record {
       low = twin-low n edges table twins;
       leads = twin-leads n edges table twins;
       alike = λ p hp. (hp, omega (arith, twin-low n edges table twins p hp), twin-similar p hp);
-      apart = λ u q l su sq x. differ (and-true (other u q l) (and-true (other u q l) (and-true (eq-eqb (least q) q sq) (x .2)))) (lone u q (x .0) l su);
+      apart = λ u q l su sq x. differ (and-true (other u q l) (and-true (other u q l) (and-true (eq-eqb (least q) q sq) (x .2)))) (no-other u q (x .0) l su);
     }
       where
         other : (u q : ℕ) → q < u → not (eqb q u) ≡ true
         other u q l = ap not (ne-eqb q u (omega arith))
 
-  module _ (simple-graph : Simple (nodes n) (edgesIn n edges)) (a : Led n (Of n (similar (nodes n) (edgesIn n edges))) table) where
+  module _ (simple-graph : Simple (whole (graphIn n edges))) (a : Led n (Of n (similar (whole (graphIn n edges)))) table) where
     bit-is : (p q : ℕ) → p < n → q < n → edgeBit edges p q ≡ edgesIn n edges p q
     unfolding edgesIn
     bit-is p q hp hq = rw (lt-ltb p n hp, lt-ltb q n hq)
 
-    similar-rows : (p l : ℕ) → p < n → l < n → similar (nodes n) (edgesIn n edges) p l ≡ true → meets (edgeBit edges l p) p l (rowIn edges p) (rowIn edges l) 8 ≡ true
-    similar-rows p l hp hl h = step (decide (eqb p l)) (similar-cases (nodes n) e p l h)
+    similar-rows : (p l : ℕ) → p < n → l < n → similar (whole (graphIn n edges)) p l ≡ true → meets (edgeBit edges l p) p l (rowIn edges p) (rowIn edges l) 8 ≡ true
+    similar-rows p l hp hl h = step (decide (eqb p l)) (similar-cases v p l h)
       where
-        tied : edgeBit edges l p ≡ e p l
+        tied : edgeBit edges l p ≡ v .edge p l
         tied = bit-is l p hl hp ∙ simple-graph .symmetric l p (nodes-in n l hl) (nodes-in n p hp)
 
-        by-false : falseTwins (nodes n) e p l ≡ true → Rows (edgeBit edges l p) p l
-        by-false f = rw (tied ∙ falseTwins-no-edge (nodes n) e simple-graph p l (nodes-in n l hl) f) (meets-by false p l edges (false-meet n edges keys r p l hp hl f))
+        by-false : falseTwins v p l ≡ true → Rows (edgeBit edges l p) p l
+        by-false f = rw (tied ∙ falseTwins-no-edge v simple-graph p l (nodes-in n l hl) f) (meets-by false p l edges (false-meet n edges keys r p l hp hl f))
 
-        step : (eqb p l ≡ true) ⊎ (eqb p l ≡ false) → (falseTwins (nodes n) e p l ≡ true) ⊎ (trueTwins (nodes n) e p l ≡ true) → Rows (edgeBit edges l p) p l
+        step : (eqb p l ≡ true) ⊎ (eqb p l ≡ false) → (falseTwins v p l ≡ true) ⊎ (trueTwins v p l ≡ true) → Rows (edgeBit edges l p) p l
         step z (inl f) = by-false f
-        step (inl z) (inr f) = by-false (falseTwins-by (nodes n) e p l (λ x m. ap (λ (y : ℕ). e y x) (eqb-true p l z)))
-        step (inr z) (inr f) = rw (tied ∙ trueTwins-edge (nodes n) e simple-graph p l (nodes-in n l hl) (eqb-false p l z) f) (meets-by true p l edges (true-meet n edges keys r p l hp hl f))
+        step (inl z) (inr f) = by-false (falseTwins-by v p l (λ x m. ap (λ (y : ℕ). v .edge y x) (eqb-true p l z)))
+        step (inr z) (inr f) = rw (tied ∙ trueTwins-edge v simple-graph p l (nodes-in n l hl) (eqb-false p l z) f) (meets-by true p l edges (true-meet n edges keys r p l hp hl f))
 
     pub twins-told : twinsHold n edges table ≡ true
     unfolding twinsHold twinOf
@@ -298,7 +298,7 @@ module _ (n : ℕ) (table : List ℕ) where
         let h₃ = and-snd (eqb (nodeNumber table (nodeNumber table p 2) 1) p) _ h₂ in
         record {
           below = ltb-true _ n (and-fst (ltb (nodeNumber table p 2) n) _ h₀);
-          fellow = eqb-true _ _ (and-fst (eqb (nodeNumber table (nodeNumber table p 2) 0) (nodeNumber table p 0)) _ h₁);
+          same-least = eqb-true _ _ (and-fst (eqb (nodeNumber table (nodeNumber table p 2) 0) (nodeNumber table p 0)) _ h₁);
           next = eqb-true _ p (and-fst (eqb (nodeNumber table (nodeNumber table p 2) 1) p) _ h₂);
           order = ⊎-elim (λ z. inl (eqb-true _ p z)) (λ z. inr (ltb-true _ p z)) (or-cases (eqb (nodeNumber table p 0) p) (ltb (nodeNumber table p 2) p) h₃);
         }
@@ -315,7 +315,7 @@ module _ (n : ℕ) (table : List ℕ) where
       let hp : p < n = nodes-out n p k in
       let a = f p hp in
       and-true
-      (and-true (lt-ltb (nodeNumber table p 2) n (a .below)) (and-true (eq-eqb (nodeNumber table (nodeNumber table p 2) 0) (nodeNumber table p 0) (a .fellow)) (and-true (eq-eqb (nodeNumber table (nodeNumber table p 2) 1) p (a .next)) (placed p (a .order)))))
+      (and-true (lt-ltb (nodeNumber table p 2) n (a .below)) (and-true (eq-eqb (nodeNumber table (nodeNumber table p 2) 0) (nodeNumber table p 0) (a .same-least)) (and-true (eq-eqb (nodeNumber table (nodeNumber table p 2) 1) p (a .next)) (placed p (a .order)))))
       (lt-ltb (nodeNumber table p 3) 2 (m p hp)))
     where
       placed : (p : ℕ) → (nodeNumber table p 0 ≡ p) ⊎ (nodeNumber table p 2 < p) → (eqb (nodeNumber table p 0) p || ltb (nodeNumber table p 2) p) ≡ true
@@ -344,10 +344,10 @@ module _ (n : ℕ) (t : Tables) (small : n ≤ maxNodes) (size : length (t .edge
       same-keys : t .keys ≡ keysOf graph
       same-keys = rows-keys n t small size size-k words hr
 
-      parts : Parts n (Of n (similar (nodes n) (edgesIn n (t .edges))))
+      parts : Parts n (Of n (similar (whole (graphIn n (t .edges)))))
       parts = unfold edgesIn in graph-parts graph proper
 
-      table : Table n (Of n (similar (nodes n) (edgesIn n (t .edges)))) (t .nodes)
+      table : Table n (Of n (similar (whole (graphIn n (t .edges))))) (t .nodes)
       table = certified parts (t .nodes) (led-by-tests n (t .edges) (t .nodes) (t .keys) (rows-ready n t small size size-k words hr) ht hl) (rings-by-tests n (t .nodes) hn)
 
       same-nodes : t .nodes ≡ nodesOf graph
@@ -377,15 +377,15 @@ module _ (n : ℕ) (t : Tables) (small : n ≤ maxNodes) (size : length (t .edge
     held-rows : rowsHold n (t .edges) (t .keys) ≡ true
     held-rows = rows-told n t small size size-k words simple-test held-edges held-keys
 
-    held-parts : Parts n (Of n (similar (nodes n) (edgesIn n (t .edges))))
+    held-parts : Parts n (Of n (similar (whole (graphIn n (t .edges)))))
     unfolding graphOf edgesIn
     held-parts = graph-parts graph held
 
-    held-table : Table n (Of n (similar (nodes n) (edgesIn n (t .edges)))) (t .nodes)
+    held-table : Table n (Of n (similar (whole (graphIn n (t .edges))))) (t .nodes)
     unfolding graphOf edgesIn
-    held-table = subst (λ s. Table n (Of n (similar (nodes n) (graphOf n t .edge))) s) (sym held-nodes) (of-nodes graph held)
+    held-table = subst (λ s. Table n (Of n (similar (whole (graphOf n t)))) s) (sym held-nodes) (of-nodes graph held)
 
-    held-simple : Simple (nodes n) (edgesIn n (t .edges))
+    held-simple : Simple (whole (graphIn n (t .edges)))
     unfolding graphOf edgesIn
     held-simple = proper-simple graph held
 

@@ -1,11 +1,6 @@
 pub mod Checks
-pub mod Walk
-pub mod WalkLaws
+pub mod Slots
 pub mod SlotLaws
-pub mod SumLaws
 pub mod StepLaws
 pub mod HoldLaws
-pub mod Dense
-pub mod BlockLaws
-pub mod FourLaws
 pub mod DenseLaws

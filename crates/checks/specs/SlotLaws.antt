@@ -3,40 +3,23 @@ use mathlib.Core.Path.{_≡_, refl, sym, ap, _∙_}
 use mathlib.Core.Bool.{Bool, true, false, not}
 use mathlib.Core.List.{List}
 use mathlib.Core.Logic.{_⊎_, inl, inr}
-use Prim.Native.Nat.{ℕ, _+_, _*_, _%_, _<_}
+use Prim.Native.Nat.{ℕ, _+_, _*_, _<_}
 use native.Mathlib.Omega.{arith}
 use native.Mathlib.Decide.{ℕ-discrete}
 use lib.Dec.{eqb}
 use lib.ListN.{length, getD, set, length-set}
 use lib.Seq.{getD-set-same, getD-set-other}
 use borrow.Author.Tests.{eqb-true, eq-eqb}
-use Rattle.model.specs.Lists.{nodes}
+use Rattle.model.specs.Graph.{whole}
 use Rattle.model.specs.Grouping.{falseTwins, trueTwins}
 use Rattle.model.specs.Tables.{nodeNumber}
 use Rattle.model.specs.TestLaws.{and-fst, and-snd, decide}
 use Rattle.model.specs.TwinLaws.{similar-cases}
-use Rattle.rows.specs.Search.{Ready, edgesIn, firstFrom, joins, keyAgrees}
-use Rattle.rows.specs.SearchLaws.{first-none}
-use Rattle.rows.specs.TwinRowLaws.{false-key, true-key}
+use Rattle.search.specs.Search.{Ready, firstFrom, joins, keyAgrees, graphIn}
+use Rattle.search.specs.SearchLaws.{first-none}
+use Rattle.search.specs.TwinRowLaws.{false-key, true-key}
 use Rattle.checks.specs.Checks.{alone}
-
--- the slot of a key: any number below 8192 would do
-abbrev pub slotOf : ℕ → ℕ
-slotOf key = key % 8191
-
--- the slots of the keys of the leaders below u are taken
-pub record Seen (table keys : List ℕ) (u : ℕ) (open-slots closed-slots : List ℕ) : Type 0 where
-  pub open-size : length open-slots ≡ 8192
-  pub closed-size : length closed-slots ≡ 8192
-  pub opens : (q : ℕ) → q < u → nodeNumber table q 0 ≡ q → getD open-slots (slotOf (getD keys (2 * q) 0)) 0 ≡ 1
-  pub closeds : (q : ℕ) → q < u → nodeNumber table q 0 ≡ q → getD closed-slots (slotOf (getD keys (2 * q + 1) 0)) 0 ≡ 1
-
--- the slots of u's keys are taken, and r says whether they were free
-pub record Marked (keys : List ℕ) (u : ℕ) (open-slots closed-slots open-after closed-after : List ℕ) (r : Bool) : Type 0 where
-  pub opened : open-after ≡ set open-slots (slotOf (getD keys (2 * u) 0)) 1
-  pub closed : closed-after ≡ set closed-slots (slotOf (getD keys (2 * u + 1) 0)) 1
-  pub open-free : r ≡ true → getD open-slots (slotOf (getD keys (2 * u) 0)) 0 ≡ 0
-  pub closed-free : r ≡ true → getD closed-slots (slotOf (getD keys (2 * u + 1) 0)) 0 ≡ 0
+use Rattle.checks.specs.Slots.{Marked, Seen, slotOf}
 
 pub marked : (keys : List ℕ) (u : ℕ) (os cs : List ℕ) (a b x y : ℕ) → a ≡ slotOf (getD keys (2 * u) 0) → b ≡ slotOf (getD keys (2 * u + 1) 0) → x ≡ getD os a 0 → y ≡ getD cs b 0
     → Marked keys u os cs (set os a 1) (set cs b 1) (eqb (x + y) 0)
@@ -92,7 +75,7 @@ module _ {table keys : List ℕ} where
 
     -- where both slots were free, nobody below is similar
     module _ {n : ℕ} {edges : List ℕ} (ready : Ready n edges keys) (inside : u < n) (leads : nodeNumber table u 0 ≡ u) {os′ cs′ : List ℕ} {r : Bool} (m : Marked keys u os cs os′ cs′ r) (fresh : r ≡ true) where
-      no-twin : (q : ℕ) → q < u → nodeNumber table q 0 ≡ q → (falseTwins (nodes n) (edgesIn n edges) u q ≡ true) ⊎ (trueTwins (nodes n) (edgesIn n edges) u q ≡ true) → ⊥
+      no-twin : (q : ℕ) → q < u → nodeNumber table q 0 ≡ q → (falseTwins (whole (graphIn n edges)) u q ≡ true) ⊎ (trueTwins (whole (graphIn n edges)) u q ≡ true) → ⊥
       unfolding keyAgrees
       no-twin q l e (inl h) =
           let same : getD keys (2 * u + 0) 0 ≡ getD keys (2 * q + 0) 0 = eqb-true _ _ (false-key n edges keys ready u q inside (omega arith) h) in
@@ -111,7 +94,7 @@ module _ {table keys : List ℕ} where
           step : (joins n edges table u u q ≡ true) ⊎ (joins n edges table u u q ≡ false) → joins n edges table u u q ≡ false
           step (inl h) =
               let b = and-snd (not (eqb q u)) _ (and-snd (not (eqb q u)) _ h) in
-              absurd (no-twin q l (eqb-true (nodeNumber table q 0) q (and-fst (eqb (nodeNumber table q 0) q) _ b)) (similar-cases (nodes n) (edgesIn n edges) u q (and-snd (eqb (nodeNumber table q 0) q) _ b)))
+              absurd (no-twin q l (eqb-true (nodeNumber table q 0) q (and-fst (eqb (nodeNumber table q 0) q) _ b)) (similar-cases (whole (graphIn n edges)) u q (and-snd (eqb (nodeNumber table q 0) q) _ b)))
           step (inr h) = h
 
       pub alone-fresh : true ≡ alone n edges table u

@@ -9,36 +9,19 @@ use lib.Bits.{bitAnd, xor-self}
 use lib.Count.{trailingZeros}
 use lib.Dec.{eqb, ltb}
 use lib.ListN.{getD}
-use borrow.Author.Tests.{eqb-true, eqb-false, eq-eqb, ne-eqb, le-leb, lt-leb, le-ltb, lt-ltb, ltb-true, not-false, not-true}
-use Rattle.model.specs.Lists.{all, nodes}
+use borrow.Author.Tests.{eqb-true, eqb-false, eq-eqb, ne-eqb, le-leb, lt-leb, le-ltb, lt-ltb, ltb-true}
+use Rattle.model.specs.Graph.{whole}
 use Rattle.model.specs.Grouping.{cube, openKey}
 use Rattle.model.specs.Tables.{edgeBit, nodeNumber}
-use Rattle.model.specs.TestLaws.{and-fst, decide, differ}
-use Rattle.model.specs.ListLaws.{all-elim, all-intro, nodes-in, nodes-out}
+use Rattle.model.specs.TestLaws.{and-fst, decide}
 use Rattle.rows.specs.Rows.{Words}
-use Rattle.rows.specs.Search.{edgesIn, firstFrom, joins, meets, ownBit, ownBits, rowIn}
-use Rattle.rows.specs.SearchLaws.{meets-by}
-use Rattle.checks.specs.Walk.{ahead}
-use Rattle.checks.specs.WalkLaws.{ahead-end, ahead-next, ahead-start}
-use Rattle.checks.specs.SumLaws.{Adding, adding-done, adding-less, adding-next, adding-off, adding-on, adding-place, adding-set, adding-start}
+use Rattle.search.specs.Search.{firstFrom, joins, meets, ownBit, ownBits, rowIn, graphIn}
+use Rattle.search.specs.SearchLaws.{meets-by}
+use Rattle.buffers.specs.AllLaws.{all-fail, all-pass, failed, passed}
+use Rattle.keys.specs.Walk.{ahead}
+use Rattle.keys.specs.WalkLaws.{ahead-end, ahead-next, ahead-start}
+use Rattle.keys.specs.SumLaws.{Adding, adding-done, adding-less, adding-next, adding-off, adding-on, adding-place, adding-set, adding-start}
 use Rattle.checks.specs.Checks.{agrees, alone, bitHolds, follows, keysHold, mirrored, nodeHolds, rowHolds, twinOf}
-
--- a loop over the nodes that is left at the first that fails
-pub passed : {x b : Bool} → b ≡ x → not b ≡ false → x ≡ true
-passed {x} {b} e f = sym e ∙ not-false b f
-
-pub failed : {x b : Bool} → b ≡ x → not b ≡ true → x ≡ false
-failed {x} {b} e f = sym e ∙ not-true b f
-
-pub all-pass : (f : ℕ → Bool) (n p : ℕ) → n ≤ p → ((k : ℕ) → k < p → f k ≡ true) → true ≡ all (nodes n) f
-all-pass f n p l h = sym (all-intro (nodes n) f (λ k m. h k (omega (arith, nodes-out n k m))))
-
-pub all-fail : (f : ℕ → Bool) (n p : ℕ) → p < n → f p ≡ false → false ≡ all (nodes n) f
-all-fail f n p l h = step (decide (all (nodes n) f))
-  where
-    step : (all (nodes n) f ≡ true) ⊎ (all (nodes n) f ≡ false) → false ≡ all (nodes n) f
-    step (inl t) = differ (all-elim (nodes n) f t p (nodes-in n p l)) h
-    step (inr t) = sym t
 
 -- a bit and its mirror
 module _ (n : ℕ) (edges : List ℕ) (p q : ℕ) where
@@ -117,7 +100,7 @@ module _ {n : ℕ} {edges : List ℕ} {p : ℕ} where
   walk-done {x} {sum} {w} h e keys b f l =
       f
       ∙ ap (agrees keys p) (adding-done (h .adding) e l)
-      ∙ ap (λ (t : Bool). t && agrees keys p (openKey (nodes n) (edgesIn n edges) p)) (all-pass (bitHolds n edges p) 512 512 (omega arith) (λ q k. h .passed q k (rw e (ahead-end edges p x q k))))
+      ∙ ap (λ (t : Bool). t && agrees keys p (openKey (whole (graphIn n edges)) p)) (all-pass (bitHolds n edges p) 512 512 (omega arith) (λ q k. h .passed q k (rw e (ahead-end edges p x q k))))
 
 -- a node and its leader
 module _ (edges table : List ℕ) (p l : ℕ) where
@@ -171,20 +154,20 @@ module _ (n : ℕ) (table : List ℕ) (p a : ℕ) where
     follows-other d = rw (lt-ltb a n inside, ne-eqb (nodeNumber table a 0) (nodeNumber table p 0) (λ z. d (ex ∙ z ∙ sym el)))
 
     module _ (same : x ≡ l) {y : ℕ} (ey : y ≡ nodeNumber table a 1) where
-      fellow : eqb (nodeNumber table a 0) (nodeNumber table p 0) ≡ true
-      fellow = eq-eqb (nodeNumber table a 0) (nodeNumber table p 0) (sym ex ∙ same ∙ el)
+      same-least : eqb (nodeNumber table a 0) (nodeNumber table p 0) ≡ true
+      same-least = eq-eqb (nodeNumber table a 0) (nodeNumber table p 0) (sym ex ∙ same ∙ el)
 
       pub follows-not : (y ≡ p → ⊥) → false ≡ follows n table p a
       unfolding follows
-      follows-not d = rw (lt-ltb a n inside, fellow, ne-eqb (nodeNumber table a 1) p (λ z. d (ey ∙ z)))
+      follows-not d = rw (lt-ltb a n inside, same-least, ne-eqb (nodeNumber table a 1) p (λ z. d (ey ∙ z)))
 
       pub follows-leader : y ≡ p → l ≡ p → true ≡ follows n table p a
       unfolding follows
-      follows-leader f g = rw (lt-ltb a n inside, fellow, eq-eqb (nodeNumber table a 1) p (sym ey ∙ f), eq-eqb (nodeNumber table p 0) p (sym el ∙ g))
+      follows-leader f g = rw (lt-ltb a n inside, same-least, eq-eqb (nodeNumber table a 1) p (sym ey ∙ f), eq-eqb (nodeNumber table p 0) p (sym el ∙ g))
 
       pub follows-member : y ≡ p → (l ≡ p → ⊥) → ltb a p ≡ follows n table p a
       unfolding follows
-      follows-member f d = rw (lt-ltb a n inside, fellow, eq-eqb (nodeNumber table a 1) p (sym ey ∙ f), ne-eqb (nodeNumber table p 0) p (λ z. d (el ∙ z)))
+      follows-member f d = rw (lt-ltb a n inside, same-least, eq-eqb (nodeNumber table a 1) p (sym ey ∙ f), ne-eqb (nodeNumber table p 0) p (λ z. d (el ∙ z)))
 
 module _ (n : ℕ) (table : List ℕ) (p : ℕ) {a : ℕ} (b : Bool) (ea : a ≡ nodeNumber table p 2) (e : b ≡ follows n table p a) where
   pub node-fails : not b ≡ true → false ≡ nodeHolds n table p

@@ -6,8 +6,8 @@ ghost use lib.ListN.{length};
 ghost use Rattle.model.specs.Graph.{maxNodes, rowWords, nodeNumbers};
 ghost use Rattle.model.specs.Tables.{holds};
 ghost use Rattle.rows.specs.Rows.{lent};
-ghost use Rattle.rows.specs.Search.{Ready};
-ghost use Rattle.checks.specs.SlotLaws.{Marked, Seen, slotOf};
+ghost use Rattle.search.specs.Search.{Ready};
+ghost use Rattle.checks.specs.Slots.{Marked, Seen, slotOf};
 ghost use Rattle.checks.specs.Checks.{
   agrees,
   alone,
@@ -23,7 +23,7 @@ ghost use Rattle.checks.specs.Checks.{
   twinsHold,
 };
 
-pub mod dense;
+mod dense;
 
 use groups::LEAST;
 use groups::MARK;
@@ -93,41 +93,14 @@ fn sparse_rows_hold(edges: &[u64], keys: &[u32], n: usize) -> bool
     true
 }
 
-// How many bits of a word are set.
-fn ones_of(x: u64) -> usize
-    ensures { λ r. ⌜ r ≤ 64 ⌝ }
-{
-    u64::count_ones(x) as usize
-}
-
-// How many bits every so many words of the edges have.
-fn bits_among(edges: &[u64], step: usize) -> usize
-    requires { ⌜ (length (now edges) ≤ rowWords * maxNodes) × (0 < step) × (step ≤ 64) ⌝ }
-{
-    let mut bits = 0;
-    let mut i = 0;
-    while i < edges.len() {
-        bits += ones_of(edges[i]);
-        i += step;
-    }
-    bits
-}
-
-// Whether a sample of the edges has so many bits that a walk over all of them would take long. Either answer is right.
-pub fn has_many_bits(edges: &[u64]) -> bool
-    requires { ⌜ length (now edges) ≤ rowWords * maxNodes ⌝ }
-{
-    bits_among(edges, 37) > 1000
-}
-
 // Whether a walk over all bits would take longer than the way by blocks, told by a sample: of few nodes, every third. Either answer is right.
 fn is_dense(edges: &[u64], n: usize) -> bool
     requires { ⌜ length (now edges) ≤ rowWords * maxNodes ⌝ }
 {
     if n <= 64 {
-        return bits_among(edges, 24) > 300;
+        return keys::bits_among(edges, 24) > 300;
     }
-    has_many_bits(edges)
+    keys::has_many_bits(edges)
 }
 
 // Whether edges and keys are those of a graph, where every node is a twin of its leader.
@@ -155,7 +128,7 @@ fn is_twin(edges: &[u64], nodes: &[u16], n: usize, p: usize, l: usize) -> bool
     if l == p {
         return true;
     }
-    rows::same_row(edges, rows::edge(edges, l, p), p, l)
+    search::same_row(edges, rows::edge(edges, l, p), p, l)
 }
 
 // Whether every node is a twin of its leader.
@@ -218,7 +191,7 @@ fn is_alone(
     if are_new(keys, u, opens, closeds) {
         return true;
     }
-    rows::find_group(edges, nodes, keys, n, u, u, u) == u
+    search::find_group(edges, nodes, keys, n, u, u, u) == u
 }
 
 // Whether no two leaders are similar.

@@ -12,7 +12,7 @@ use Rattle.model.specs.Lists.{_∈_, any, from, headOr, member}
 use Rattle.model.specs.Summary.{position}
 use Rattle.model.specs.TestLaws.{and-fst, and-snd, beq-eq, differ, or-cases, or-left, or-right}
 use Rattle.model.specs.ListLaws.{Ascending, filter-ascending, filter-elim, filter-intro, from-ascending, from-in, from-out, headOr-le, member-elim}
-use Rattle.layout.specs.Scan.{scan}
+use Rattle.buffers.specs.Scan.{scan}
 use Rattle.layout.specs.File.{firstTwo}
 use Rattle.reader.specs.Decoding.{placed}
 use Rattle.reader.specs.Decoding as Decoding

@@ -13,8 +13,8 @@ use Rattle.model.specs.Reading.{hasPair}
 use Rattle.model.specs.TestLaws.{and-fst, and-snd, and-true, decide, differ, or-cases, or-left}
 use Rattle.model.specs.ListLaws.{from-out}
 use Rattle.model.specs.TableLaws.{map-cong}
-use Rattle.layout.specs.Scan.{flat, scan}
-use Rattle.layout.specs.ScanLaws.{flat-end, flat-step, scan-cong, scan-end, scan-no, scan-skip, scan-yes, upward}
+use Rattle.buffers.specs.Scan.{flat, scan}
+use Rattle.buffers.specs.ScanLaws.{flat-end, flat-step, scan-cong, scan-end, scan-no, scan-skip, scan-yes, upward}
 use Rattle.layout.specs.File.{superedgesTo}
 use Rattle.reader.specs.Decoding.{follows, keyOf}
 use Rattle.reader.specs.ToldLaws.{Ordered}

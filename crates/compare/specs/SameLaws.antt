@@ -17,10 +17,10 @@ use Rattle.model.specs.Reading.{groupsAt, u16At}
 use Rattle.model.specs.ReadingLaws.{u16s-back}
 use Rattle.model.specs.TestLaws.{and-true, decide, eq-beq, iff-eq}
 use Rattle.model.specs.ListLaws.{same-eq, same-refl}
-use Rattle.layout.specs.Scan.{scan}
-use Rattle.layout.specs.ScanLaws.{scan-end, scan-no, scan-yes, upward}
+use Rattle.buffers.specs.Scan.{scan}
+use Rattle.buffers.specs.ScanLaws.{scan-end, scan-no, scan-yes, upward}
 use Rattle.layout.specs.WholeLaws.{flat-list}
-use Rattle.layout.specs.File.{Partition, belongs, fileGroups, fileNodes, fileOf, firstTwo, groupBytes, groupsBytes, leadersOf, leads, membersOf, superedgeBytes, u16s}
+use Rattle.layout.specs.File.{Partition, belongs, fileGroups, fileNodes, fileOf, firstTwo, groupBytes, groupsBytes, leadersOf, leads, membersOf, superedgeBytes, u16Bytes}
 use Rattle.reader.specs.Decoding.{crossed, groupsFrom, inside, toldEdge, toldGroups, toldPairs}
 use Rattle.reader.specs.Decoding as Decoding
 use Rattle.reader.specs.ToldLaws.{Ordered}
@@ -36,7 +36,7 @@ groupOf e members l = (firstTwo e (members l), members l)
 
 module _ (e : ℕ → ℕ → Bool) (members : ℕ → List ℕ) where
   written-records : (ls : List ℕ) → concat (map recordOf (map (groupOf e members) ls)) ≡ concat (map (λ l. groupBytes e (members l)) ls)
-  unfolding concat recordOf groupBytes u16s
+  unfolding concat recordOf groupBytes u16Bytes
   written-records [] = refl
   written-records (l ∷ ls) = ap (λ (r : List ℕ). recordOf (groupOf e members l) ++ r) (written-records ls)
 

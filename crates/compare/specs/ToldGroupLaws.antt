@@ -14,8 +14,8 @@ use Rattle.model.specs.Summary.{reconstruct}
 use Rattle.model.specs.Reading.{graphBy, hasPair, summaryBy}
 use Rattle.model.specs.TestLaws.{decide, iff-eq}
 use Rattle.model.specs.ListLaws.{headOr-le, member-elim, member-intro}
-use Rattle.layout.specs.Scan.{scan}
-use Rattle.layout.specs.ScanLaws.{getD-ascending, getD-in, scan-cong}
+use Rattle.buffers.specs.Scan.{scan}
+use Rattle.buffers.specs.ScanLaws.{getD-ascending, getD-in, scan-cong}
 use Rattle.layout.specs.WholeLaws.{flat-cong}
 use Rattle.layout.specs.File.{belongs, firstTwo, inGroup, later, leadersOf, leads, meets, superedgeBytes, superedgesTo}
 use Rattle.layout.specs.File as File

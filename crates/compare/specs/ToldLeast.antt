@@ -24,7 +24,7 @@ pub record LeastPutting (l : ℕ) (all rest t now : List ℕ) : Type 0 where
   pub least : (p : ℕ) → cond (member p rest) l (getD now p 0) ≡ cond (member p all) l (getD t p 0)
 
 -- all groups are put
-pub record LeastTold (s t after : List ℕ) : Type 0 where
+pub record LeastRead (s t after : List ℕ) : Type 0 where
   pub size : length after ≡ length t
   pub least : (p : ℕ) → getD after p 0 ≡ toldLeast (toldGroups s) p (getD t p 0)
 

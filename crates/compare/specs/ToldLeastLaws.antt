@@ -23,7 +23,7 @@ use Rattle.reader.specs.GroupLaws.{groups-step}
 use Rattle.compare.specs.Agree.{groupsAgree}
 use Rattle.compare.specs.AgreeLaws.{agreed-at}
 use Rattle.compare.specs.Told.{Listed}
-use Rattle.compare.specs.ToldLeast.{LeastPut, LeastPutting, LeastTelling, LeastTold, toldLeast}
+use Rattle.compare.specs.ToldLeast.{LeastPut, LeastPutting, LeastTelling, LeastRead, toldLeast}
 use Rattle.compare.specs.WalkLaws.{first-member}
 
 -- the members of a group, one after the other
@@ -99,7 +99,7 @@ module _ (n g : ℕ) (s t : List ℕ) where
             ∙ (unfold toldLeast in refl))
             ∙ before .least p
 
-  pub telling-done : (i at : ℕ) {now : List ℕ} → g ≤ i → LeastTelling n g s i at t now → LeastTold s t now
+  pub telling-done : (i at : ℕ) {now : List ℕ} → g ≤ i → LeastTelling n g s i at t now → LeastRead s t now
   unfolding toldLeast groupsFrom groupsAt
   telling-done i at {now} h x = let z : g - i ≡ 0 = omega arith in record { size = x .size; least = λ p. rw z at (x .least p) }
 

@@ -11,7 +11,7 @@ ghost use Rattle.reader.specs.Drawing.{membersAt};
 ghost use Rattle.reader.specs.Decoding.{accepted, numbersAt};
 ghost use Rattle.compare.specs.Agree.{groupAgrees, membersAgree};
 ghost use Rattle.compare.specs.Told.{Listed, Rowed, Told, groupAt};
-ghost use Rattle.compare.specs.ToldLeast.{LeastPut, LeastTold};
+ghost use Rattle.compare.specs.ToldLeast.{LeastPut, LeastRead};
 
 // Members ascend from `low` on, and each has the least member l.
 fn members_agree(file: &[u8], at: usize, count: usize, least: &[u16], l: usize, low: usize) -> bool
@@ -113,7 +113,7 @@ fn put_group(file: &[u8], at: usize, least: &mut [u16])
 // The least members that the groups of a file tell. Nodes of no group are as before.
 pub fn told_least(file: &[u8], n: usize, least: &mut [u16])
     requires { ⌜ (accepted (now file) ≡ true) × (n ≡ u16At (now file) 2) × (n ≤ length (now least)) ⌝ }
-    ensures { λ _. ⌜ LeastTold (now (file .entry)) (now (least .entry)) (now (least .exit)) ⌝ }
+    ensures { λ _. ⌜ LeastRead (now (file .entry)) (now (least .entry)) (now (least .exit)) ⌝ }
 {
     let g = reader::node_at(file, 6);
     let mut at = 8;

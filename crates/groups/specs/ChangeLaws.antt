@@ -1,28 +1,28 @@
 -- The three tables before, within and after the update of an edge.
 use mathlib.Core.Path.{_≡_, refl, sym, subst, _∙_, ap}
 use mathlib.Core.Logic.{_≢_, _⊎_, inl, inr}
-use mathlib.Core.Bool.{Bool, true, false, cond}
+use mathlib.Core.Bool.{Bool, true, false}
 use mathlib.Core.List.{List}
 use Prim.Native.Nat.{ℕ, _+_, _*_, _≤_, _<_, min, max}
 use native.Mathlib.Omega.{arith}
-use lib.Dec.{eqb, ltb}
+use lib.Dec.{ltb}
 use lib.ListN.{length}
 use lib.IntN.{subℕ}
 use borrow.Author.Tests.{ltb-true, ltb-false}
-use Rattle.model.specs.Lists.{nodes}
-use Rattle.model.specs.Graph.{Graph, Proper, maxNodes, nodeNumbers, rowWords}
+use Rattle.model.specs.Graph.{Graph, Proper, maxNodes, nodeNumbers, rowWords, whole}
 use Rattle.model.specs.Grouping.{similar}
 use Rattle.model.specs.Tables.{Tables, edgesOf, graphOf, keysOf, nodeNumber, tablesOf}
-use Rattle.model.specs.Updates.{Update, answer, onEdge, refusal, updated}
+use Rattle.model.specs.Updates.{Update, answer, onEdge, refusal, updated, wanted}
 use Rattle.model.specs.TestLaws.{decide}
 use Rattle.model.specs.TableLaws.{length-edges, length-keys, length-nodes-of, read-back}
+use Rattle.model.specs.BoundLaws.{withEdges}
 use Rattle.model.specs.UpdateLaws.{apart, proper-updated, u-inside, v-inside}
 use Rattle.rows.specs.Rows.{Changed, KeysChanged, lent}
-use Rattle.rows.specs.Search.{Ready, edgesIn}
-use Rattle.rows.specs.SearchLaws.{edges-in, ready}
+use Rattle.search.specs.Search.{Ready}
+use Rattle.search.specs.SearchLaws.{edges-in, ready}
 use Rattle.rows.specs.EdgeLaws.{edges-updated}
 use Rattle.rows.specs.KeyLaws.{keys-updated}
-use Rattle.rings.specs.Steps.{Back, Parted, Sound, Taken}
+use Rattle.rings.specs.Steps.{Back, OthersLeft, Sound, Taken}
 use Rattle.rings.specs.UpdateLaws.{sound₀, sound₁, sound₂, sound₃}
 use Rattle.rings.specs.GraphLaws.{EdgeUpdate, Ends, update-answer, update-nodes, update-shift}
 use Rattle.groups.specs.Groups.{Asked, edgeUpdate, similarIn}
@@ -31,9 +31,9 @@ edge-kind : (insert : Bool) (u v : ℕ) → onEdge (edgeUpdate insert u v) ≡ t
 edge-kind true u v = refl
 edge-kind false u v = refl
 
-inserts : (insert : Bool) → eqb (cond insert 1 2) 1 ≡ insert
-inserts true = refl
-inserts false = refl
+inserts : (insert : Bool) (u v : ℕ) → wanted (edgeUpdate insert u v) ≡ insert
+inserts true u v = refl
+inserts false u v = refl
 
 -- the tables of a graph are read as it
 pub tables-read : {g : Graph} {t : Tables} → Proper g → t ≡ tablesOf g → graphOf (g .nodeCount) t ≡ g
@@ -104,18 +104,18 @@ module _ {n u v : ℕ} {insert : Bool} {t : Tables} (a : Asked n u v insert t) w
           unfolding tablesOf
           keys-after =
               keys-updated g c (a .proper) (a .accepted) (edge-kind insert u v) ks
-              (subst (λ b. KeysChanged b u v (keysOf g) ks) (sym (inserts insert)) (subst (λ s. KeysChanged insert u v s ks) (ap (λ (s : Tables). s .keys) (a .same)) k))
+              (subst (λ b. KeysChanged b u v (keysOf g) ks) (sym (inserts insert u v)) (subst (λ s. KeysChanged insert u v s ks) (ap (λ (s : Tables). s .keys) (a .same)) k))
 
           pub asked-ready : Ready n es ks
           unfolding graphOf updated
           asked-ready = rw (edges-after, keys-after) (ready (updated g c) new)
 
-          alike : (p : ℕ) → similarIn n es p ≡ similar (nodes n) (updated (graphOf n t) (edgeUpdate insert u v) .edge) p
+          alike : (p : ℕ) → similarIn n es p ≡ similar (whole (updated (graphOf n t) (edgeUpdate insert u v))) p
           unfolding graphOf updated
-          alike p = ap (λ (s : List ℕ). similar (nodes n) (edgesIn n s) p) edges-after ∙ ap (λ (f : ℕ → ℕ → Bool). similar (nodes n) f p) (edges-in (updated g c) new)
+          alike p = ap (λ (s : List ℕ). similarIn n s p) edges-after ∙ ap (λ (f : ℕ → ℕ → Bool). similar (withEdges (whole g) f) p) (edges-in (updated g c) new)
 
           module _ {z₃ : ℕ} {t₃ : List ℕ} (x₃ : Back n x y z₃ (similarIn n es x) t₂ t₃) where
-            back₃ : Back n x y z₃ (similar (nodes n) (updated (graphOf n t) (edgeUpdate insert u v) .edge) x) t₂ t₃
+            back₃ : Back n x y z₃ (similar (whole (updated (graphOf n t) (edgeUpdate insert u v))) x) t₂ t₃
             back₃ = subst (λ s. Back n x y z₃ s t₂ t₃) (alike x) x₃
 
             pub asked₃ : Sound n t₃
@@ -123,7 +123,7 @@ module _ {n u v : ℕ} {insert : Bool} {t : Tables} (a : Asked n u v insert t) w
             asked₃ = sound₃ (update-shift (asked-update lx my)) x₁ x₂ back₃
 
             module _ {z₄ : ℕ} {t₄ : List ℕ} (x₄ : Back n y y z₄ (similarIn n es y) t₃ t₄) where
-              back₄ : Back n y y z₄ (similar (nodes n) (updated (graphOf n t) (edgeUpdate insert u v) .edge) y) t₃ t₄
+              back₄ : Back n y y z₄ (similar (whole (updated (graphOf n t) (edgeUpdate insert u v))) y) t₃ t₄
               back₄ = subst (λ s. Back n y y z₄ s t₃ t₄) (alike y) x₄
 
               pub asked-tables : lent es t₄ ks ≡ tablesOf (updated (graphOf n t) (edgeUpdate insert u v))
@@ -134,6 +134,6 @@ module _ {n u v : ℕ} {insert : Bool} {t : Tables} (a : Asked n u v insert t) w
                   let e₃ = keys-after in
                   λ i. record { edges = e₁ i; nodes = e₂ i; keys = e₃ i }
 
-              pub asked-answer : {z₁ z₂ : ℕ} → Parted (nodeNumber (t .nodes) x 1) x z₁ → Parted (nodeNumber t₁ y 1) y z₂ → subℕ (z₁ + z₂) (z₃ + z₄) ≡ answer (graphOf n t) (edgeUpdate insert u v)
+              pub asked-answer : {z₁ z₂ : ℕ} → OthersLeft (nodeNumber (t .nodes) x 1) x z₁ → OthersLeft (nodeNumber t₁ y 1) y z₂ → subℕ (z₁ + z₂) (z₃ + z₄) ≡ answer (graphOf n t) (edgeUpdate insert u v)
               unfolding graphOf
               asked-answer p₁ p₂ = update-answer (asked-update lx my) x₁ x₂ back₃ back₄ p₁ p₂

@@ -10,7 +10,7 @@ use lib.Dec.{eqb}
 use borrow.Author.Tests.{eqb-true, eqb-false, eq-eqb, ne-eqb, not-true}
 use Rattle.model.specs.Tables.{nodeNumber}
 use Rattle.model.specs.TestLaws.{and-fst, and-snd, and-true, differ}
-use Rattle.rows.specs.Search.{firstFrom, joins}
+use Rattle.search.specs.Search.{firstFrom, joins}
 use Rattle.rings.specs.Steps.{Fit}
 use Rattle.rings.specs.UpdateLaws.{Found, at, nowhere}
 use Rattle.groups.specs.Groups.{similarIn}

@@ -3,16 +3,15 @@ use mathlib.Core.Path.{_≡_}
 use mathlib.Core.Bool.{Bool, cond}
 use mathlib.Core.List.{List}
 use Prim.Native.Nat.{ℕ}
-use Rattle.model.specs.Lists.{nodes}
-use Rattle.model.specs.Graph.{Proper}
+use Rattle.model.specs.Graph.{Proper, whole}
 use Rattle.model.specs.Grouping.{similar}
 use Rattle.model.specs.Tables.{Tables, graphOf, tablesOf}
 use Rattle.model.specs.Updates.{Update, refusal}
-use Rattle.rows.specs.Search.{edgesIn}
+use Rattle.search.specs.Search.{graphIn}
 
 -- who shares a group, by an edge table
 abbrev pub similarIn : ℕ → List ℕ → ℕ → ℕ → Bool
-similarIn n edges = similar (nodes n) (edgesIn n edges)
+similarIn n edges = similar (whole (graphIn n edges))
 
 -- the update that inserts or deletes the edge between u and v
 abbrev pub edgeUpdate : Bool → ℕ → ℕ → Update

@@ -6,18 +6,19 @@ ghost use lib.ListN.{length};
 ghost use lib.IntN.{subℕ};
 ghost use Rattle.model.specs.Graph.{maxNodes, nodeNumbers};
 ghost use Rattle.model.specs.Tables.{graphOf, nodeNumber, tablesOf};
+ghost use Rattle.model.specs.Release.{u16Limit};
 ghost use Rattle.model.specs.Updates.{answer, updated};
 ghost use Rattle.rows.specs.Rows.{lent};
-ghost use Rattle.rows.specs.Search.{Ready};
+ghost use Rattle.search.specs.Search.{Ready};
 ghost use Rattle.rings.specs.Steps.{
   Back,
   Before,
   Built,
-  Heir,
-  Kept,
+  NewLeast,
+  MarksKept,
   Leading,
   Linked,
-  Parted,
+  OthersLeft,
   Placed,
   Renamed,
   Rings,
@@ -47,7 +48,7 @@ pub fn number(nodes: &[u16], p: usize, k: usize) -> usize
 }
 
 fn store(nodes: &mut [u16], p: usize, k: usize, v: usize)
-    requires { ⌜ (nodeNumbers * p + k < length (now nodes)) × (v < 65536) ⌝ }
+    requires { ⌜ (nodeNumbers * p + k < length (now nodes)) × (v < u16Limit) ⌝ }
     ensures { λ _. ⌜ Stored p k v (now (nodes .entry)) (now (nodes .exit)) ⌝ }
 {
     nodes[Graph::NODE_NUMBERS * p + k] = v as u16;
@@ -107,28 +108,28 @@ fn last_before(nodes: &[u16], n: usize, u: usize, g: usize) -> usize
     a
 }
 
-fn parted(b: usize, u: usize) -> usize
-    ensures { λ r. ⌜ Parted b u r ⌝ }
+fn others_left(b: usize, u: usize) -> usize
+    ensures { λ r. ⌜ OthersLeft b u r ⌝ }
 {
     if b == u { 0 } else { 1 }
 }
 
-fn heir(l: usize, u: usize, b: usize) -> usize
-    ensures { λ r. ⌜ Heir l u b r ⌝ }
+fn new_least(l: usize, u: usize, b: usize) -> usize
+    ensures { λ r. ⌜ NewLeast l u b r ⌝ }
 {
     if l == u { b } else { u }
 }
 
-// u leaves its group and is alone. 1 if it had a fellow, else 0.
+// u leaves its group and is alone. 1 if it leaves others behind, else 0.
 pub fn take_out(nodes: &mut [u16], n: usize, u: usize) -> usize
     requires { ⌜ Sound n (now nodes) × (u < n) ⌝ }
-    ensures { λ r. ⌜ Taken n u (now (nodes .entry)) (now (nodes .exit)) × Parted (nodeNumber (now (nodes .entry)) u 1) u r ⌝ }
+    ensures { λ r. ⌜ Taken n u (now (nodes .entry)) (now (nodes .exit)) × OthersLeft (nodeNumber (now (nodes .entry)) u 1) u r ⌝ }
 {
     let a = number(nodes, u, PREVIOUS);
     let b = number(nodes, u, NEXT);
     let l = number(nodes, u, LEAST);
-    let left = parted(b, u);
-    let y = heir(l, u, b);
+    let left = others_left(b, u);
+    let y = new_least(l, u, b);
     rename(nodes, n, u, y);
     link(nodes, n, a, b);
     link(nodes, n, u, u);
@@ -174,7 +175,7 @@ pub fn put_back(
     requires { ⌜ Sound n (now nodes) × Ready n (now edges) (now keys) × (u < n) × (w < n) ⌝ }
     ensures { λ r. ⌜ Back n u w r (similarIn n (now (edges .entry)) u) (now (nodes .entry)) (now (nodes .exit)) ⌝ }
 {
-    let g = rows::find_group(edges, nodes, keys, n, n, u, w);
+    let g = search::find_group(edges, nodes, keys, n, n, u, w);
     if g < n {
         put_in(nodes, n, u, g);
         return 1;
@@ -185,7 +186,7 @@ pub fn put_back(
 // p joins the group of its least member: it is the last of the ring, or leads one of its own.
 fn append(nodes: &mut [u16], least: &[u16], n: usize, p: usize)
     requires { ⌜ (n ≤ maxNodes) × (length (now nodes) ≡ nodeNumbers * n) × Leading n (now least) × Rings p (now least) (now nodes) × (p < n) ⌝ }
-    ensures { λ _. ⌜ Rings (p + 1) (now (least .entry)) (now (nodes .exit)) × Kept (now (nodes .entry)) (now (nodes .exit)) ⌝ }
+    ensures { λ _. ⌜ Rings (p + 1) (now (least .entry)) (now (nodes .exit)) × MarksKept (now (nodes .entry)) (now (nodes .exit)) ⌝ }
 {
     let l = rows::wide(least[p]);
     store(nodes, p, LEAST, l);

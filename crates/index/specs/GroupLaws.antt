@@ -9,7 +9,7 @@ use lib.Dec.{eqb, ltb}
 use lib.ListN.{length}
 use borrow.Author.Tests.{eqb-true, eqb-false, lt-ltb, le-leb, lt-leb}
 use Rattle.model.specs.Lists.{_∈_, filter, nodes, headOr}
-use Rattle.model.specs.Graph.{Graph}
+use Rattle.model.specs.Graph.{Graph, whole}
 use Rattle.model.specs.Grouping.{similar, group, least, adjacent, kindOf, isClique, clique, independent}
 use Rattle.model.specs.Tables.{Tables, edgeBit, nodeNumber, graphOf, groupIn, nodesOf, tablesOf}
 use Rattle.model.specs.Queries.{neighbours, kindNumber}
@@ -22,8 +22,8 @@ use Rattle.model.specs.TableLaws.{proper-simple, least-at, group-told}
 use Rattle.rings.specs.Ring.{up, Best, Table, Of}
 use Rattle.rings.specs.RingLaws.{up-circle}
 use Rattle.rings.specs.NodesLaws.{of-nodes}
-use Rattle.layout.specs.Scan.{scan}
-use Rattle.index.specs.Update.{Held}
+use Rattle.buffers.specs.Scan.{scan}
+use Rattle.tables.specs.Lent.{Held}
 use Rattle.queries.specs.Query.{ledBy, kindBy}
 use Rattle.queries.specs.QueryLaws.{scan-nodes}
 
@@ -65,24 +65,25 @@ module _ (n : ℕ) (t : Tables) (h : Held n t) (p : ℕ) (hp : p < n) where
   vs = nodes n
 
   abbrev r : ℕ → ℕ → Bool
-  r = similar (nodes n) (graphOf n t .edge)
+  r = similar (whole (graphOf n t))
 
-  simple : Simple (nodes n) (graphOf n t .edge)
+  simple : Simple (whole (graphOf n t))
   unfolding graphOf
   simple = proper-simple (graphOf n t) (h .proper)
 
   asc : Ascending (nodes n)
   asc = nodes-ascending n
 
-  eq : Equivalence (nodes n) (similar (nodes n) (graphOf n t .edge))
-  eq = equivalence (nodes n) (graphOf n t .edge) simple asc
+  eq : Equivalence (nodes n) (similar (whole (graphOf n t)))
+  unfolding graphOf
+  eq = equivalence (whole (graphOf n t)) simple asc
 
   same-nodes : t .nodes ≡ nodesOf (graphOf n t)
   unfolding tablesOf
   same-nodes = ap (λ (x : Tables). x .nodes) (h .same)
 
   abbrev l : ℕ
-  l = least (nodes n) (similar (nodes n) (graphOf n t .edge)) p
+  l = least (nodes n) (similar (whole (graphOf n t))) p
 
   p-in : p ∈ nodes n
   p-in = nodes-in n p hp
@@ -117,12 +118,12 @@ module _ (n : ℕ) (t : Tables) (h : Held n t) (p : ℕ) (hp : p < n) where
   abbrev m : ℕ
   m = nodeNumber (t .nodes) l 1
 
-  table : Table n (Of n (similar (nodes n) (graphOf n t .edge))) (nodesOf (graphOf n t))
+  table : Table n (Of n (similar (whole (graphOf n t)))) (nodesOf (graphOf n t))
   unfolding graphOf
   table = of-nodes g (h .proper)
 
-  follows : Best (Of n (similar (nodes n) (graphOf n t .edge)) l) (λ q. up n l q) m
-  follows = subst (λ (x : List ℕ). Best (Of n (similar (nodes n) (graphOf n t .edge)) l) (λ q. up n l q) (nodeNumber x l 1)) (sym same-nodes) (table .next l l-below)
+  follows : Best (Of n (similar (whole (graphOf n t))) l) (λ q. up n l q) m
+  follows = subst (λ (x : List ℕ). Best (Of n (similar (whole (graphOf n t))) l) (λ q. up n l q) (nodeNumber x l 1)) (sym same-nodes) (table .next l l-below)
 
   pub m-below : m < n
   m-below = follows .mem .1
@@ -159,5 +160,6 @@ module _ (n : ℕ) (t : Tables) (h : Held n t) (p : ℕ) (hp : p < n) where
       step (inl x) = small x ∙ sym (kind-small (graphOf n t .edge) (groupIn g p) (one-member l (groupIn g p) ordered (alone (eqb-true m l x))))
       step (inr x) =
           let d = eqb-false m l x in
-          let q : isClique (kindOf (graphOf n t .edge) (groupIn g p)) ≡ edgeBit (t .edges) l m = ap (λ (s : List ℕ). isClique (kindOf (graphOf n t .edge) s)) (sym group-l) ∙ clique-law vs (graphOf n t .edge) simple asc l m l-in (nodes-in n m m-below) (λ z. d (sym z)) (follows .mem .2) ∙ bit in
+          let law : isClique (kindOf (graphOf n t .edge) (group vs r l)) ≡ graphOf n t .edge l m = unfold graphOf in clique-law (whole (graphOf n t)) simple asc l m l-in (nodes-in n m m-below) (λ z. d (sym z)) (follows .mem .2) in
+          let q : isClique (kindOf (graphOf n t .edge) (groupIn g p)) ≡ edgeBit (t .edges) l m = ap (λ (s : List ℕ). isClique (kindOf (graphOf n t .edge) s)) (sym group-l) ∙ law ∙ bit in
           large x ∙ sym (kind-large (graphOf n t .edge) (groupIn g p) (two-members l m (groupIn g p) l-own m-in d) ∙ ap (λ (b : Bool). cond b 2 1) q)

@@ -12,22 +12,22 @@ use lib.Seq.{sets}
 use borrow.Author.Tests.{not-true, not-false, eq-eqb, ne-eqb, lt-ltb, le-ltb, ltb-false}
 use Rattle.model.specs.Graph.{emptyGraph}
 use Rattle.model.specs.Tables.{Tables, tablesOf, graphOf, holds, edgeBit, nodeNumber, groupIn}
-use Rattle.model.specs.Refusals.{Reasons, firstOf, Lengths, lengths, wrongSize}
-use Rattle.model.specs.Updates.{updateCount, wrongBatch}
-use Rattle.model.specs.Calls.{judged, openReasons, openCall, applyReasons, applyRefused, applyCall, neighboursReasons, listRefused, neighboursCall, tiedReasons, tiedRefused, tiedCall, groupReasons, groupRefused, groupCall}
+use Rattle.model.specs.Refusals.{Reasons, firstOf, judged, lengths, wrongSize}
+use Rattle.model.specs.Updates.{updateCount, updateNumbers, wrongBatch}
+use Rattle.model.specs.Calls.{openReasons, openCall, applyReasons, applyRefused, applyCall, neighboursReasons, listRefused, neighboursCall, tiedReasons, tiedRefused, tiedCall, groupReasons, groupRefused, groupCall}
 use Rattle.model.specs.TestLaws.{or-none}
-use Rattle.model.specs.UpdateLaws.{first-none}
 use Rattle.model.specs.TableLaws.{held-tables, held-proper}
-use Rattle.model.specs.HistoryLaws.{right-size}
-use Rattle.model.specs.CallLaws.{judged-done, judged-refused}
-use Rattle.index.specs.Index.{opened, applied, listed, tiedSay, grouped, Sized, tableReasons}
-use Rattle.index.specs.Update.{Held}
-use Rattle.index.specs.Batch.{Applied as BatchDone}
-use Rattle.index.specs.BatchLaws.{whole-three}
+use Rattle.model.specs.RefusalLaws.{first-none, judged-done, judged-refused}
+use Rattle.index.specs.Index.{opened, applied, listed, tiedOf, grouped}
+use Rattle.tables.specs.Lent.{tableReasons}
+use Rattle.tables.specs.LentLaws.{sized, table-refused, table-rest, table-held}
+use Rattle.tables.specs.Lent.{Held}
+use Rattle.updates.specs.Batch.{Applied as BatchDone}
+use Rattle.updates.specs.BatchLaws.{whole-numbers}
 use Rattle.queries.specs.Query.{ledBy, kindBy}
 use Rattle.index.specs.GroupLaws.{row-neighbours, l-below, m-below, least-is, leader-told, led-group, kind-told}
-use Rattle.layout.specs.Scan.{scan}
-use Rattle.layout.specs.WroteLaws.{sets-onto}
+use Rattle.buffers.specs.Scan.{scan}
+use Rattle.buffers.specs.WroteLaws.{sets-onto}
 use Rattle.model.specs.Grouping.{kindOf}
 use Rattle.model.specs.Queries.{neighbours, kindNumber}
 
@@ -39,57 +39,6 @@ open-refused n t f e h = rw (not-false (wrongSize n (lengths t)) (sym e ∙ h))
 pub open-done : (n : ℕ) (t t₁ : Tables) (f : Bool) → f ≡ not (wrongSize n (lengths t)) → f ≡ true → t₁ ≡ tablesOf (emptyGraph n) → opened 0 t₁ ≡ openCall n t
 unfolding openCall openReasons firstOf
 open-done n t t₁ f e h k = rw (not-true (wrongSize n (lengths t)) (sym e ∙ h), k)
-
--- the sizes that are then right
-pub sized : (n : ℕ) (t : Tables) (f : Bool) → f ≡ not (wrongSize n (lengths t)) → f ≡ true → Sized n t
-unfolding lengths
-sized n t f e h =
-    let s = right-size n (lengths t) (not-true (wrongSize n (lengths t)) (sym e ∙ h)) in
-    record { small = s .0; edges = ap (λ (l : Lengths). l .edges) (s .1); nodes = ap (λ (l : Lengths). l .nodes) (s .1); keys = ap (λ (l : Lengths). l .keys) (s .1) }
-
-pub at-n : (m n : ℕ) (l : Lengths) (f : Bool) → m ≡ n → f ≡ not (wrongSize m l) → f ≡ not (wrongSize n l)
-at-n m n l f e h = rw e at h
-
--- 11 and 12
-module _ (n : ℕ) (t : Tables) where
-  pub size-wrong : (f : Bool) → f ≡ not (wrongSize n (lengths t)) → f ≡ false → 11 ≡ firstOf (tableReasons n t [])
-  unfolding firstOf
-  size-wrong f e h = rw (not-false (wrongSize n (lengths t)) (sym e ∙ h))
-
-  pub none-held : (f b : Bool) → f ≡ not (wrongSize n (lengths t)) → f ≡ true → b ≡ holds n t → b ≡ false → 12 ≡ firstOf (tableReasons n t [])
-  unfolding firstOf
-  none-held f b e h d k = rw (not-true (wrongSize n (lengths t)) (sym e ∙ h), sym d ∙ k)
-
-  pub graph-held : (f b : Bool) → f ≡ not (wrongSize n (lengths t)) → f ≡ true → b ≡ holds n t → b ≡ true → 0 ≡ firstOf (tableReasons n t [])
-  unfolding firstOf
-  graph-held f b e h d k = rw (not-true (wrongSize n (lengths t)) (sym e ∙ h), sym d ∙ k)
-
-  -- the rest of a call's reasons
-  module _ (r : ℕ) (e : r ≡ firstOf (tableReasons n t [])) where
-    pub table-refused : (rs : Reasons) → r ≢ 0 → firstOf (tableReasons n t rs) ≡ r
-    unfolding firstOf
-    table-refused rs d = step (wrongSize n (lengths t)) refl (holds n t) refl ∙ sym e
-      where
-        step : (a : Bool) → wrongSize n (lengths t) ≡ a → (b : Bool) → holds n t ≡ b → firstOf (tableReasons n t rs) ≡ firstOf (tableReasons n t [])
-        step true x b y = rw x
-        step false x false y = rw (x, y)
-        step false x true y = absurd (d (e ∙ rw (x, y)))
-
-    module _ (done : r ≡ 0) where
-      facts : (wrongSize n (lengths t) ≡ false) × (holds n t ≡ true)
-      facts =
-          let x = first-none (wrongSize n (lengths t)) 11 ((not (holds n t), 12) ∷ []) refl (sym e ∙ done) in
-          (x .0, not-false _ (first-none (not (holds n t)) 12 [] refl (x .1) .0))
-
-      pub table-rest : (rs : Reasons) → firstOf (tableReasons n t rs) ≡ firstOf rs
-      unfolding firstOf
-      table-rest rs = rw (facts .0, facts .1)
-
-      pub table-sized : Sized n t
-      table-sized = sized n t true (sym (ap not (facts .0))) refl
-
-      pub table-held : Held n t
-      table-held = record { same = held-tables n t (facts .1); proper = held-proper n t (facts .1) (table-sized .small) }
 
 -- refused by r, or done
 pub call-refused : {A : Type 0} (rs : Reasons) (refused : ℕ → A) (done : A) (r : ℕ) → firstOf rs ≡ r → r ≢ 0 → refused r ≡ judged rs refused done
@@ -127,7 +76,7 @@ module _ (n : ℕ) (t : Tables) (xs : List ℕ) (out : List ℤ) where
   apply-refused r e d = call-refused (applyReasons n t xs out) (applyRefused t out) _ r (sym e) d
 
   -- what a batch that is not refused may rely on
-  pub apply-ready : (r : ℕ) → r ≡ firstOf (applyReasons n t xs out) → r ≡ 0 → Held n t × (length xs % 3 ≡ 0) × (updateCount xs ≤ length out)
+  pub apply-ready : (r : ℕ) → r ≡ firstOf (applyReasons n t xs out) → r ≡ 0 → Held n t × (length xs % updateNumbers ≡ 0) × (updateCount xs ≤ length out)
   unfolding applyReasons
   apply-ready r e d =
       let a = first-none _ 11 _ refl (sym e ∙ d) in
@@ -136,7 +85,7 @@ module _ (n : ℕ) (t : Tables) (xs : List ℕ) (out : List ℤ) where
       let w = or-none (wrongSize n (lengths t)) _ (a .0) in
       let k = not-false _ (b .0) in
       let s = sized n t true (sym (ap not (w .0))) refl in
-      (record { same = held-tables n t k; proper = held-proper n t k (s .small) }, whole-three xs (w .1), ltb-false (length out) (updateCount xs) (c .0))
+      (record { same = held-tables n t k; proper = held-proper n t k (s .small) }, whole-numbers xs (w .1), ltb-false (length out) (updateCount xs) (c .0))
 
   pub apply-done : (r : ℕ) → r ≡ firstOf (applyReasons n t xs out) → r ≡ 0 → {t₁ : Tables} {out₁ : List ℤ} → BatchDone n xs t out t₁ out₁ → applied 0 t₁ out₁ ≡ applyCall n t xs out
   unfolding applyCall
@@ -172,28 +121,28 @@ module _ (n : ℕ) (t : Tables) (p : ℕ) (out : List ℕ) (r : ℕ) (e : r ≡ 
 
 -- tied
 module _ (n : ℕ) (t : Tables) (p q r : ℕ) (e : r ≡ firstOf (tableReasons n t [])) where
-  pub tied-table : r ≢ 0 → tiedSay r false ≡ tiedCall n t p q
+  pub tied-table : r ≢ 0 → tiedOf r false ≡ tiedCall n t p q
   unfolding tiedCall tiedReasons
   tied-table d = call-refused _ tiedRefused _ r (table-refused n t r e _ d) d
 
   module _ (z : r ≡ 0) where
-    pub tied-first : n ≤ p → tiedSay 14 false ≡ tiedCall n t p q
+    pub tied-first : n ≤ p → tiedOf 14 false ≡ tiedCall n t p q
     unfolding tiedCall tiedReasons
     tied-first h = call-refused _ tiedRefused _ 14 (table-rest n t r e z _ ∙ unfold firstOf in rw (le-ltb p n h)) (omega arith)
 
-    pub tied-second : p < n → n ≤ q → tiedSay 14 false ≡ tiedCall n t p q
+    pub tied-second : p < n → n ≤ q → tiedOf 14 false ≡ tiedCall n t p q
     unfolding tiedCall tiedReasons
     tied-second h k = call-refused _ tiedRefused _ 14 (table-rest n t r e z _ ∙ unfold firstOf in rw (lt-ltb p n h, le-ltb q n k)) (omega arith)
 
     module _ (h : p < n) (k : q < n) where
-      pub tied-loop : p ≡ q → tiedSay 15 false ≡ tiedCall n t p q
+      pub tied-loop : p ≡ q → tiedOf 15 false ≡ tiedCall n t p q
       unfolding tiedCall tiedReasons
       tied-loop d = call-refused _ tiedRefused _ 15 (table-rest n t r e z _ ∙ unfold firstOf in rw (lt-ltb p n h, lt-ltb q n k, eq-eqb p q d)) (omega arith)
 
-      pub tied-done : p ≢ q → {b : Bool} → b ≡ edgeBit (t .edges) p q → tiedSay 0 b ≡ tiedCall n t p q
+      pub tied-done : p ≢ q → {b : Bool} → b ≡ edgeBit (t .edges) p q → tiedOf 0 b ≡ tiedCall n t p q
       unfolding tiedCall tiedReasons
       tied-done d {b} w =
-          ap (tiedSay 0) (w ∙ bit)
+          ap (tiedOf 0) (w ∙ bit)
           ∙ call-done (tiedReasons n t p q) tiedRefused _ none
         where
           none : firstOf (tiedReasons n t p q) ≡ 0

@@ -1,9 +1,3 @@
 pub mod Index
-pub mod Open
-pub mod OpenLaws
-pub mod Update
-pub mod UpdateLaws
-pub mod Batch
-pub mod BatchLaws
 pub mod GroupLaws
 pub mod IndexLaws

@@ -1,45 +1,19 @@
 // What a caller uses on lent tables: open, apply, neighbours, tied, group. Each is the model's call (Calls) on every input.
 ghost use mathlib.Core.Path.{_≡_};
-ghost use mathlib.Core.Bool.{not};
-ghost use mathlib.Core.List.{[]};
-ghost use Rattle.model.specs.Refusals.{firstOf, lengths, wrongSize};
+ghost use Rattle.model.specs.Refusals.{firstOf};
 ghost use Rattle.model.specs.Calls.{applyCall, applyReasons, groupCall, neighboursCall, openCall, tiedCall};
 ghost use Rattle.rows.specs.Rows.{lent};
-ghost use Rattle.index.specs.Index.{applied, grouped, listed, opened, tableReasons, tiedSay};
+ghost use Rattle.index.specs.Index.{applied, grouped, listed, opened, tiedOf};
 use rows::Graph;
-
-mod batch;
-mod opening;
-mod updating;
-
-// Whether n and the lengths of the tables are right (else 11).
-pub fn right_size(n: usize, edges: &[u64], nodes: &[u16], keys: &[u32]) -> bool
-    ensures { λ r. ⌜ r ≡ not (wrongSize n (lengths (lent (now (edges .entry)) (now (nodes .entry)) (now (keys .entry))))) ⌝ }
-{
-    Graph::empty(n).fits(edges, nodes, keys)
-}
-
-// 11, or 12 where the tables hold no graph, or 0.
-pub fn table_refusal(n: usize, edges: &[u64], nodes: &[u16], keys: &[u32]) -> u16
-    ensures { λ r. ⌜ r ≡ firstOf (tableReasons n (lent (now (edges .entry)) (now (nodes .entry)) (now (keys .entry))) []) ⌝ }
-{
-    if !right_size(n, edges, nodes, keys) {
-        return 11;
-    }
-    if !checks::hold(edges, nodes, keys, n) {
-        return 12;
-    }
-    0
-}
 
 // A graph of n nodes without edges, none hidden. 0, or 11.
 pub fn open(n: usize, edges: &mut [u64], nodes: &mut [u16], keys: &mut [u32]) -> u16
     ensures { λ r. ⌜ opened r (lent (now (edges .exit)) (now (nodes .exit)) (now (keys .exit))) ≡ openCall n (lent (now (edges .entry)) (now (nodes .entry)) (now (keys .entry))) ⌝ }
 {
-    if !right_size(n, edges, nodes, keys) {
+    if !tables::right_size(n, edges, nodes, keys) {
         return 11;
     }
-    opening::fill(n, edges, nodes, keys);
+    opening::fill(Graph::empty(n), edges, nodes, keys);
     0
 }
 
@@ -54,14 +28,14 @@ fn batch_refusal(
 ) -> u16
     ensures { λ r. ⌜ r ≡ firstOf (applyReasons n (lent (now (edges .entry)) (now (nodes .entry)) (now (keys .entry))) (now (batch .entry)) (now (answers .entry))) ⌝ }
 {
-    if !batch::is_whole(batch) {
+    if !updates::is_whole(batch) {
         return 11;
     }
-    let number = table_refusal(n, edges, nodes, keys);
+    let number = tables::refusal(n, edges, nodes, keys);
     if number != 0 {
         return number;
     }
-    if answers.len() < batch::count(batch) {
+    if answers.len() < updates::count(batch) {
         return 18;
     }
     0
@@ -82,7 +56,7 @@ pub fn apply(
     if number != 0 {
         return number;
     }
-    batch::run(n, edges, nodes, keys, batch, answers);
+    updates::run(n, edges, nodes, keys, batch, answers);
     0
 }
 
@@ -92,12 +66,12 @@ pub struct Listed {
     pub count: u16,
 }
 
-pub struct Edge {
+pub struct IsTied {
     pub result: u16,
     pub yes: bool,
 }
 
-pub struct Member {
+pub struct Grouped {
     pub result: u16,
     pub least: u16,
     pub kind: u16,
@@ -115,7 +89,7 @@ pub fn neighbours(
 ) -> Listed
     ensures { λ r. ⌜ listed (r .result) (r .count) (now (out .exit)) ≡ neighboursCall n (lent (now (edges .entry)) (now (nodes .entry)) (now (keys .entry))) p (now (out .entry)) ⌝ }
 {
-    let number = table_refusal(n, edges, nodes, keys);
+    let number = tables::refusal(n, edges, nodes, keys);
     if number != 0 {
         return Listed {
             result: number,
@@ -144,49 +118,49 @@ pub fn neighbours(
 }
 
 // Whether there is an edge between p and q. 0, or 11, 12, 14, 15.
-pub fn tied(n: usize, edges: &[u64], nodes: &[u16], keys: &[u32], p: u16, q: u16) -> Edge
-    ensures { λ r. ⌜ tiedSay (r .result) (r .yes) ≡ tiedCall n (lent (now (edges .entry)) (now (nodes .entry)) (now (keys .entry))) p q ⌝ }
+pub fn tied(n: usize, edges: &[u64], nodes: &[u16], keys: &[u32], p: u16, q: u16) -> IsTied
+    ensures { λ r. ⌜ tiedOf (r .result) (r .yes) ≡ tiedCall n (lent (now (edges .entry)) (now (nodes .entry)) (now (keys .entry))) p q ⌝ }
 {
-    let number = table_refusal(n, edges, nodes, keys);
+    let number = tables::refusal(n, edges, nodes, keys);
     if number != 0 {
-        return Edge {
+        return IsTied {
             result: number,
             yes: false,
         };
     }
     let u = p as usize;
     if u >= n {
-        return Edge {
+        return IsTied {
             result: 14,
             yes: false,
         };
     }
     let v = q as usize;
     if v >= n {
-        return Edge {
+        return IsTied {
             result: 14,
             yes: false,
         };
     }
     if u == v {
-        return Edge {
+        return IsTied {
             result: 15,
             yes: false,
         };
     }
-    Edge {
+    IsTied {
         result: 0,
         yes: rows::edge(edges, u, v),
     }
 }
 
 // The group of p: least member, kind (0 singleton, 1 independent, 2 clique), size. 0, or 11, 12, 14.
-pub fn group(n: usize, edges: &[u64], nodes: &[u16], keys: &[u32], p: u16) -> Member
+pub fn group(n: usize, edges: &[u64], nodes: &[u16], keys: &[u32], p: u16) -> Grouped
     ensures { λ r. ⌜ grouped (r .result) (r .least) (r .kind) (r .size) ≡ groupCall n (lent (now (edges .entry)) (now (nodes .entry)) (now (keys .entry))) p ⌝ }
 {
-    let number = table_refusal(n, edges, nodes, keys);
+    let number = tables::refusal(n, edges, nodes, keys);
     if number != 0 {
-        return Member {
+        return Grouped {
             result: number,
             least: 0,
             kind: 0,
@@ -195,7 +169,7 @@ pub fn group(n: usize, edges: &[u64], nodes: &[u16], keys: &[u32], p: u16) -> Me
     }
     let node = p as usize;
     if node >= n {
-        return Member {
+        return Grouped {
             result: 14,
             least: 0,
             kind: 0,
@@ -205,7 +179,7 @@ pub fn group(n: usize, edges: &[u64], nodes: &[u16], keys: &[u32], p: u16) -> Me
     let least = groups::number(nodes, node, groups::LEAST);
     let kind = queries::kind_of(edges, nodes, n, least);
     let size = queries::group_size(nodes, n, least);
-    Member {
+    Grouped {
         result: 0,
         least: least as u16,
         kind,

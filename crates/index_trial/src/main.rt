@@ -51,7 +51,7 @@ fn on_tables(
 ) {
     call(command, line, n, edges, nodes, keys, batch);
     ask(command, line, n, edges, nodes, keys);
-    pokes::obey(command, line, edges, nodes, keys);
+    pokes::execute(command, line, edges, nodes, keys);
 }
 
 // What a line does with the tables, of the lengths lent.
@@ -80,7 +80,7 @@ fn lend(
 }
 
 // One line.
-fn obey(
+fn execute(
     text: &[u8],
     set: &mut [u64; 5],
     edges: &mut [u64],
@@ -92,10 +92,10 @@ fn obey(
     script::numbers(text, &mut line);
     let command = script::command(text);
     script::echo(command, text);
-    sizes::obey(command, &line, set);
+    sizes::execute(command, &line, set);
     let count = within(set[sizes::OWN], batch.len());
     lend(command, &line, set, edges, nodes, keys, &batch[..count]);
-    set[sizes::OWN] = batch::obey(command, &line, batch, count) as u64;
+    set[sizes::OWN] = batch::execute(command, &line, batch, count) as u64;
 }
 
 // Every line of the script.
@@ -110,7 +110,7 @@ fn run(
     let mut at = 0;
     while at < text.len() {
         let end = script::line_end(text, at);
-        obey(&text[at..end], set, edges, nodes, keys, batch);
+        execute(&text[at..end], set, edges, nodes, keys, batch);
         at = end;
     }
 }

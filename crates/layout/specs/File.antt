@@ -10,7 +10,7 @@ use Rattle.model.specs.Lists.{concat, headOr}
 use Rattle.model.specs.Tables.{edgeBit}
 use Rattle.model.specs.Release.{endRecord, headRecord, superedgeRecord, u16}
 use Rattle.model.specs.Calls.{Released, onto, releaseRefused}
-use Rattle.layout.specs.Scan.{flat, scan}
+use Rattle.buffers.specs.Scan.{flat, scan}
 
 -- p is the least of its group; the least member of q's group is l; p is in a group
 unfoldable pub leads : List ℕ → ℕ → Bool
@@ -35,8 +35,8 @@ unfoldable pub chain : ℕ → List ℕ → ℕ → ℕ → List ℕ
 chain zero next n q = []
 chain (suc k) next n q = cond (ltb q n) (q ∷ chain k next n (getD next q 0)) []
 
-unfoldable pub u16s : List ℕ → List ℕ
-u16s l = concat (map u16 l)
+unfoldable pub u16Bytes : List ℕ → List ℕ
+u16Bytes l = concat (map u16 l)
 
 -- the first two of a list have an edge
 unfoldable pub firstTwo : (ℕ → ℕ → Bool) → List ℕ → Bool
@@ -48,7 +48,7 @@ abbrev pub groupMark : Bool → List ℕ
 groupMark c = 0x47 ∷ cond c 0x43 0x49 ∷ []
 
 unfoldable pub groupBytes : (ℕ → ℕ → Bool) → List ℕ → List ℕ
-groupBytes e g = groupMark (firstTwo e g) ++ (u16 (length g) ++ u16s g)
+groupBytes e g = groupMark (firstTwo e g) ++ (u16 (length g) ++ u16Bytes g)
 
 -- the groups of the leaders ls
 unfoldable pub groupsBytes : (ℕ → ℕ → Bool) → (ℕ → List ℕ) → List ℕ → List ℕ

@@ -12,11 +12,11 @@ use Rattle.model.specs.Lists.{concat}
 use Rattle.model.specs.Tables.{edgeBit}
 use Rattle.model.specs.Release.{headRecord, superedgeRecord, u16}
 use Rattle.model.specs.ReleaseLaws.{length-u16s}
-use Rattle.layout.specs.Wrote.{Left, Wrote}
-use Rattle.layout.specs.WroteLaws.{left-done, left-room, left-start, left-step, wrote-before, wrote-length, wrote-then}
-use Rattle.layout.specs.Scan.{flat, scan}
-use Rattle.layout.specs.ScanLaws.{flat-step, scan-length, scan-yes}
-use Rattle.layout.specs.File.{chain, firstTwo, groupBytes, groupMark, inGroup, later, leads, meets, u16s}
+use Rattle.buffers.specs.Wrote.{Left, Wrote}
+use Rattle.buffers.specs.WroteLaws.{left-done, left-room, left-start, left-step, wrote-before, wrote-length, wrote-then}
+use Rattle.buffers.specs.Scan.{flat, scan}
+use Rattle.buffers.specs.ScanLaws.{flat-step, scan-length, scan-yes}
+use Rattle.layout.specs.File.{chain, firstTwo, groupBytes, groupMark, inGroup, later, leads, meets, u16Bytes}
 
 pub wrote-two : (s : List ℕ) (at a b : ℕ) → Wrote s at (a ∷ b ∷ []) (set (set s at a) (at + 1) b) (at + 2)
 wrote-two s at a b = record { bytes = rw (add-one at); place = refl }
@@ -51,14 +51,14 @@ pub wrote-superedge : (i j : ℕ) {s : List ℕ} {at : ℕ} {s₁ : List ℕ} {a
 wrote-superedge i j p q r = rw (superedge-steps i j) (wrote-then (wrote-then p q) r)
 
 -- members, by the table of next members
-u16s-cons : (q : ℕ) (l : List ℕ) → u16s (q ∷ l) ≡ u16 q ++ u16s l
-unfolding u16s concat
+u16s-cons : (q : ℕ) (l : List ℕ) → u16Bytes (q ∷ l) ≡ u16 q ++ u16Bytes l
+unfolding u16Bytes concat
 u16s-cons q l = refl
 
 pub record MembersLeft (s₀ : List ℕ) (at₀ : ℕ) (next : List ℕ) (n first : ℕ) (s : List ℕ) (at q : ℕ) : Type 0 where
   pub fuel : ℕ
   pub enough : n ≤ q + fuel
-  pub left : Left s₀ at₀ (u16s (chain n next n first)) s at (u16s (chain fuel next n q))
+  pub left : Left s₀ at₀ (u16Bytes (chain n next n first)) s at (u16Bytes (chain fuel next n q))
 
 pub members-start : (s : List ℕ) (at : ℕ) (next : List ℕ) (n first : ℕ) → MembersLeft s at next n first s at first
 members-start s at next n first = record { fuel = n; enough = omega arith; left = left-start s at _ }
@@ -81,26 +81,26 @@ chain-length (suc k) next n q = step (ltb q n) (chain-length k next n (getD next
     step true h = omega arith
     step false h = omega arith
 
-members-u16s : (k : ℕ) (next : List ℕ) (n q : ℕ) → q < n → u16s (chain (suc k) next n q) ≡ u16 q ++ u16s (chain k next n (getD next q 0))
-members-u16s k next n q h = ap u16s (chain-on k next n q h) ∙ u16s-cons q _
+members-u16s : (k : ℕ) (next : List ℕ) (n q : ℕ) → q < n → u16Bytes (chain (suc k) next n q) ≡ u16 q ++ u16Bytes (chain k next n (getD next q 0))
+members-u16s k next n q h = ap u16Bytes (chain-on k next n q h) ∙ u16s-cons q _
 
-pub members-room : {s₀ : List ℕ} {at₀ : ℕ} {next : List ℕ} {n first : ℕ} {s : List ℕ} {at q : ℕ} → MembersLeft s₀ at₀ next n first s at q → q < n → at₀ + length (u16s (chain n next n first)) ≤ length s₀ → at + 2 ≤ length s
+pub members-room : {s₀ : List ℕ} {at₀ : ℕ} {next : List ℕ} {n first : ℕ} {s : List ℕ} {at q : ℕ} → MembersLeft s₀ at₀ next n first s at q → q < n → at₀ + length (u16Bytes (chain n next n first)) ≤ length s₀ → at + 2 ≤ length s
 members-room {s₀} {at₀} {next} {n} {first} {s} {at} {q} m h room = go (m .fuel) (m .enough) (m .left)
   where
-    go : (k : ℕ) → n ≤ q + k → Left s₀ at₀ (u16s (chain n next n first)) s at (u16s (chain k next n q)) → at + 2 ≤ length s
+    go : (k : ℕ) → n ≤ q + k → Left s₀ at₀ (u16Bytes (chain n next n first)) s at (u16Bytes (chain k next n q)) → at + 2 ≤ length s
     go zero e l = absurd (omega arith)
     go (suc k) e l = omega (arith, left-room l room (u16 q) _ (members-u16s k next n q h), length-u16 q)
 
 pub members-step : {s₀ : List ℕ} {at₀ : ℕ} {next : List ℕ} {n first : ℕ} {s : List ℕ} {at q : ℕ} {t : List ℕ} {to : ℕ} → MembersLeft s₀ at₀ next n first s at q → q < n → q < getD next q 0 → Wrote s at (u16 q) t to → MembersLeft s₀ at₀ next n first t to (getD next q 0)
 members-step {s₀} {at₀} {next} {n} {first} {s} {at} {q} {t} {to} m h up w = go (m .fuel) (m .enough) (m .left)
   where
-    go : (k : ℕ) → n ≤ q + k → Left s₀ at₀ (u16s (chain n next n first)) s at (u16s (chain k next n q)) → MembersLeft s₀ at₀ next n first t to (getD next q 0)
+    go : (k : ℕ) → n ≤ q + k → Left s₀ at₀ (u16Bytes (chain n next n first)) s at (u16Bytes (chain k next n q)) → MembersLeft s₀ at₀ next n first t to (getD next q 0)
     go zero e l = absurd (omega arith)
     go (suc k) e l = record { fuel = k; enough = omega arith; left = left-step l w (members-u16s k next n q h) }
 
-pub members-done : {s₀ : List ℕ} {at₀ : ℕ} {next : List ℕ} {n first : ℕ} {s : List ℕ} {at q : ℕ} → MembersLeft s₀ at₀ next n first s at q → n ≤ q → Wrote s₀ at₀ (u16s (chain n next n first)) s at
-unfolding u16s concat
-members-done {next = next} {n = n} {q = q} m h = left-done (m .left) (ap u16s (chain-off (m .fuel) next n q h))
+pub members-done : {s₀ : List ℕ} {at₀ : ℕ} {next : List ℕ} {n first : ℕ} {s : List ℕ} {at q : ℕ} → MembersLeft s₀ at₀ next n first s at q → n ≤ q → Wrote s₀ at₀ (u16Bytes (chain n next n first)) s at
+unfolding u16Bytes concat
+members-done {next = next} {n = n} {q = q} m h = left-done (m .left) (ap u16Bytes (chain-off (m .fuel) next n q h))
 
 -- one group
 two-edge : (e : ℕ → ℕ → Bool) (next : List ℕ) (n l : ℕ) → l < n → l < getD next l 0 → getD next l 0 < n → firstTwo e (chain n next n l) ≡ e l (getD next l 0)
@@ -117,8 +117,8 @@ unfolding firstTwo
 one-alone e next zero l h k = absurd (omega arith)
 one-alone e next (suc n) l h k = rw (chain-on n next (suc n) l h, chain-off n next (suc n) (getD next l 0) k)
 
-pub length-members : (l : List ℕ) → length (u16s l) ≡ 2 * length l
-unfolding u16s
+pub length-members : (l : List ℕ) → length (u16Bytes l) ≡ 2 * length l
+unfolding u16Bytes
 length-members l = length-u16s l
 
 pub length-group : (e : ℕ → ℕ → Bool) (g : List ℕ) → length (groupBytes e g) ≡ 4 + 2 * length g
@@ -127,15 +127,15 @@ length-group e g = omega (arith, length-members g)
 
 -- the members first, then the mark, then the count between them
 pub wrote-group : (e : ℕ → ℕ → Bool) (g : List ℕ) {s : List ℕ} {at : ℕ} {s₁ : List ℕ} {to : ℕ} {c : Bool} {s₂ : List ℕ} {a k : ℕ} {s₃ : List ℕ} {b : ℕ}
-    → Wrote s (at + 4) (u16s g) s₁ to → c ≡ firstTwo e g → Wrote s₁ at (groupMark c) s₂ a → k ≡ length g → Wrote s₂ a (u16 k) s₃ b → Wrote s at (groupBytes e g) s₃ to
+    → Wrote s (at + 4) (u16Bytes g) s₁ to → c ≡ firstTwo e g → Wrote s₁ at (groupMark c) s₂ a → k ≡ length g → Wrote s₂ a (u16 k) s₃ b → Wrote s at (groupBytes e g) s₃ to
 unfolding groupBytes
 wrote-group e g {s} {at} {s₁} {to} {c} {s₂} {a} {k} {s₃} {b} m q h count w =
     let two : Wrote s₁ at (groupMark c ++ u16 k) s₃ b = wrote-then h w in
     let there : b ≡ at + 4 = omega (arith, w .place, h .place, length-u16 k) in
-    rw (← q, ← count) (rw (append-assoc (groupMark c) (u16 k) (u16s g)) at (wrote-before m (rw there at two)))
+    rw (← q, ← count) (rw (append-assoc (groupMark c) (u16 k) (u16Bytes g)) at (wrote-before m (rw there at two)))
 
 -- where the members end
-pub members-end : (g : List ℕ) (at : ℕ) {s t : List ℕ} {to : ℕ} → Wrote s (at + 4) (u16s g) t to → to ≡ at + 4 + 2 * length g
+pub members-end : (g : List ℕ) (at : ℕ) {s t : List ℕ} {to : ℕ} → Wrote s (at + 4) (u16Bytes g) t to → to ≡ at + 4 + 2 * length g
 members-end g at w = omega (arith, w .place, length-members g)
 
 -- tests of the code
@@ -164,7 +164,7 @@ unfolding later
 later-length e ls i = omega (arith, scan-length (meets e ls i) (length ls) (i + 1))
 
 -- room for the parts of a group
-pub room-members : (e : ℕ → ℕ → Bool) (g : List ℕ) (at : ℕ) {k : ℕ} → at + length (groupBytes e g) ≤ k → at + 4 + length (u16s g) ≤ k
+pub room-members : (e : ℕ → ℕ → Bool) (g : List ℕ) (at : ℕ) {k : ℕ} → at + length (groupBytes e g) ≤ k → at + 4 + length (u16Bytes g) ≤ k
 room-members e g at h = omega (arith, length-group e g, length-members g)
 
 pub room-mark : (e : ℕ → ℕ → Bool) (g : List ℕ) (at : ℕ) {s : List ℕ} {x : ℕ} {bs t : List ℕ} {y : ℕ} → at + length (groupBytes e g) ≤ length s → Wrote s x bs t y → at + 2 ≤ length t
@@ -173,7 +173,7 @@ room-mark e g at h w = omega (arith, length-group e g, wrote-length w)
 pub room-count : (e : ℕ → ℕ → Bool) (g : List ℕ) {at : ℕ} {s : List ℕ} {x : ℕ} {bs t : List ℕ} {y : ℕ} (c : Bool) {u : List ℕ} {a : ℕ} → at + length (groupBytes e g) ≤ length s → Wrote s x bs t y → Wrote t at (groupMark c) u a → a + 2 ≤ length u
 room-count e g c h w v = omega (arith, length-group e g, wrote-length w, wrote-length v, v .place)
 
-pub members-few : (next : List ℕ) (n l at : ℕ) {s : List ℕ} {t : List ℕ} {to : ℕ} → n ≤ 512 → Wrote s (at + 4) (u16s (chain n next n l)) t to → to ≤ at + 1028
+pub members-few : (next : List ℕ) (n l at : ℕ) {s : List ℕ} {t : List ℕ} {to : ℕ} → n ≤ 512 → Wrote s (at + 4) (u16Bytes (chain n next n l)) t to → to ≤ at + 1028
 members-few next n l at h w = omega (arith, members-end (chain n next n l) at w, chain-length n next n l)
 
 pub later-small : (e : ℕ → ℕ → Bool) (ls : List ℕ) (i : ℕ) {k : ℕ} → length ls ≤ 512 → k ≡ length (later e ls i) → k ≤ 512

@@ -1,7 +1,3 @@
-pub mod Wrote
-pub mod WroteLaws
-pub mod Scan
-pub mod ScanLaws
 pub mod File
 pub mod FileLaws
 pub mod LinkLaws

@@ -11,8 +11,8 @@ use lib.Seq.{getD-set-same, getD-set-other}
 use borrow.Author.Tests.{eqb-true, eqb-false, eq-eqb, ne-eqb, lt-ltb, le-ltb}
 use Rattle.model.specs.Lists.{headOr}
 use Rattle.model.specs.TestLaws.{decide}
-use Rattle.layout.specs.Scan.{scan}
-use Rattle.layout.specs.ScanLaws.{scan-end, scan-no, scan-yes, upward}
+use Rattle.buffers.specs.Scan.{scan}
+use Rattle.buffers.specs.ScanLaws.{scan-end, scan-no, scan-yes, upward}
 use Rattle.layout.specs.File.{Ahead, Linked, belongs, chain, inGroup, nextOf, none}
 
 -- while the table is made, from the end: the nodes from p on are linked, and head has the first of each group among them

@@ -7,7 +7,7 @@ use lib.ListN.{length, getD}
 use Rattle.model.specs.Graph.{Graph, Proper, rowWords}
 use Rattle.model.specs.Grouping.{least, similar}
 use Rattle.model.specs.Tables.{edgeBit}
-use Rattle.model.specs.Release.{isVisible, visible, visibleEdge}
+use Rattle.model.specs.Release.{isVisible, visible}
 
 -- lst has the least member of each visible node's group, worked out on the visible part, and a number n or above for a hidden node;
 -- of the edges only the bits between visible nodes are read, so the whole graph's table will do
@@ -15,6 +15,6 @@ pub record Truth (g : Graph) (lst edges : List ℕ) : Type 0 where
   pub proper : Proper g
   pub size : g .nodeCount ≤ length lst
   pub rows : rowWords * g .nodeCount ≤ length edges
-  pub visible-least : (p : ℕ) → isVisible g p ≡ true → getD lst p 0 ≡ least (visible g) (similar (visible g) (visibleEdge g)) p
+  pub visible-least : (p : ℕ) → isVisible g p ≡ true → getD lst p 0 ≡ least (visible g .nodes) (similar (visible g)) p
   pub hidden-least : (p : ℕ) → p < g .nodeCount → isVisible g p ≡ false → g .nodeCount ≤ getD lst p 0
-  pub edge-is : (p q : ℕ) → isVisible g p ≡ true → isVisible g q ≡ true → edgeBit edges p q ≡ visibleEdge g p q
+  pub edge-is : (p q : ℕ) → isVisible g p ≡ true → isVisible g q ≡ true → edgeBit edges p q ≡ visible g .edge p q

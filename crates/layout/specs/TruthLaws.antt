@@ -14,7 +14,7 @@ use Rattle.model.specs.Lists.{_∈_, concat, filter, nodes}
 use Rattle.model.specs.Graph.{Graph}
 use Rattle.model.specs.Grouping.{Kind, adjacent, algorithm1, clique, group, independent, isClique, kindOf, leaders, least, similar, singleton}
 use Rattle.model.specs.Tables.{edgeBit}
-use Rattle.model.specs.Release.{encode, groupRecord, isVisible, kindByte, release, superedgeCount, superedgeRecord, superedges, superedgesFrom, visible, visibleEdge, visibleGroups}
+use Rattle.model.specs.Release.{encode, groupRecord, isVisible, kindByte, release, superedgeCount, superedgeRecord, superedges, superedgesFrom, visible, visibleGroups}
 use Rattle.model.specs.Calls.{releaseRefused, released}
 use Rattle.model.specs.TestLaws.{decide, iff-eq}
 use Rattle.model.specs.ListLaws.{Ascending, filter-ascending, filter-cong, filter-elim, filter-intro, nodes-in, nodes-out}
@@ -25,9 +25,9 @@ use Rattle.model.specs.TableLaws.{map-cong}
 use Rattle.model.specs.ReleaseLaws.{length-concat-groups, length-superedge-records, visible-ascending, visible-simple}
 use Rattle.model.specs.UpdateLaws.{apart}
 use Rattle.model.specs.ReadBackLaws.{visible-inside}
-use Rattle.layout.specs.Scan.{flat, scan}
-use Rattle.layout.specs.ScanLaws.{filter-and, flat-end, flat-step, getD-ascending, getD-in, scan-end, scan-no, scan-skip, scan-yes, upward}
-use Rattle.layout.specs.File.{Partition, belongs, fileGroups, fileLength, fileNodes, fileOf, fileSuperedges, firstTwo, groupBytes, groupsBytes, inGroup, later, leadersOf, leads, meets, membersOf, superedgeBytes, superedgesTo, u16s, visibleOf, writtenFile}
+use Rattle.buffers.specs.Scan.{flat, scan}
+use Rattle.buffers.specs.ScanLaws.{filter-and, flat-end, flat-step, getD-ascending, getD-in, scan-end, scan-no, scan-skip, scan-yes, upward}
+use Rattle.layout.specs.File.{Partition, belongs, fileGroups, fileLength, fileNodes, fileOf, fileSuperedges, firstTwo, groupBytes, groupsBytes, inGroup, later, leadersOf, leads, meets, membersOf, superedgeBytes, superedgesTo, u16Bytes, visibleOf, writtenFile}
 use Rattle.layout.specs.WholeLaws.{groups-list, length-file, length-superedges}
 use Rattle.layout.specs.Truth.{Truth}
 
@@ -93,29 +93,24 @@ module _ (g : Graph) (lst edges : List ℕ) (t : Truth g lst edges) where
   n = g .nodeCount
 
   abbrev vs : List ℕ
-  vs = visible g
-
-  abbrev e : ℕ → ℕ → Bool
-  e = visibleEdge g
+  vs = visible g .nodes
 
   abbrev r : ℕ → ℕ → Bool
-  r = similar (visible g) (visibleEdge g)
+  r = similar (visible g)
 
-  graph : Simple vs e
+  graph : Simple (visible g)
   graph = visible-simple g (t .proper)
 
   asc : Ascending vs
   asc = visible-ascending g
 
   eq : Equivalence vs r
-  eq = equivalence vs e graph asc
+  eq = equivalence (visible g) graph asc
 
   in-vs : (p : ℕ) → isVisible g p ≡ true → p ∈ vs
-  unfolding visible
   in-vs p h = filter-intro (isVisible g) (nodes n) p (nodes-in n p (visible-inside g p h)) h
 
   out-vs : (p : ℕ) → p ∈ vs → isVisible g p ≡ true
-  unfolding visible
   out-vs p m = filter-elim (isVisible g) (nodes n) p m .1
 
   below-n : (p : ℕ) → p ∈ vs → p < n
@@ -130,11 +125,11 @@ module _ (g : Graph) (lst edges : List ℕ) (t : Truth g lst edges) where
       step (inr k) = le-ltb (getD lst p 0) n (t .hidden-least p h k) ∙ sym k
 
   visible-is : visibleOf n lst ≡ vs
-  unfolding visibleOf visible
+  unfolding visibleOf
   visible-is = scan-nodes (inGroup lst n) n ∙ filter-cong (inGroup lst n) (isVisible g) (nodes n) (λ p m. visible-in p (nodes-out n p m))
 
   leaders-is : leadersOf n lst ≡ leaders vs r
-  unfolding leadersOf leads leaders visible
+  unfolding leadersOf leads leaders
   leaders-is = scan-nodes (λ p. eqb (getD lst p 0) p) n ∙ filter-cong _ _ (nodes n) (λ p m. step p (nodes-out n p m) (decide (isVisible g p))) ∙ sym (filter-and (λ p. eqb (least vs r p) p) (isVisible g) (nodes n))
     where
       step : (p : ℕ) → p < n → (isVisible g p ≡ true) ⊎ (isVisible g p ≡ false) → eqb (getD lst p 0) p ≡ (isVisible g p && eqb (least vs r p) p)
@@ -154,11 +149,11 @@ module _ (g : Graph) (lst edges : List ℕ) (t : Truth g lst edges) where
     before-l q h = ne-eqb (getD lst q 0) l (λ z. step z (decide (isVisible g q)))
       where
         step : getD lst q 0 ≡ l → (isVisible g q ≡ true) ⊎ (isVisible g q ≡ false) → ⊥
-        step z (inl k) = omega (arith, t .visible-least q k, least-le vs r eq asc q q (in-vs q k) (similar-refl vs e q))
+        step z (inl k) = omega (arith, t .visible-least q k, least-le vs r eq asc q q (in-vs q k) (similar-refl (visible g) q))
         step z (inr k) = let hl = below-n l l-in in omega (arith, t .hidden-least q (omega arith) k)
 
     members-is : membersOf n lst l ≡ group vs r l
-    unfolding membersOf group visible belongs
+    unfolding membersOf group belongs
     members-is =
         let hl = below-n l l-in in
         sym (scan-skip (belongs lst l) n l (omega arith) 0 (λ q a b. before-l q b) (omega arith))
@@ -169,7 +164,7 @@ module _ (g : Graph) (lst edges : List ℕ) (t : Truth g lst edges) where
         there : (p : ℕ) → isVisible g p ≡ true → belongs lst l p ≡ true → r l p ≡ true
         there p k z =
             let x : least vs r p ≡ l = sym (t .visible-least p k) ∙ eqb-true (getD lst p 0) l z in
-            similar-sym vs e p l (rw x at (least-rel vs r eq asc p (in-vs p k)))
+            similar-sym (visible g) p l (rw x at (least-rel vs r eq asc p (in-vs p k)))
 
         back : (p : ℕ) → isVisible g p ≡ true → r l p ≡ true → belongs lst l p ≡ true
         back p k z = eq-eqb (getD lst p 0) l (t .visible-least p k ∙ sym (least-eq vs r eq asc l p l-in (in-vs p k) z) ∙ l-least)
@@ -178,8 +173,8 @@ module _ (g : Graph) (lst edges : List ℕ) (t : Truth g lst edges) where
         step p h (inl k) = rw k (iff-eq (belongs lst l p) (r l p) (there p k) (back p k))
         step p h (inr k) = let hl = below-n l l-in in ne-eqb (getD lst p 0) l (λ z. omega (arith, t .hidden-least p h k)) ∙ sym (rw k)
 
-  groups-is : map (membersOf n lst) (leadersOf n lst) ≡ algorithm1 vs e
-  groups-is = rw leaders-is (map-cong (membersOf n lst) (group vs r) (leaders vs r) members-is ∙ sym (algorithm1-classes vs e graph asc))
+  groups-is : map (membersOf n lst) (leadersOf n lst) ≡ algorithm1 (visible g)
+  groups-is = rw leaders-is (map-cong (membersOf n lst) (group vs r) (leaders vs r) members-is ∙ sym (algorithm1-classes (visible g) graph asc))
 
   pub truth-partition : Partition n lst edges
   unfolding fileNodes
@@ -187,19 +182,19 @@ module _ (g : Graph) (lst edges : List ℕ) (t : Truth g lst edges) where
     small = t .proper .small;
     size = t .size;
     rows = t .rows;
-    once = ap (λ (gs : List (List ℕ)). length (concat gs)) groups-is ∙ length-concat-groups vs e graph asc ∙ sym (ap length visible-is);
+    once = ap (λ (gs : List (List ℕ)). length (concat gs)) groups-is ∙ length-concat-groups (visible g) graph asc ∙ sym (ap length visible-is);
   }
 
   -- the first two members tell a clique
   module _ (l : ℕ) (m : l ∈ leaders vs r) where
-    first-two : (h : List ℕ) → group vs r l ≡ h → firstTwo (edgeBit edges) h ≡ isClique (kindOf e h)
+    first-two : (h : List ℕ) → group vs r l ≡ h → firstTwo (edgeBit edges) h ≡ isClique (kindOf (visible g .edge) h)
     unfolding firstTwo kindOf isClique group
     first-two [] q = refl
     first-two (a ∷ []) q = refl
     first-two (a ∷ b ∷ xs) q =
         t .edge-is a b (out-vs a (ga .0)) (out-vs b (gb .0))
-        ∙ sym (clique-law vs e graph asc a b (ga .0) (gb .0) (λ z. omega (arith, below)) rab)
-        ∙ ap (λ (x : List ℕ). isClique (kindOf e x)) (sym (same-group vs r eq asc l a (l-in l m) (ga .0) (ga .1)) ∙ q)
+        ∙ sym (clique-law (visible g) graph asc a b (ga .0) (gb .0) (λ z. omega (arith, below)) rab)
+        ∙ ap (λ (x : List ℕ). isClique (kindOf (visible g .edge) x)) (sym (same-group vs r eq asc l a (l-in l m) (ga .0) (ga .1)) ∙ q)
       where
         ga : (a ∈ vs) × (r l a ≡ true)
         ga = group-out vs r l a (rw q (List·Memᴰ·head refl))
@@ -208,7 +203,7 @@ module _ (g : Graph) (lst edges : List ℕ) (t : Truth g lst edges) where
         gb = group-out vs r l b (rw q (List·Memᴰ·tail (List·Memᴰ·head refl)))
 
         rab : r a b ≡ true
-        rab = similar-trans vs e graph a l b (ga .0) (l-in l m) (gb .0) (similar-sym vs e l a (ga .1)) (gb .1)
+        rab = similar-trans (visible g) graph a l b (ga .0) (l-in l m) (gb .0) (similar-sym (visible g) l a (ga .1)) (gb .1)
 
         ascends : Ascending (group vs r l) → Ascending (a ∷ b ∷ xs)
         ascends h = rw q at h
@@ -216,31 +211,31 @@ module _ (g : Graph) (lst edges : List ℕ) (t : Truth g lst edges) where
         below : a < b
         below = ascends (filter-ascending (r l) vs asc) .0 b (List·Memᴰ·head refl)
 
-    record-is : groupBytes (edgeBit edges) (group vs r l) ≡ groupRecord e (group vs r l)
-    unfolding groupBytes groupRecord u16s
-    record-is = rw (first-two (group vs r l) refl, kind-byte (kindOf e (group vs r l)))
+    record-is : groupBytes (edgeBit edges) (group vs r l) ≡ groupRecord (visible g) (group vs r l)
+    unfolding groupBytes groupRecord u16Bytes
+    record-is = rw (first-two (group vs r l) refl, kind-byte (kindOf (visible g .edge) (group vs r l)))
 
-  records-are : concat (map (groupBytes (edgeBit edges)) (algorithm1 vs e)) ≡ concat (map (groupRecord e) (algorithm1 vs e))
+  records-are : concat (map (groupBytes (edgeBit edges)) (algorithm1 (visible g))) ≡ concat (map (groupRecord (visible g)) (algorithm1 (visible g)))
   unfolding concat
-  records-are = rw (algorithm1-classes vs e graph asc) (go (leaders vs r) (λ l m. m))
+  records-are = rw (algorithm1-classes (visible g) graph asc) (go (leaders vs r) (λ l m. m))
     where
-      go : (ls : List ℕ) → ((l : ℕ) → l ∈ ls → l ∈ leaders vs r) → concat (map (groupBytes (edgeBit edges)) (map (group vs r) ls)) ≡ concat (map (groupRecord e) (map (group vs r) ls))
+      go : (ls : List ℕ) → ((l : ℕ) → l ∈ ls → l ∈ leaders vs r) → concat (map (groupBytes (edgeBit edges)) (map (group vs r) ls)) ≡ concat (map (groupRecord (visible g)) (map (group vs r) ls))
       go [] h = refl
       go (l ∷ ls) h = ap₂ (λ (a b : List ℕ). a ++ b) (record-is l (h l (List·Memᴰ·head refl))) (go ls (λ x m. h x (List·Memᴰ·tail m)))
 
-  groups-are : groupsBytes (edgeBit edges) (membersOf n lst) (leadersOf n lst) ≡ concat (map (groupRecord e) (visibleGroups g))
+  groups-are : groupsBytes (edgeBit edges) (membersOf n lst) (leadersOf n lst) ≡ concat (map (groupRecord (visible g)) (visibleGroups g))
   unfolding visibleGroups
   groups-are = groups-list (edgeBit edges) (membersOf n lst) (leadersOf n lst) ∙ ap (λ (gs : List (List ℕ)). concat (map (groupBytes (edgeBit edges)) gs)) groups-is ∙ records-are
 
   -- leaders with an edge have adjacent groups
-  meets-law : (i j : ℕ) → i < j → j < length (leaders vs r) → adjacent e (group vs r (getD (leaders vs r) i 0)) (group vs r (getD (leaders vs r) j 0)) ≡ meets (edgeBit edges) (leaders vs r) i j
+  meets-law : (i j : ℕ) → i < j → j < length (leaders vs r) → adjacent (visible g .edge) (group vs r (getD (leaders vs r) i 0)) (group vs r (getD (leaders vs r) j 0)) ≡ meets (edgeBit edges) (leaders vs r) i j
   unfolding meets
   meets-law i j h k =
       let p = getD (leaders vs r) i 0 in
       let q = getD (leaders vs r) j 0 in
       let lp = leader-out vs r eq asc p (getD-in (leaders vs r) i (omega arith)) in
       let lq = leader-out vs r eq asc q (getD-in (leaders vs r) j k) in
-      adjacent-law vs e graph asc p q (lp .0) (lq .0) (apart p q (lp .0) (lq .0) (lp .1) (lq .1) (getD-ascending (leaders vs r) (leaders-ascending vs r eq asc) i j h k)) ∙ sym (t .edge-is p q (out-vs p (lp .0)) (out-vs q (lq .0)))
+      adjacent-law (visible g) graph asc p q (lp .0) (lq .0) (apart p q (lp .0) (lq .0) (lp .1) (lq .1) (getD-ascending (leaders vs r) (leaders-ascending vs r eq asc) i j h k)) ∙ sym (t .edge-is p q (out-vs p (lp .0)) (out-vs q (lq .0)))
     where
       apart : (x y : ℕ) → x ∈ vs → y ∈ vs → least vs r x ≡ x → least vs r y ≡ y → x < y → r x y ≡ false
       apart x y mx my lx ly l = step (decide (r x y))
@@ -249,22 +244,22 @@ module _ (g : Graph) (lst edges : List ℕ) (t : Truth g lst edges) where
           step (inl z) = let w : x ≡ y = leaders-apart vs r eq asc x y mx my lx ly z in absurd (omega arith)
           step (inr z) = z
 
-  superedge-records : superedgeBytes (edgeBit edges) (leadersOf n lst) ≡ concat (map superedgeRecord (superedges e 0 (visibleGroups g)))
+  superedge-records : superedgeBytes (edgeBit edges) (leadersOf n lst) ≡ concat (map superedgeRecord (superedges (visible g .edge) 0 (visibleGroups g)))
   unfolding visibleGroups
-  superedge-records = rw leaders-is (superedges-are e (edgeBit edges) (group vs r) (leaders vs r) meets-law ∙ ap (λ (gs : List (List ℕ)). concat (map superedgeRecord (superedges e 0 gs))) (sym (algorithm1-classes vs e graph asc)))
+  superedge-records = rw leaders-is (superedges-are (visible g .edge) (edgeBit edges) (group vs r) (leaders vs r) meets-law ∙ ap (λ (gs : List (List ℕ)). concat (map superedgeRecord (superedges (visible g .edge) 0 gs))) (sym (algorithm1-classes (visible g) graph asc)))
 
   -- m, g, s, the file and its length
-  pub nodes-is : fileNodes n lst ≡ length (visible g)
+  pub nodes-is : fileNodes n lst ≡ length (visible g .nodes)
   unfolding fileNodes
   nodes-is = ap length visible-is
 
   pub group-count-is : fileGroups n lst ≡ length (visibleGroups g)
   unfolding fileGroups visibleGroups
-  group-count-is = ap length leaders-is ∙ sym (length-groups vs e graph asc)
+  group-count-is = ap length leaders-is ∙ sym (length-groups (visible g) graph asc)
 
   pub superedge-count-is : fileSuperedges n lst edges ≡ superedgeCount g
   unfolding fileSuperedges superedgeCount
-  superedge-count-is = omega (arith, length-superedges (edgeBit edges) (leadersOf n lst), ap length superedge-records, length-superedge-records (superedges e 0 (visibleGroups g)))
+  superedge-count-is = omega (arith, length-superedges (edgeBit edges) (leadersOf n lst), ap length superedge-records, length-superedge-records (superedges (visible g .edge) 0 (visibleGroups g)))
 
   pub file-is : fileOf n lst edges ≡ release g
   unfolding fileOf release encode visibleGroups

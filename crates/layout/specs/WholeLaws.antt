@@ -13,10 +13,10 @@ use Rattle.model.specs.Tables.{edgeBit}
 use Rattle.model.specs.Release.{endRecord, headRecord, superedgeRecord, u16}
 use Rattle.model.specs.Calls.{onto, releaseRefused}
 use Rattle.model.specs.TestLaws.{decide}
-use Rattle.layout.specs.Wrote.{Wrote}
-use Rattle.layout.specs.WroteLaws.{sets-onto, wrote-length, wrote-then}
-use Rattle.layout.specs.Scan.{flat, scan}
-use Rattle.layout.specs.ScanLaws.{flat-end, flat-step, scan-below, scan-end, scan-length, scan-no, scan-yes, upward}
+use Rattle.buffers.specs.Wrote.{Wrote}
+use Rattle.buffers.specs.WroteLaws.{sets-onto, wrote-length, wrote-then}
+use Rattle.buffers.specs.Scan.{flat, scan}
+use Rattle.buffers.specs.ScanLaws.{flat-end, flat-step, scan-below, scan-end, scan-length, scan-no, scan-yes, upward}
 use Rattle.layout.specs.File.{Linked, Partition, Rows, belongs, chain, fileGroups, fileLength, fileNodes, fileOf, fileSuperedges, groupBytes, groupsBytes, inGroup, later, leadersOf, leads, membersOf, superedgeBytes, superedgeTotal, superedgesTo, visibleOf, writtenFile}
 use Rattle.layout.specs.FileLaws.{length-group, length-superedge}
 use Rattle.layout.specs.LinkLaws.{chain-scan}

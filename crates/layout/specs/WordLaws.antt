@@ -19,14 +19,14 @@ use Rattle.model.specs.Tables.{bitAt, edgeBit}
 use Rattle.model.specs.Release.{superedgeRecord}
 use Rattle.model.specs.Program.{before}
 use Rattle.model.specs.TestLaws.{decide, iff-eq}
-use Rattle.layout.specs.Wrote.{Left, Wrote}
-use Rattle.layout.specs.WroteLaws.{left-room, left-step}
-use Rattle.layout.specs.Scan.{Counting, scan}
-use Rattle.layout.specs.ScanLaws.{filter-and, scan-ascends, scan-cong, scan-cut, scan-end, scan-no, scan-skip, scan-yes, upward}
+use Rattle.buffers.specs.Wrote.{Left, Wrote}
+use Rattle.buffers.specs.WroteLaws.{left-room, left-step}
+use Rattle.buffers.specs.Scan.{Counting, scan}
+use Rattle.buffers.specs.ScanLaws.{filter-and, scan-ascends, scan-cong, scan-cut, scan-end, scan-no, scan-skip, scan-yes, upward}
 use Rattle.layout.specs.File.{Partition, Rows, later, leadersOf, leads, meets, none, superedgesTo}
 use Rattle.layout.specs.FileLaws.{length-superedge}
 use Rattle.layout.specs.WholeLaws.{rows-of}
-use Rattle.layout.specs.Words.{Leading, Marked, Placed, Rowed, bitsOf, laterRecords, laterWord, marked, positionsOf}
+use Rattle.layout.specs.Words.{Leading, Marked, Marking, Placed, Rowed, bitsOf, laterRecords, laterWord, marked, positionsOf}
 
 -- bits of a word without its low bits
 bit-above : (x t k : ℕ) → t ≤ k → bitAt (x / 2 ^ t * 2 ^ t) k ≡ bitAt x k
@@ -348,12 +348,7 @@ word-within x z pos fits low = omega (arith, lowest 64 x pos fits .0)
 pub word-less : (x : ℕ) → 0 < x → bitAnd x (x - 1) < x
 word-less x pos = omega (arith, and-le-r x (x - 1))
 
--- a set of bits while it is made: the nodes below p that P chooses
-pub record Marking (P : ℕ → Bool) (set : List ℕ) (p : ℕ) : Type 0 where
-  pub size : length set ≡ 8
-  pub words : (i : ℕ) → getD set i 0 < 2 ^ 64
-  pub bits : (q : ℕ) → q < 512 → edgeBit set 0 q ≡ (ltb q p && P q)
-
+-- a set of bits, node after node
 getD-zeros : (k i : ℕ) → _≡_ {A = ℕ} (getD (replicate k 0) i 0) 0
 getD-zeros zero i = refl
 getD-zeros (suc k) zero = refl

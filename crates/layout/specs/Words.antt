@@ -4,9 +4,10 @@ use mathlib.Core.Bool.{Bool, _&&_}
 use mathlib.Core.List.{List, map}
 use Prim.Native.Nat.{ℕ, _+_, _*_, _/_, _%_, _^_, _≤_, _<_}
 use lib.Bits.{bitAnd}
+use lib.Dec.{ltb}
 use lib.ListN.{length, getD}
 use Rattle.model.specs.Tables.{bitAt, edgeBit}
-use Rattle.layout.specs.Scan.{scan}
+use Rattle.buffers.specs.Scan.{scan}
 use Rattle.layout.specs.File.{superedgesTo}
 
 -- the places of the bits of a word, ascending
@@ -28,6 +29,12 @@ positionsOf position b x = map (λ k. getD position (b + k) 0) (bitsOf x)
 -- the records of the i-th group's superedges to the groups of the marked nodes from q on
 unfoldable pub laterRecords : List ℕ → List ℕ → List ℕ → ℕ → ℕ → ℕ → List ℕ
 laterRecords edges set position i p q = superedgesTo i (map (λ x. getD position x 0) (scan (marked edges set p) 512 q))
+
+-- a set of bits while it is made: the nodes below p that P chooses
+pub record Marking (P : ℕ → Bool) (set : List ℕ) (p : ℕ) : Type 0 where
+  pub size : length set ≡ 8
+  pub words : (i : ℕ) → getD set i 0 < 2 ^ 64
+  pub bits : (q : ℕ) → q < 512 → edgeBit set 0 q ≡ (ltb q p && P q)
 
 -- leaders are nodes, and ascend; there are rows for them
 pub record Leading (leaders : List ℕ) : Type 0 where

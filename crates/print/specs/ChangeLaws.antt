@@ -10,8 +10,8 @@ use mir.Facts.{toZ-ofZ}
 use mir.Syntax.{w16}
 use mir.Val.{SFits, ofZ, toZ}
 use Rattle.model.specs.Program.{changeLine, changeLines}
-use Rattle.layout.specs.Wrote.{Left, Wrote}
-use Rattle.layout.specs.WroteLaws.{left-done, left-room, left-step}
+use Rattle.buffers.specs.Wrote.{Left, Wrote}
+use Rattle.buffers.specs.WroteLaws.{left-done, left-room, left-step}
 
 changes-next : (as′ : List ℤ) (i : ℕ) → i < length as′ → changeLines (i + 1) (drop i as′) ≡ changeLine (i + 1) (getD as′ i (pos 0)) ++ changeLines (i + 1 + 1) (drop (i + 1) as′)
 unfolding changeLines

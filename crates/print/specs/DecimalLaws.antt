@@ -10,8 +10,8 @@ use lib.ListN.{length, length-append, set}
 use borrow.Author.Tests.{ltb-false, lt-ltb, le-ltb}
 use Rattle.model.specs.Program.{decimal, digits}
 use Rattle.model.specs.TestLaws.{decide}
-use Rattle.layout.specs.Wrote.{Wrote}
-use Rattle.layout.specs.WroteLaws.{wrote-then}
+use Rattle.buffers.specs.Wrote.{Wrote}
+use Rattle.buffers.specs.WroteLaws.{wrote-then}
 
 -- more fuel changes nothing
 digits-enough : (f g x : ℕ) → x < f → x < g → digits f x ≡ digits g x

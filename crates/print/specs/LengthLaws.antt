@@ -8,23 +8,23 @@ use native.Mathlib.Omega.{arith}
 use lib.Dec.{eqb, ltb}
 use lib.IntN.{ℤ, pos, negsuc, natAbs}
 use lib.ListN.{length, length-append}
-use borrow.Author.Tests.{eqb-true, ltb-false, ltb-true}
+use borrow.Author.Tests.{eqb-true, eqb-false, ltb-false, ltb-true}
 use Rattle.model.specs.ClassLaws.{group-out}
 use Rattle.model.specs.EdgeLaws.{edgeCount, edgeCount-batch, edgeCount-visible, superedges-le-edges}
-use Rattle.model.specs.Graph.{Graph, Proper, emptyGraph, maxNodes, maxUpdates}
+use Rattle.model.specs.Graph.{Graph, Proper, View, emptyGraph, maxNodes, maxUpdates, whole}
 use Rattle.model.specs.Grouping.{adjacent, group, leaders, least, similar}
 use Rattle.model.specs.ListLaws.{filter-elim, length-filter, map-out, nodes-out}
 use Rattle.model.specs.Lists.{_∈_, concat, nodes}
 use Rattle.model.specs.Program.{Input, Line, accepted, change, changeLine, changeLines, decimal, firstLine, groupLine, illFormed, inputOf, isCount, isNone, lineOf, linesFrom, maxBytes, openLine, pieces, printed, program, refusedAt, refusedLine, releaseLines, signed, spaced, superedgeLine, text, valueOf, withLine, withUpdate}
 use Rattle.model.specs.ProgramLaws.{input-small}
-use Rattle.model.specs.Refusals.{firstOf}
-use Rattle.model.specs.Release.{isVisible, superedges, superedgesFrom, visible, visibleEdge, visibleGroups}
+use Rattle.model.specs.Release.{isVisible, superedges, superedgesFrom, visible, visibleGroups}
 use Rattle.model.specs.ReleaseLaws.{length-concat-groups, visible-ascending, visible-simple}
+use Rattle.model.specs.Steps.{Stepped, run}
 use Rattle.model.specs.SummaryLaws.{algorithm1-classes, length-groups}
 use Rattle.model.specs.TableLaws.{length-nodes}
 use Rattle.model.specs.TestLaws.{decide}
-use Rattle.model.specs.UpdateLaws.{answer-near, proper-batch, proper-empty, proper-updated}
-use Rattle.model.specs.Updates.{Update, answer, answers, batchGraph, refusal, updateReasons, updated}
+use Rattle.model.specs.UpdateLaws.{answer-near, proper-batch, proper-empty, proper-stepped, refusal-below, update-refused}
+use Rattle.model.specs.Updates.{Update, answer, answers, batchGraph, refusal, update}
 use Rattle.print.specs.DecimalLaws.{length-long, length-short}
 use Rattle.print.specs.Lines.{maxText}
 
@@ -54,26 +54,12 @@ unfolding signed text
 signed-le (pos x) h = omega (arith, two-digits x h)
 signed-le (negsuc x) h = omega (arith, two-digits (suc x) h)
 
-first-le : (a b c d e : Bool) → firstOf ((a, 13) ∷ (b, 14) ∷ (c, 15) ∷ (d, 16) ∷ (e, 17) ∷ []) ≤ 17
-unfolding firstOf
-first-le true b c d e = omega arith
-first-le false true c d e = omega arith
-first-le false false true d e = omega arith
-first-le false false false true e = omega arith
-first-le false false false false true = omega arith
-first-le false false false false false = omega arith
-
-refusal-le : (g : Graph) (c : Update) → refusal g c ≤ 17
-unfolding refusal updateReasons
-refusal-le g c = first-le _ _ _ _ _
-
 answer-le : (g : Graph) (c : Update) → Proper g → natAbs (answer g c) < 100
-unfolding answer
 answer-le g c h = go (decide (eqb (refusal g c) 0))
   where
     go : (eqb (refusal g c) 0 ≡ true) ⊎ (eqb (refusal g c) 0 ≡ false) → natAbs (answer g c) < 100
     go (inl t) = omega (arith, answer-near g c h (eqb-true (refusal g c) 0 t))
-    go (inr t) = rw (t, answer) (omega (arith, refusal-le g c))
+    go (inr t) = rw (ap (λ (x : Stepped Graph ℤ). x .outcome) (update-refused g c (eqb-false (refusal g c) 0 t))) (omega (arith, refusal-below g c))
 
 change-le : (i : ℕ) (a : ℤ) → i < 10000 → natAbs a < 100 → length (changeLine i a) ≤ 17
 unfolding changeLine text
@@ -87,17 +73,15 @@ change-le i a h n =
     )
 
 changes-le : (cs : List Update) (g : Graph) (i : ℕ) → Proper g → i + length cs ≤ 10000 → length (changeLines i (answers g cs)) ≤ 17 * length cs
-unfolding answers changeLines
+unfolding answers changeLines run
 changes-le [] g i h n = omega arith
-changes-le (c ∷ cs) g i h n = step (decide (eqb (refusal g c) 0)) (changes-le cs)
-  where
-    line : (as′ : List ℤ) → length (changeLine i (answer g c) ++ changeLines (suc i) as′) ≤ 17 + length (changeLines (suc i) as′)
-    line as′ = omega (arith, length-append (changeLine i (answer g c)) (changeLines (suc i) as′), change-le i (answer g c) (omega arith) (answer-le g c h))
-
-    step : (eqb (refusal g c) 0 ≡ true) ⊎ (eqb (refusal g c) 0 ≡ false) → ((d : Graph) (j : ℕ) → Proper d → j + length cs ≤ 10000 → length (changeLines j (answers d cs)) ≤ 17 * length cs)
-        → length (changeLines i (answers g (c ∷ cs))) ≤ 17 * suc (length cs)
-    step (inl t) below = rw (t, answers) (omega (arith, line (answers (updated g c) cs), below (updated g c) (suc i) (proper-updated g c h (eqb-true (refusal g c) 0 t)) (omega arith)))
-    step (inr t) below = rw (t, answers) (omega (arith, line (answers g cs), below g (suc i) h (omega arith)))
+changes-le (c ∷ cs) g i h n =
+    omega (
+      arith,
+      length-append (changeLine i (answer g c)) (changeLines (suc i) (answers (update g c .after) cs)),
+      change-le i (answer g c) (omega arith) (answer-le g c h),
+      changes-le cs (update g c .after) (suc i) (proper-stepped g c h .0) (omega arith),
+    )
 
 spaced-le : (x : ℕ) → x < 1000 → length (spaced x) ≤ 4
 unfolding spaced text
@@ -178,44 +162,40 @@ open-le m g s a b c =
 
 -- a release of few edges
 module _ (g : Graph) (h : Proper g) where
-  abbrev vs : List ℕ
-  vs = visible g
+  abbrev v : View
+  v = visible g
 
-  abbrev e : ℕ → ℕ → Bool
-  e = visibleEdge g
-
-  visible-le : length (visible g) ≤ g .nodeCount
-  unfolding visible
+  visible-le : length (v .nodes) ≤ g .nodeCount
   visible-le = omega (arith, length-filter (isVisible g) (nodes (g .nodeCount)), length-nodes (g .nodeCount))
 
-  groups-few : length (visibleGroups g) ≤ length (visible g)
+  groups-few : length (visibleGroups g) ≤ length (v .nodes)
   unfolding visibleGroups leaders
-  groups-few = omega (arith, length-groups vs e (visible-simple g h) (visible-ascending g), length-filter (λ p. eqb (least vs (similar vs e) p) p) vs)
+  groups-few = omega (arith, length-groups v (visible-simple g h) (visible-ascending g), length-filter (λ p. eqb (least (v .nodes) (similar v) p) p) (v .nodes))
 
   member-small : (k : List ℕ) → List·Memᴰ k (visibleGroups g) → (p : ℕ) → p ∈ k → p < 1000
   unfolding visibleGroups
   member-small k m p i = omega (arith, node (inside i), h .small)
     where
-      inside : p ∈ k → p ∈ visible g
+      inside : p ∈ k → p ∈ v .nodes
       inside j =
-          let b = map-out (group vs (similar vs e)) (leaders vs (similar vs e)) k (rw (algorithm1-classes vs e (visible-simple g h) (visible-ascending g)) at m) in
-          group-out vs (similar vs e) (b .0) p (rw (b .2) at j) .0
+          let b = map-out (group (v .nodes) (similar v)) (leaders (v .nodes) (similar v)) k (rw (algorithm1-classes v (visible-simple g h) (visible-ascending g)) at m) in
+          group-out (v .nodes) (similar v) (b .0) p (rw (b .2) at j) .0
 
-      node : p ∈ visible g → p < g .nodeCount
-      node j = unfold visible in nodes-out (g .nodeCount) p (filter-elim (isVisible g) (nodes (g .nodeCount)) p j .0)
+      node : p ∈ v .nodes → p < g .nodeCount
+      node j = nodes-out (g .nodeCount) p (filter-elim (isVisible g) (nodes (g .nodeCount)) p j .0)
 
-  release-lines-le : edgeCount (g .edge) (nodes (g .nodeCount)) ≤ maxUpdates → length (releaseLines g) ≤ 44063
+  release-lines-le : edgeCount (whole g .edge) (whole g .nodes) ≤ maxUpdates → length (releaseLines g) ≤ 44063
   unfolding releaseLines
   release-lines-le few =
       let small = h .small in
       omega (
         arith,
-        length-append (openLine m n s) (concat (map (groupLine e) gs) ++ concat (map superedgeLine js)),
-        length-append (concat (map (groupLine e) gs)) (concat (map superedgeLine js)),
+        length-append (openLine m n s) (concat (map (groupLine (v .edge)) gs) ++ concat (map superedgeLine js)),
+        length-append (concat (map (groupLine (v .edge)) gs)) (concat (map superedgeLine js)),
         open-le m n s (omega (arith, visible-le)) (omega (arith, groups-few, visible-le)) (omega (arith, joins)),
-        groups-le e gs member-small,
+        groups-le (v .edge) gs member-small,
         members,
-        superedges-short e 0 gs (omega (arith, groups-few, visible-le)),
+        superedges-short (v .edge) 0 gs (omega (arith, groups-few, visible-le)),
         visible-le,
         groups-few,
         joins,
@@ -225,10 +205,10 @@ module _ (g : Graph) (h : Proper g) where
       gs = visibleGroups g
 
       js : List (ℕ × ℕ)
-      js = superedges e 0 gs
+      js = superedges (v .edge) 0 gs
 
       m : ℕ
-      m = length (visible g)
+      m = length (v .nodes)
 
       n : ℕ
       n = length gs
@@ -236,11 +216,11 @@ module _ (g : Graph) (h : Proper g) where
       s : ℕ
       s = length js
 
-      members : length (concat (visibleGroups g)) ≡ length (visible g)
-      members = unfold visibleGroups in length-concat-groups vs e (visible-simple g h) (visible-ascending g)
+      members : length (concat (visibleGroups g)) ≡ length (v .nodes)
+      members = unfold visibleGroups in length-concat-groups v (visible-simple g h) (visible-ascending g)
 
-      joins : length (superedges e 0 (visibleGroups g)) ≤ 4096
-      joins = unfold visibleGroups in omega (arith, superedges-le-edges vs e (visible-simple g h) (visible-ascending g), edgeCount-visible g, few)
+      joins : length (superedges (v .edge) 0 (visibleGroups g)) ≤ 4096
+      joins = unfold visibleGroups in omega (arith, superedges-le-edges v (visible-simple g h) (visible-ascending g), edgeCount-visible g, few)
 
 -- the line at which an input is refused is at most the 4,098th
 refused-is : {X : Type 0} (k n : ℕ) (cs : List Update) → accepted n cs ≡ refusedAt k → X

@@ -3,8 +3,8 @@ use mathlib.Core.List.{List, _++_, append-assoc}
 use Prim.Native.Nat.{ℕ, _+_, _≤_}
 use native.Mathlib.Omega.{arith}
 use lib.ListN.{length, length-append}
-use Rattle.layout.specs.Wrote.{Wrote}
-use Rattle.layout.specs.WroteLaws.{wrote-length, wrote-then}
+use Rattle.buffers.specs.Wrote.{Wrote}
+use Rattle.buffers.specs.WroteLaws.{wrote-length, wrote-then}
 
 -- the room that is left after a piece
 pub room-first : (bs cs : List ℕ) (at k : ℕ) → at + length (bs ++ cs) ≤ k → at + length bs ≤ k

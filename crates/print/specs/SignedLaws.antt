@@ -14,8 +14,8 @@ use mir.Syntax.{w16, w32, w64}
 use mir.Val.{Fits, SFits, ofZ, toZ}
 use Rattle.model.specs.Program.{decimal, signed, text}
 use Rattle.model.specs.TestLaws.{differ}
-use Rattle.layout.specs.Wrote.{Wrote}
-use Rattle.layout.specs.WroteLaws.{wrote-then}
+use Rattle.buffers.specs.Wrote.{Wrote}
+use Rattle.buffers.specs.WroteLaws.{wrote-then}
 
 -- what a number of 16 bits is in 32
 pub wider : (x : ℤ) → SFits w16 x → SFits w32 (toZ w16 (ofZ w16 x))

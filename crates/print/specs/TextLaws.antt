@@ -7,8 +7,8 @@ use native.Mathlib.Numerals.{add-one}
 use native.Mathlib.Omega.{arith}
 use lib.ListN.{length, getD, drop, set, drop-of-length-le}
 use lib.Seq.{drop-cons}
-use Rattle.layout.specs.Wrote.{Left, Wrote}
-use Rattle.layout.specs.WroteLaws.{left-done, left-start, left-step}
+use Rattle.buffers.specs.Wrote.{Left, Wrote}
+use Rattle.buffers.specs.WroteLaws.{left-done, left-start, left-step}
 use Rattle.print.specs.DecimalLaws.{wrote-byte}
 
 pub text-start : (s : List ℕ) (at : ℕ) (text : List ℕ) → Left s at text s (at + 0) text

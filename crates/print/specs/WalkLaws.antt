@@ -14,8 +14,8 @@ use Rattle.model.specs.Lists.{concat}
 use Rattle.model.specs.Program.{openLine, spaced, superedgeLine, text}
 use Rattle.model.specs.Reading.{afterGroups, superedgesAt, u16At, u16s}
 use Rattle.model.specs.TestLaws.{decide}
-use Rattle.layout.specs.Wrote.{Left, Wrote}
-use Rattle.layout.specs.WroteLaws.{left-done, left-room, left-start, left-step}
+use Rattle.buffers.specs.Wrote.{Left, Wrote}
+use Rattle.buffers.specs.WroteLaws.{left-done, left-room, left-start, left-step}
 use Rattle.print.specs.Lines.{fileText, groupText, groupTexts, memberTexts, nextGroup, superedgePart, superedgeTexts, superedgeTotal}
 
 pub number-is : (s : List ℕ) (i a b : ℕ) → a ≡ getD s i 0 → b ≡ getD s (i + 1) 0 → a + 256 * b ≡ u16At s i

@@ -6,7 +6,7 @@ ghost use lib.IntN.{natAbs};
 ghost use lib.ListN.{length, getD, drop};
 ghost use Rattle.model.specs.Reading.{afterGroups, superedgesAt, u16At};
 ghost use Rattle.model.specs.Program.{changeLine, changeLines, decimal, openLine, refusedLine, signed, spaced, superedgeLine};
-ghost use Rattle.layout.specs.Wrote.{Wrote};
+ghost use Rattle.buffers.specs.Wrote.{Wrote};
 ghost use Rattle.print.specs.Lines.{fileText, groupText, groupTexts, memberTexts, nextGroup, superedgeTexts};
 
 // One byte.

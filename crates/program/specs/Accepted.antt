@@ -9,18 +9,18 @@ use Rattle.model.specs.Graph.{Graph, emptyGraph, maxNodes, maxUpdates}
 use Rattle.model.specs.Program.{maxBytes}
 use Rattle.model.specs.Release.{release}
 use Rattle.model.specs.Tables.{Tables}
-use Rattle.model.specs.Updates.{answers, batchGraph, inThrees}
-use Rattle.index.specs.Index.{Sized}
+use Rattle.model.specs.Updates.{answers, batchGraph, updateNumbers, updatesIn}
+use Rattle.tables.specs.Lent.{Sized}
 
 -- the graph after the batch xs
 abbrev pub graphAfter : ℕ → List ℕ → Graph
-graphAfter n xs = batchGraph (emptyGraph n) (inThrees xs)
+graphAfter n xs = batchGraph (emptyGraph n) (updatesIn xs)
 
 -- n and the batch are within their limits
 pub record Small (n : ℕ) (xs : List ℕ) : Type 0 where
   pub nodes : n ≤ maxNodes
-  pub threes : length xs % 3 ≡ 0
-  pub few : length xs ≤ 3 * maxUpdates
+  pub whole : length xs % updateNumbers ≡ 0
+  pub few : length xs ≤ updateNumbers * maxUpdates
 
 -- and the tables, the answer buffer and the release buffer are long enough
 pub record Lent (n : ℕ) (t : Tables) (xs : List ℕ) (out : List ℤ) (file : List ℕ) : Type 0 where
@@ -31,6 +31,6 @@ pub record Lent (n : ℕ) (t : Tables) (xs : List ℕ) (out : List ℤ) (file : 
 
 -- the answers and the file stand in their buffers, and k is the file's length
 pub record Done (n : ℕ) (xs : List ℕ) (out out′ : List ℤ) (file file′ : List ℕ) (k : ℕ) : Type 0 where
-  pub answered : out′ ≡ onto (answers (emptyGraph n) (inThrees xs)) out
+  pub answered : out′ ≡ onto (answers (emptyGraph n) (updatesIn xs)) out
   pub written : file′ ≡ onto (release (graphAfter n xs)) file
   pub bytes : k ≡ length (release (graphAfter n xs))

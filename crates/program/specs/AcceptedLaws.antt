@@ -1,9 +1,10 @@
 -- The three calls on an accepted input are done, and what is printed of it.
 use mathlib.Core.Path.{_≡_, refl, sym, ap, ap₂, _∙_}
-use mathlib.Core.Bool.{false}
+use mathlib.Core.Bool.{false, _||_}
 use mathlib.Core.List.{List, [], _∷_, _++_}
 use Prim.Native.Nat.{ℕ, _*_, _/_, _%_, _≤_}
 use native.Mathlib.Omega.{arith}
+use lib.Dec.{ltb}
 use lib.IntN.{ℤ}
 use lib.ListN.{length, take}
 use lib.Seq.{length-take-le, take-append-seam}
@@ -11,15 +12,16 @@ use borrow.Author.Tests.{eq-eqb, le-ltb}
 use Rattle.model.specs.Calls.{Applied, Opened, Released, applyCall, onto, openCall, openReasons, releaseCall, released}
 use Rattle.model.specs.DemandLaws.{release-written}
 use Rattle.model.specs.Graph.{emptyGraph, maxNodes, maxUpdates, nodeNumbers, rowWords}
-use Rattle.model.specs.History.{Outcome, batch, opening, outcome, plainAfter, plainOutcome, plainReasons, tablesAfter}
-use Rattle.model.specs.HistoryLaws.{Kept, call-told, lengthsFor, opening-kept, size-right}
+use Rattle.model.specs.History.{Outcome, batch, callStep, plainStep}
+use Rattle.model.specs.HistoryLaws.{Agrees, Kept, call-told, history-told, lengthsFor, size-right}
 use Rattle.model.specs.Program.{accepted, changeLines, maxBytes, printed}
 use Rattle.model.specs.ProgramLaws.{fits}
 use Rattle.model.specs.Refusals.{firstOf, lengths, wrongSize}
 use Rattle.model.specs.Release.{release}
+use Rattle.model.specs.Steps.{run}
 use Rattle.model.specs.Tables.{Tables}
-use Rattle.model.specs.UpdateLaws.{length-answers, proper-batch, proper-empty}
-use Rattle.model.specs.Updates.{answers, inThrees, updateCount, wrongBatch}
+use Rattle.model.specs.UpdateLaws.{length-answers, length-updates, proper-batch, proper-empty}
+use Rattle.model.specs.Updates.{answers, updateCount, updateNumbers, updatesIn, wrongBatch}
 use Rattle.rows.specs.Rows.{lent}
 use Rattle.index.specs.Index.{applied, opened}
 use Rattle.print.specs.Lines.{fileText}
@@ -28,16 +30,8 @@ use Rattle.writer.specs.Written.{answer}
 use Rattle.writer.specs.declared.Written.{Written}
 use Rattle.program.specs.Accepted.{Done, Lent, Small, graphAfter}
 
--- three numbers for each update
-length-threes : (xs : List ℕ) → length (inThrees xs) ≡ length xs / 3
-unfolding inThrees
-length-threes [] = refl
-length-threes (k ∷ []) = refl
-length-threes (k ∷ (u ∷ [])) = refl
-length-threes (k ∷ (u ∷ (v ∷ rest))) = omega (arith, length-threes rest)
-
-few-updates : {n : ℕ} (xs : List ℕ) → Small n xs → length (inThrees xs) ≤ maxUpdates
-few-updates xs h = omega (arith, length-threes xs, h .few)
+few-updates : {n : ℕ} (xs : List ℕ) → Small n xs → length (updatesIn xs) ≤ maxUpdates
+few-updates xs h = unfold updateCount in omega (arith, length-updates xs, h .few)
 
 module _ {n : ℕ} {t : Tables} {xs : List ℕ} {out : List ℤ} {file : List ℕ} (h : Lent n t xs out file) where
   sizes : lengths t ≡ lengthsFor n
@@ -49,22 +43,26 @@ module _ {n : ℕ} {t : Tables} {xs : List ℕ} {out : List ℤ} {file : List �
 
   whole : wrongBatch xs ≡ false
   unfolding wrongBatch updateCount
-  whole = rw (eq-eqb (length xs % 3) 0 (h .small .threes), le-ltb maxUpdates (length xs / 3) (omega (arith, h .small .few)))
+  whole = rw (eq-eqb (length xs % updateNumbers) 0 (h .small .whole), le-ltb maxUpdates (length xs / updateNumbers) (omega (arith, h .small .few)))
 
   open-done : openCall n t .result ≡ 0
   unfolding openCall openReasons firstOf
   open-done = rw right
 
-  no-reason : firstOf (plainReasons (lengths t) (batch n xs out)) ≡ 0
-  unfolding plainReasons firstOf updateCount
-  no-reason = rw (right, whole, le-ltb (length out) (length xs / 3) (omega (arith, h .small .few, h .answerRoom)))
+  no-reason : firstOf ((wrongSize n (lengths t) || wrongBatch xs, 11) ∷ (ltb (length out) (updateCount xs), 18) ∷ []) ≡ 0
+  unfolding firstOf updateCount
+  no-reason = rw (right, whole, le-ltb (length out) (length xs / updateNumbers) (omega (arith, h .small .few, h .answerRoom)))
 
-  applied-told : Kept (lengths t) (graphAfter n xs) (applyCall n (openCall n t .tables) xs out .tables) × (applyCall n (openCall n t .tables) xs out .answers ≡ onto (answers (emptyGraph n) (inThrees xs)) out)
-  unfolding tablesAfter outcome plainAfter plainOutcome
+  opened-agrees : Agrees (lengths t) (record { tables = openCall n t .tables }) (record { graph = emptyGraph n })
+  unfolding run callStep plainStep firstOf
+  opened-agrees = rw right at (history-told (record { tables = t }) n [] open-done .0)
+
+  applied-told : Kept (lengths t) (graphAfter n xs) (applyCall n (openCall n t .tables) xs out .tables) × (applyCall n (openCall n t .tables) xs out .answers ≡ onto (answers (emptyGraph n) (updatesIn xs)) out)
+  unfolding callStep plainStep
   applied-told =
-      let k = call-told (lengths t) (emptyGraph n) (tablesAfter t (opening n)) (opening-kept t n open-done) (batch n xs out) in
-      let e = eq-eqb (firstOf (plainReasons (lengths t) (batch n xs out))) 0 no-reason in
-      (rw e at (k .0), ap (λ (o : Outcome). o .answers) (rw e at (k .1)))
+      let k = call-told (lengths t) (record { tables = openCall n t .tables }) (record { graph = emptyGraph n }) (batch n xs out) opened-agrees in
+      let e = eq-eqb (firstOf ((wrongSize n (lengths t) || wrongBatch xs, 11) ∷ (ltb (length out) (updateCount xs), 18) ∷ [])) 0 no-reason in
+      (rw e at (k .0 .tables), ap (λ (o : Outcome). o .answers) (rw e at (k .1)))
 
   -- opened, applied, released
   pub done : {r₁ : ℕ} {t₁ : Tables} {r₂ : ℕ} {t₂ : Tables} {out₂ : List ℤ} {w : Written} {file₂ : List ℕ} → opened r₁ t₁ ≡ openCall n t → applied r₂ t₂ out₂ ≡ applyCall n t₁ xs out → answer w file₂ ≡ releaseCall n t₂ file → Done n xs out out₂ file file₂ (w .bytes)
@@ -82,13 +80,13 @@ module _ {n : ℕ} {t : Tables} {xs : List ℕ} {out : List ℤ} {file : List �
       kept = rw (sym (ap (λ (o : Applied). o .tables) applied-is)) at (applied-told .0)
 
       count : n ≡ graphAfter n xs .nodeCount
-      count = sym (proper-batch (inThrees xs) (emptyGraph n) (proper-empty n (h .small .nodes)) .1 ∙ unfold emptyGraph in refl)
+      count = sym (proper-batch (updatesIn xs) (emptyGraph n) (proper-empty n (h .small .nodes)) .1 ∙ unfold emptyGraph in refl)
 
       file-is : answer w file₂ ≡ released (graphAfter n xs) file
       file-is =
           c
           ∙ ap (λ (m : ℕ). releaseCall m t₂ file) count
-          ∙ release-written (lengths t) (graphAfter n xs) t₂ kept file (omega (arith, fits n (inThrees xs) (h .small .nodes) (few-updates xs (h .small)), h .fileRoom))
+          ∙ release-written (lengths t) (graphAfter n xs) t₂ kept file (omega (arith, fits n (updatesIn xs) (h .small .nodes) (few-updates xs (h .small)), h .fileRoom))
 
 -- tables for 512 nodes, of which a graph of n nodes is lent the front
 pub lent-parts : {n : ℕ} {xs : List ℕ} (edges nodes keys : List ℕ) {out : List ℤ} {file : List ℕ} → Small n xs
@@ -108,16 +106,16 @@ lent-parts {n} edges nodes keys small a b c answers-fit file-fits = record {
 
 -- the file is within the buffer
 pub done-fits : {n : ℕ} {xs : List ℕ} {out out′ : List ℤ} {file file′ : List ℕ} {k : ℕ} → Small n xs → Done n xs out out′ file file′ k → k ≤ maxBytes
-done-fits {n} {xs} s h = omega (arith, h .bytes, fits n (inThrees xs) (s .nodes) (few-updates xs s))
+done-fits {n} {xs} s h = omega (arith, h .bytes, fits n (updatesIn xs) (s .nodes) (few-updates xs s))
 
 -- what is printed of the answers and the file
-pub done-text : {n : ℕ} {xs : List ℕ} {out out′ : List ℤ} {file file′ : List ℕ} {k : ℕ} → Done n xs out out′ file file′ k → changeLines 1 (take (length xs / 3) out′) ++ fileText (take k file′) ≡ printed (accepted n (inThrees xs))
-done-text {n} {xs} {out} {out′} {file} {file′} {k} h = ap₂ (λ (a : List ℤ) (f : List ℕ). changeLines 1 a ++ fileText f) the-answers the-file ∙ accepted-text n (inThrees xs)
+pub done-text : {n : ℕ} {xs : List ℕ} {out out′ : List ℤ} {file file′ : List ℕ} {k : ℕ} → Done n xs out out′ file file′ k → changeLines 1 (take (length xs / updateNumbers) out′) ++ fileText (take k file′) ≡ printed (accepted n (updatesIn xs))
+done-text {n} {xs} {out} {out′} {file} {file′} {k} h = ap₂ (λ (a : List ℤ) (f : List ℕ). changeLines 1 a ++ fileText f) the-answers the-file ∙ accepted-text n (updatesIn xs)
   where
-    the-answers : take (length xs / 3) out′ ≡ answers (emptyGraph n) (inThrees xs)
+    the-answers : take (length xs / updateNumbers) out′ ≡ answers (emptyGraph n) (updatesIn xs)
     the-answers =
-        let e : length xs / 3 ≡ length (answers (emptyGraph n) (inThrees xs)) = sym (length-answers (inThrees xs) (emptyGraph n) ∙ length-threes xs) in
-        rw (h .answered, e) (take-append-seam (answers (emptyGraph n) (inThrees xs)) _)
+        let e : length xs / updateNumbers ≡ length (answers (emptyGraph n) (updatesIn xs)) = sym (length-answers (updatesIn xs) (emptyGraph n) ∙ length-updates xs ∙ unfold updateCount in refl) in
+        rw (h .answered, e) (take-append-seam (answers (emptyGraph n) (updatesIn xs)) _)
 
     the-file : take k file′ ≡ release (graphAfter n xs)
     the-file = rw (h .written, h .bytes) (take-append-seam (release (graphAfter n xs)) _)

@@ -14,9 +14,11 @@ use Rattle.model.specs.Graph.{maxUpdates}
 use Rattle.model.specs.Program.{Input, accepted, inputOf, maxBytes, printed, program, refusedLine}
 use Rattle.model.specs.ProgramLaws.{input-small}
 use Rattle.model.specs.TestLaws.{decide}
-use Rattle.model.specs.Updates.{inThrees}
-use Rattle.layout.specs.Wrote.{Wrote}
-use Rattle.layout.specs.WroteLaws.{sets-onto}
+use Rattle.model.specs.Updates.{updateNumbers, updatesIn}
+use Rattle.buffers.specs.Wrote.{Wrote}
+use Rattle.buffers.specs.WroteLaws.{sets-onto}
+use Rattle.buffers.specs.Wrote.{Wrote}
+use Rattle.buffers.specs.WroteLaws.{sets-onto}
 use Rattle.print.specs.LengthLaws.{program-short}
 use Rattle.print.specs.Lines.{maxText}
 use Rattle.text.specs.Grammar.{Told, inputIn, used}
@@ -35,24 +37,24 @@ module _ (bytes : List ℕ) {before after : List ℕ} {r : Parsed} (h : Told (in
   refused-is line e = input-is (ap (λ (p : Parsed). inputIn p after) e)
 
   -- accepted: the changes stand in the first numbers of the batch
-  accepted-input : (n count : ℕ) → r ≡ Accepted n count → inputIn r after ≡ accepted n (inThrees (take (3 * count) after))
+  accepted-input : (n count : ℕ) → r ≡ Accepted n count → inputIn r after ≡ accepted n (updatesIn (take (updateNumbers * count) after))
   unfolding inputIn
   accepted-input n count e = ap (λ (p : Parsed). inputIn p after) e
 
-  pub accepted-is : (n count : ℕ) → r ≡ Accepted n count → printed (accepted n (inThrees (take (3 * count) after))) ≡ program bytes
+  pub accepted-is : (n count : ℕ) → r ≡ Accepted n count → printed (accepted n (updatesIn (take (updateNumbers * count) after))) ≡ program bytes
   accepted-is n count e = input-is (accepted-input n count e)
 
   pub accepted-few : (n count : ℕ) → r ≡ Accepted n count → count ≤ maxUpdates
   unfolding used
   accepted-few n count e = rw (ap used e) at (h .few)
 
-  pub accepted-small : (n count : ℕ) → r ≡ Accepted n count → 3 * maxUpdates ≤ length after → Small n (take (3 * count) after)
+  pub accepted-small : (n count : ℕ) → r ≡ Accepted n count → updateNumbers * maxUpdates ≤ length after → Small n (take (updateNumbers * count) after)
   accepted-small n count e room =
       let few = accepted-few n count e in
-      let size = length-take-le (3 * count) after (omega arith) in
+      let size = length-take-le (updateNumbers * count) after (omega arith) in
       record {
-        nodes = input-small bytes n (inThrees (take (3 * count) after)) (sym (h .input) ∙ accepted-input n count e) .0;
-        threes = omega (arith, size);
+        nodes = input-small bytes n (updatesIn (take (updateNumbers * count) after)) (sym (h .input) ∙ accepted-input n count e) .0;
+        whole = omega (arith, size);
         few = omega (arith, size);
       }
 

@@ -7,8 +7,9 @@ ghost use Prim.Native.Nat.{ℕ, _+_, _≤_};
 ghost use lib.ListN.{length, take};
 ghost use Rattle.model.specs.Calls.{onto};
 ghost use Rattle.model.specs.Program.{accepted, maxBytes, printed, program};
-ghost use Rattle.model.specs.Updates.{inThrees};
-ghost use Rattle.layout.specs.Wrote.{Wrote};
+ghost use Rattle.model.specs.Updates.{updatesIn};
+ghost use Rattle.buffers.specs.Wrote.{Wrote};
+ghost use Rattle.buffers.specs.Wrote.{Wrote};
 ghost use Rattle.rows.specs.Rows.{lent};
 ghost use Rattle.program.specs.Accepted.{Done, Lent, Small};
 
@@ -51,8 +52,8 @@ fn release_after(
 // What is printed for n and a batch of changes.
 fn print_accepted(n: usize, batch: &[u16], out: &mut [u8]) -> usize
     requires { ⌜ Small n (now batch) ⌝ }
-    requires { ⌜ length (printed (accepted n (inThrees (now batch)))) ≤ length (now out) ⌝ }
-    ensures { λ r. ⌜ Wrote (now (out .entry)) 0 (printed (accepted n (inThrees (now (batch .entry))))) (now (out .exit)) r ⌝ }
+    requires { ⌜ length (printed (accepted n (updatesIn (now batch)))) ≤ length (now out) ⌝ }
+    ensures { λ r. ⌜ Wrote (now (out .entry)) 0 (printed (accepted n (updatesIn (now (batch .entry))))) (now (out .exit)) r ⌝ }
 {
     let mut edges = [0u64; Graph::NODES * Graph::ROW_WORDS];
     let mut nodes = [0u16; Graph::NODES * Graph::NODE_NUMBERS];
@@ -71,7 +72,7 @@ fn print_accepted(n: usize, batch: &[u16], out: &mut [u8]) -> usize
         &mut answers,
         &mut file,
     );
-    let count = batch.len() / 3;
+    let count = batch.len() / Graph::UPDATE_NUMBERS;
     print::output(out, &answers[..count], &file[..bytes])
 }
 
@@ -80,12 +81,12 @@ pub fn run(input: &[u8], out: &mut [u8; OUTPUT_BYTES]) -> usize
     ensures bytes { λ _. ⌜ now (out .exit) ≡ onto (program (now (input .entry))) (now (out .entry)) ⌝ }
     ensures count { λ r. ⌜ r ≡ length (program (now (input .entry))) ⌝ }
 {
-    let mut batch = [0u16; 3 * Graph::UPDATES];
+    let mut batch = [0u16; Graph::UPDATE_NUMBERS * Graph::UPDATES];
     let parsed = text::parse(input, &mut batch);
     match parsed {
         Parsed::Refused { line } => print::refused_line(out, 0, line),
         Parsed::Accepted { n, count } => {
-            let end = 3 * count;
+            let end = Graph::UPDATE_NUMBERS * count;
             print_accepted(n, &batch[..end], out)
         }
     }

@@ -9,10 +9,10 @@ use lib.ListN.{length, set}
 use borrow.Author.Tests.{eq-eqb, ne-eqb}
 use Rattle.model.specs.Lists.{filter, from, nodes}
 use Rattle.model.specs.Tables.{edgeBit, nodeNumber}
-use Rattle.layout.specs.Scan.{scan}
-use Rattle.layout.specs.ScanLaws.{scan-length, scan-yes}
-use Rattle.layout.specs.Wrote.{Left}
-use Rattle.layout.specs.WroteLaws.{left-step}
+use Rattle.buffers.specs.Scan.{scan}
+use Rattle.buffers.specs.ScanLaws.{scan-length, scan-yes}
+use Rattle.buffers.specs.Wrote.{Left}
+use Rattle.buffers.specs.WroteLaws.{left-step}
 use Rattle.queries.specs.Query.{ledBy, kindBy}
 
 -- a number that passes is put into the list

@@ -5,7 +5,7 @@ ghost use lib.ListN.{length};
 ghost use lib.Seq.{sets};
 ghost use Rattle.model.specs.Graph.{maxNodes, rowWords, nodeNumbers};
 ghost use Rattle.model.specs.Tables.{edgeBit, nodeNumber};
-ghost use Rattle.layout.specs.Scan.{scan};
+ghost use Rattle.buffers.specs.Scan.{scan};
 ghost use Rattle.queries.specs.Query.{kindBy, ledBy};
 use groups::LEAST;
 use groups::NEXT;

@@ -8,6 +8,7 @@ use lib.ListN.{length, drop, length-append, length-drop}
 use lib.Seq.{drop-at, drop-drop}
 use borrow.Author.Tests.{eq-eqb, ne-eqb, lt-ltb, le-ltb, le-leb}
 use Rattle.model.specs.Lists.{_∈_, concat}
+use Rattle.model.specs.Graph.{View}
 use Rattle.model.specs.Grouping.{Kind, adjacent, clique, independent, isClique, kindOf, singleton}
 use Rattle.model.specs.Release.{endRecord, groupRecord, headRecord, kindByte, superedgeRecord, superedges, superedgesFrom, u16}
 use Rattle.model.specs.Reading.{u16At, u16s}
@@ -60,35 +61,35 @@ members-pass n (x ∷ xs) c h l =
     (members-pass n xs (record { members = c .members - 1; groups = c .groups }) (λ p m. h p (List·Memᴰ·tail m)) (omega arith) ∙ rw e)
 
 -- groups are taken while the counts last
-module _ (n : ℕ) (e : ℕ → ℕ → Bool) (s : List ℕ) where
-  module _ (g r : List ℕ) (at : ℕ) (here : drop at s ≡ groupRecord e g ++ r) where
+module _ (n : ℕ) (v : View) (s : List ℕ) where
+  module _ (g r : List ℕ) (at : ℕ) (here : drop at s ≡ groupRecord v g ++ r) where
     room : at + 4 + 2 * length g ≤ length s
-    room = omega (arith, length-drop at s, ap length here, length-append (groupRecord e g) r, length-group-record e g)
+    room = omega (arith, length-drop at s, ap length here, length-append (groupRecord v g) r, length-group-record v g)
 
-    item : itemIn (drop at s) ≡ Group (isClique (kindOf e g)) (length g)
-    item = ap itemIn here ∙ (unfold groupRecord u16 in group-item (kindOf e g) (length g) (concat (map u16 g) ++ r))
+    item : itemIn (drop at s) ≡ Group (isClique (kindOf (v .edge) g)) (length g)
+    item = ap itemIn here ∙ (unfold groupRecord u16 in group-item (kindOf (v .edge) g) (length g) (concat (map u16 g) ++ r))
 
     members : numbersAt s (at + 4) (length g) ≡ g
-    members = unfold numbersAt in (ap (u16s (length g)) (sym (drop-drop 4 at s) ∙ ap (drop 4) here ∙ body e g r) ∙ u16s-back g r)
+    members = unfold numbersAt in (ap (u16s (length g)) (sym (drop-drop 4 at s) ∙ ap (drop 4) here ∙ body v g r) ∙ u16s-back g r)
 
     after : drop (at + 4 + 2 * length g) s ≡ r
     after =
         let f : at + (4 + 2 * length g) ≡ at + 4 + 2 * length g = omega arith in
-        ap (λ (x : ℕ). drop x s) (sym f) ∙ sym (drop-drop (4 + 2 * length g) at s) ∙ ap (drop (4 + 2 * length g)) here ∙ drop-at (groupRecord e g) r (4 + 2 * length g) (length-group-record e g)
+        ap (λ (x : ℕ). drop x s) (sym f) ∙ sym (drop-drop (4 + 2 * length g) at s) ∙ ap (drop (4 + 2 * length g)) here ∙ drop-at (groupRecord v g) r (4 + 2 * length g) (length-group-record v g)
 
-    group-pass : (c : Counts) → ((p : ℕ) → p ∈ g → p < n) → length g ≤ c .members → 0 < c .groups → groupTaken n c s at ≡ Taken (isClique (kindOf e g)) (at + 4 + 2 * length g) (record { members = c .members - length g; groups = c .groups - 1 })
+    group-pass : (c : Counts) → ((p : ℕ) → p ∈ g → p < n) → length g ≤ c .members → 0 < c .groups → groupTaken n c s at ≡ Taken (isClique (kindOf (v .edge) g)) (at + 4 + 2 * length g) (record { members = c .members - length g; groups = c .groups - 1 })
     group-pass c small fits some = unfold groupTaken lessGroup in rw (item, le-leb (at + 4 + 2 * length g) (length s) room, ne-eqb (c .groups) 0 (λ z. omega arith), members, members-pass n g (record { members = c .members; groups = c .groups - 1 }) small fits)
 
-  pub groups-pass : (gs : List (List ℕ)) (r : List ℕ) (at : ℕ) (c : Counts) → drop at s ≡ concat (map (groupRecord e) gs) ++ r → ((g : List ℕ) → List·Memᴰ g gs → (p : ℕ) → p ∈ g → p < n) → c .groups ≡ length gs → c .members ≡ length (concat gs)
+  pub groups-pass : (gs : List (List ℕ)) (r : List ℕ) (at : ℕ) (c : Counts) → drop at s ≡ concat (map (groupRecord v) gs) ++ r → ((g : List ℕ) → List·Memᴰ g gs → (p : ℕ) → p ∈ g → p < n) → c .groups ≡ length gs → c .members ≡ length (concat gs)
       → (next : ℕ) × (groupsRead n (length gs) c s at ≡ Whole next (record { members = 0; groups = 0 })) × (drop next s ≡ r)
   unfolding concat
   groups-pass [] r at c here small a b = (at, read-none n 0 c s at refl ∙ (λ i. Whole at (record { members = b i; groups = a i })), here)
   groups-pass (g ∷ gs) r at c here small a b =
-      let more = groups-pass gs r (at + 4 + 2 * length g) (record { members = c .members - length g; groups = c .groups - 1 }) (after g (concat (map (groupRecord e) gs) ++ r) at first) (λ h m. small h (List·Memᴰ·tail m)) (omega arith) (omega (arith, length-append g (concat gs))) in
-      (more .0, read-taken n (length gs) c s at (isClique (kindOf e g)) (at + 4 + 2 * length g) (record { members = c .members - length g; groups = c .groups - 1 }) (group-pass g (concat (map (groupRecord e) gs) ++ r) at first c (small g (List·Memᴰ·head refl)) (omega (arith, length-append g (concat gs))) (omega arith)) ∙ more .1, more .2)
+      let more = groups-pass gs r (at + 4 + 2 * length g) (record { members = c .members - length g; groups = c .groups - 1 }) (after g (concat (map (groupRecord v) gs) ++ r) at first) (λ h m. small h (List·Memᴰ·tail m)) (omega arith) (omega (arith, length-append g (concat gs))) in
+      (more .0, read-taken n (length gs) c s at (isClique (kindOf (v .edge) g)) (at + 4 + 2 * length g) (record { members = c .members - length g; groups = c .groups - 1 }) (group-pass g (concat (map (groupRecord v) gs) ++ r) at first c (small g (List·Memᴰ·head refl)) (omega (arith, length-append g (concat gs))) (omega arith)) ∙ more .1, more .2)
     where
-      first : drop at s ≡ groupRecord e g ++ (concat (map (groupRecord e) gs) ++ r)
-      first = here ∙ append-assoc (groupRecord e g) (concat (map (groupRecord e) gs)) r
+      first : drop at s ≡ groupRecord v g ++ (concat (map (groupRecord v) gs) ++ r)
+      first = here ∙ append-assoc (groupRecord v g) (concat (map (groupRecord v) gs)) r
 
 -- superedges in order are taken up to the end
 pub superedges-pass : (g : ℕ) (c : Counts) (s : List ℕ) → spent c ≡ true → (js : List (ℕ × ℕ)) (last k at : ℕ) → length js < k → drop at s ≡ concat (map superedgeRecord js) ++ endRecord → Ordered g last js → superedgesFit g c s last k at ≡ true

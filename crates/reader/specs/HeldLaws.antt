@@ -9,11 +9,11 @@ use lib.Dec.{eqb, ltb}
 use lib.ListN.{length, getD, drop}
 use borrow.Author.Tests.{eqb-true, eq-eqb, ne-eqb, ltb-true, ltb-false, lt-ltb, le-leb}
 use Rattle.model.specs.Lists.{_∈_, concat, member, nodes, sameList}
-use Rattle.model.specs.Graph.{Graph, Proper, maxNodes}
+use Rattle.model.specs.Graph.{Graph, Proper, View, maxNodes}
 use Rattle.model.specs.Grouping.{algorithm1, group, leaders, least, similar}
 use Rattle.model.specs.Summary.{position, summaryOf}
 use Rattle.model.specs.Tables.{edgeBit}
-use Rattle.model.specs.Release.{encode, endRecord, groupRecord, headRecord, isVisible, release, superedgeRecord, superedges, u16, visible, visibleEdge, visiblePart}
+use Rattle.model.specs.Release.{encode, endRecord, groupRecord, headRecord, isVisible, release, superedgeRecord, superedges, u16, visible, visiblePart}
 use Rattle.model.specs.Reading.{afterGroups, decode, graphBy, groupsAt, isRelease, summaryBy, summaryIn, superedgesAt, u16At}
 use Rattle.model.specs.TestLaws.{and-fst, and-snd, and-true, decide, differ, iff-eq}
 use Rattle.model.specs.ListLaws.{filter-elim, length-filter, length-from, map-out, member-elim, member-intro, nodes-out, same-eq, same-refl}
@@ -112,59 +112,56 @@ decodes-simple s edges hidden r n d e =
 
 -- a release
 module _ (b : Graph) (h : Proper b) where
-  abbrev vs : List ℕ
-  vs = visible b
-
-  abbrev e : ℕ → ℕ → Bool
-  e = visibleEdge b
+  abbrev v : View
+  v = visible b
 
   abbrev gs : List (List ℕ)
-  gs = algorithm1 (visible b) (visibleEdge b)
+  gs = algorithm1 v
 
   abbrev js : List (ℕ × ℕ)
-  js = superedges (visibleEdge b) 0 (algorithm1 (visible b) (visibleEdge b))
+  js = superedges (v .edge) 0 gs
 
   abbrev s : List ℕ
-  s = encode (b .nodeCount) (visible b) (visibleEdge b) (algorithm1 (visible b) (visibleEdge b))
+  s = encode (b .nodeCount) v gs
 
   released : release b ≡ s
   released = unfold release in refl
 
-  fewer-visible : length vs ≤ b .nodeCount
-  fewer-visible = unfold visible nodes in omega (arith, length-filter (isVisible b) (nodes (b .nodeCount)), length-from 0 (b .nodeCount))
+  fewer-visible : length (v .nodes) ≤ b .nodeCount
+  fewer-visible = unfold nodes in omega (arith, length-filter (isVisible b) (nodes (b .nodeCount)), length-from 0 (b .nodeCount))
 
-  fewer-groups : length gs ≤ length vs
-  fewer-groups = unfold leaders in omega (arith, length-groups vs e (visible-simple b h) (visible-ascending b), length-filter (λ p. eqb (least vs (similar vs e) p) p) vs)
+  fewer-groups : length gs ≤ length (v .nodes)
+  fewer-groups = unfold leaders in omega (arith, length-groups v (visible-simple b h) (visible-ascending b), length-filter (λ p. eqb (least (v .nodes) (similar v) p) p) (v .nodes))
 
-  visible-member : (g : List ℕ) → List·Memᴰ g gs → (p : ℕ) → p ∈ g → p ∈ vs
+  visible-member : (g : List ℕ) → List·Memᴰ g gs → (p : ℕ) → p ∈ g → p ∈ v .nodes
   visible-member g m p k =
-      let c = map-out (group vs (similar vs e)) (leaders vs (similar vs e)) g (rw (algorithm1-classes vs e (visible-simple b h) (visible-ascending b)) at m) in
-      group-out vs (similar vs e) (c .0) p (rw (c .2) at k) .0
+      let c = map-out (group (v .nodes) (similar v)) (leaders (v .nodes) (similar v)) g (rw (algorithm1-classes v (visible-simple b h) (visible-ascending b)) at m) in
+      group-out (v .nodes) (similar v) (c .0) p (rw (c .2) at k) .0
 
-  visible-small : (p : ℕ) → p ∈ vs → p < b .nodeCount
-  visible-small p m = nodes-out (b .nodeCount) p (filter-elim (isVisible b) (nodes (b .nodeCount)) p (unfold visible in m) .0)
+  visible-small : (p : ℕ) → p ∈ v .nodes → p < b .nodeCount
+  visible-small p m = nodes-out (b .nodeCount) p (filter-elim (isVisible b) (nodes (b .nodeCount)) p m .0)
 
   abbrev tail : List ℕ
   tail = concat (map superedgeRecord js) ++ endRecord
 
-  after-head : drop 8 s ≡ concat (map (groupRecord e) gs) ++ tail
+  after-head : drop 8 s ≡ concat (map (groupRecord v) gs) ++ tail
   after-head = unfold encode headRecord u16 in refl
 
-  heads : itemIn s ≡ Head (b .nodeCount) (length vs) (length gs)
-  heads = unfold encode in head-item (b .nodeCount) (length vs) (length gs) (concat (map (groupRecord e) gs) ++ tail)
+  heads : itemIn s ≡ Head (b .nodeCount) (length (v .nodes)) (length gs)
+  heads = unfold encode in head-item (b .nodeCount) (length (v .nodes)) (length gs) (concat (map (groupRecord v) gs) ++ tail)
 
-  fits : sized (b .nodeCount) (length vs) (length gs) ≡ true
+  fits : sized (b .nodeCount) (length (v .nodes)) (length gs) ≡ true
   unfolding sized
-  fits = and-true (le-leb (b .nodeCount) maxNodes (h .small)) (and-true (le-leb (length vs) (b .nodeCount) fewer-visible) (le-leb (length gs) (length vs) fewer-groups))
+  fits = and-true (le-leb (b .nodeCount) maxNodes (h .small)) (and-true (le-leb (length (v .nodes)) (b .nodeCount) fewer-visible) (le-leb (length gs) (length (v .nodes)) fewer-groups))
 
   in-order : Ordered (length gs) 0 js
-  in-order = ordered e (length gs) (omega (arith, h .small, fewer-visible, fewer-groups)) gs 0 0 (omega arith) (unfold keyOf in omega arith)
+  in-order = ordered (v .edge) (length gs) (omega (arith, h .small, fewer-visible, fewer-groups)) gs 0 0 (omega arith) (unfold keyOf in omega arith)
 
-  reads-groups : (next : ℕ) × (groupsRead (b .nodeCount) (length gs) (record { members = length vs; groups = length gs }) s 8 ≡ Whole next (record { members = 0; groups = 0 })) × (drop next s ≡ tail)
-  reads-groups = groups-pass (b .nodeCount) e s gs tail 8 (record { members = length vs; groups = length gs }) after-head (λ g m p k. visible-small p (visible-member g m p k)) refl (sym (length-concat-groups vs e (visible-simple b h) (visible-ascending b)))
+  reads-groups : (next : ℕ) × (groupsRead (b .nodeCount) (length gs) (record { members = length (v .nodes); groups = length gs }) s 8 ≡ Whole next (record { members = 0; groups = 0 })) × (drop next s ≡ tail)
+  reads-groups = groups-pass (b .nodeCount) v s gs tail 8 (record { members = length (v .nodes); groups = length gs }) after-head (λ g m p k. visible-small p (visible-member g m p k)) refl (sym (length-concat-groups v (visible-simple b h) (visible-ascending b)))
 
   reads-superedges : superedgesFit (length gs) (record { members = 0; groups = 0 }) s 0 (length s) (reads-groups .0) ≡ true
-  reads-superedges = superedges-pass (length gs) (record { members = 0; groups = 0 }) s (unfold spent in refl) js 0 (length s) (reads-groups .0) (omega (arith, length-encode (b .nodeCount) vs e gs)) (reads-groups .2) in-order
+  reads-superedges = superedges-pass (length gs) (record { members = 0; groups = 0 }) s (unfold spent in refl) js 0 (length s) (reads-groups .0) (omega (arith, length-encode (b .nodeCount) v gs)) (reads-groups .2) in-order
 
   pub release-accepted : accepted s ≡ true
   unfolding accepted bodyFits
@@ -174,54 +171,54 @@ module _ (b : Graph) (h : Proper b) where
   at-g : u16At s 6 ≡ length gs
   at-g = unfold encode headRecord u16At u16 in omega arith
 
-  groups-told : toldGroups s ≡ map (marked e) gs
-  groups-told = unfold toldGroups groupsFrom in (ap₂ groupsAt at-g after-head ∙ groups-back e gs tail)
+  groups-told : toldGroups s ≡ map (marked v) gs
+  groups-told = unfold toldGroups groupsFrom in (ap₂ groupsAt at-g after-head ∙ groups-back v gs tail)
 
   pairs-told : toldPairs s ≡ js
-  pairs-told = unfold toldPairs restFrom in (ap (superedgesAt (length s)) (ap₂ afterGroups at-g after-head ∙ groups-after e gs tail) ∙ superedges-back js (length s) (omega (arith, length-encode (b .nodeCount) vs e gs)))
+  pairs-told = unfold toldPairs restFrom in (ap (superedgesAt (length s)) (ap₂ afterGroups at-g after-head ∙ groups-after v gs tail) ∙ superedges-back js (length s) (omega (arith, length-encode (b .nodeCount) v gs)))
 
-  unmarked : (l : List (List ℕ)) → map (λ (g : Bool × List ℕ). g .1) (map (marked e) l) ≡ l
+  unmarked : (l : List (List ℕ)) → map (λ (g : Bool × List ℕ). g .1) (map (marked v) l) ≡ l
   unmarked [] = refl
   unmarked (x ∷ xs) = ap (λ (l : List (List ℕ)). x ∷ l) (unmarked xs)
 
-  as-many : (l : List (List ℕ)) → length (map (marked e) l) ≡ length l
+  as-many : (l : List (List ℕ)) → length (map (marked v) l) ≡ length l
   as-many [] = refl
   as-many (x ∷ xs) = ap suc (as-many xs)
 
-  members-told : (l : List (List ℕ)) (i : ℕ) → membersOf (map (marked e) l) i ≡ getD l i []
+  members-told : (l : List (List ℕ)) (i : ℕ) → membersOf (map (marked v) l) i ≡ getD l i []
   unfolding membersOf
   members-told [] i = refl
   members-told (x ∷ xs) zero = refl
   members-told (x ∷ xs) (suc i) = members-told xs i
 
   -- each visible node is in the group at its position, and in no other
-  parted : (p i : ℕ) → i < length (map (marked e) gs) → member p (membersOf (map (marked e) gs) i) ≡ eqb (positionIn (map (marked e) gs) p) i
-  parted p i l = at (algorithm1-summarises vs e (visible-simple b h) (visible-ascending b) .inhabited i (unfold summaryOf in rw (as-many gs) at l))
+  parted : (p i : ℕ) → i < length (map (marked v) gs) → member p (membersOf (map (marked v) gs) i) ≡ eqb (positionIn (map (marked v) gs) p) i
+  parted p i l = at (algorithm1-summarises v (visible-simple b h) (visible-ascending b) .inhabited i (unfold summaryOf in rw (as-many gs) at l))
     where
-      similar-position : (q : ℕ) → q ∈ vs → position q gs ≡ i → (member p vs ≡ true) ⊎ (member p vs ≡ false) → member p (group vs (similar vs e) q) ≡ eqb (position p gs) i
+      similar-position : (q : ℕ) → q ∈ v .nodes → position q gs ≡ i → (member p (v .nodes) ≡ true) ⊎ (member p (v .nodes) ≡ false) → member p (group (v .nodes) (similar v) q) ≡ eqb (position p gs) i
       similar-position q m f (inl t) =
-          let k : p ∈ vs = member-elim p vs t in
-          iff-eq (member p (group vs (similar vs e) q)) (eqb (position p gs) i)
-          (λ u. eq-eqb (position p gs) i (sym (eqb-true (position q gs) (position p gs) (position-similar vs e (visible-simple b h) (visible-ascending b) q p m k ∙ group-out vs (similar vs e) q p (member-elim p (group vs (similar vs e) q) u) .1)) ∙ f))
-          (λ u. member-intro p (group vs (similar vs e) q) (group-in vs (similar vs e) q p k (sym (position-similar vs e (visible-simple b h) (visible-ascending b) q p m k) ∙ eq-eqb (position q gs) (position p gs) (f ∙ sym (eqb-true (position p gs) i u)))))
+          let k : p ∈ v .nodes = member-elim p (v .nodes) t in
+          iff-eq (member p (group (v .nodes) (similar v) q)) (eqb (position p gs) i)
+          (λ u. eq-eqb (position p gs) i (sym (eqb-true (position q gs) (position p gs) (position-similar v (visible-simple b h) (visible-ascending b) q p m k ∙ group-out (v .nodes) (similar v) q p (member-elim p (group (v .nodes) (similar v) q) u) .1)) ∙ f))
+          (λ u. member-intro p (group (v .nodes) (similar v) q) (group-in (v .nodes) (similar v) q p k (sym (position-similar v (visible-simple b h) (visible-ascending b) q p m k) ∙ eq-eqb (position q gs) (position p gs) (f ∙ sym (eqb-true (position p gs) i u)))))
       similar-position q m f (inr t) =
-          let in-place : ltb (positionIn (map (marked e) gs) p) (length (map (marked e) gs)) ≡ member p vs = unfold summaryBy in read-placed vs e (visible-simple b h) (visible-ascending b) p in
-          let out : ltb (positionIn (map (marked e) gs) p) (length (map (marked e) gs)) ≡ false = in-place ∙ t in
+          let in-place : ltb (positionIn (map (marked v) gs) p) (length (map (marked v) gs)) ≡ member p (v .nodes) = unfold summaryBy in read-placed v (visible-simple b h) (visible-ascending b) p in
+          let out : ltb (positionIn (map (marked v) gs) p) (length (map (marked v) gs)) ≡ false = in-place ∙ t in
           let far : length gs ≤ position p gs = ltb-false (position p gs) (length gs) (rw (unmarked gs, as-many gs) at out) in
-          iff-eq (member p (group vs (similar vs e) q)) (eqb (position p gs) i)
-          (λ u. differ (member-intro p vs (group-out vs (similar vs e) q p (member-elim p (group vs (similar vs e) q) u) .0)) t)
+          iff-eq (member p (group (v .nodes) (similar v) q)) (eqb (position p gs) i)
+          (λ u. differ (member-intro p (v .nodes) (group-out (v .nodes) (similar v) q p (member-elim p (group (v .nodes) (similar v) q) u) .0)) t)
           (λ u. absurd (omega (arith, as-many gs, eqb-true (position p gs) i u)))
 
-      at : (q : ℕ) × (q ∈ vs) × (summaryOf e gs .groupOf q ≡ i) → member p (membersOf (map (marked e) gs) i) ≡ eqb (positionIn (map (marked e) gs) p) i
+      at : (q : ℕ) × (q ∈ v .nodes) × (summaryOf v gs .groupOf q ≡ i) → member p (membersOf (map (marked v) gs) i) ≡ eqb (positionIn (map (marked v) gs) p) i
       at (q, m, f) =
           let g : position q gs ≡ i = unfold summaryOf in f in
-          rw (members-told gs i, unmarked gs, ← g, position-group vs e (visible-simple b h) (visible-ascending b) q m) (rw (← g) at (similar-position q m g (decide (member p vs))))
+          rw (members-told gs i, unmarked gs, ← g, position-group v (visible-simple b h) (visible-ascending b) q m) (rw (← g) at (similar-position q m g (decide (member p (v .nodes)))))
 
   told-reads : (p q : ℕ) → toldEdge s p q ≡ decode s .edge p q
   told-reads p q =
       unfold decode summaryIn toldEdge in
       (ap₂ (λ (x : List (Bool × List ℕ)) (y : List (ℕ × ℕ)). inside x p q || crossed x y p q) groups-told pairs-told
-      ∙ told-summary (map (marked e) gs) parted (u16At s 2) 0 js (rw (as-many gs) in-order) p q
+      ∙ told-summary (map (marked v) gs) parted (u16At s 2) 0 js (rw (as-many gs) in-order) p q
       ∙ sym (ap₂ (λ (x : List (Bool × List ℕ)) (y : List (ℕ × ℕ)). graphBy (u16At s 2) (summaryBy x y) .edge p q) (sym as-groups ∙ groups-told) (sym as-pairs ∙ pairs-told)))
     where
       as-groups : toldGroups s ≡ groupsAt (u16At s 6) (drop 8 s)

@@ -18,10 +18,11 @@ use Rattle.reader.specs.Bytes.{Bytes}
 use Rattle.reader.specs.Decoding.{HoldsGraph, graphIn, placed, toldGroups}
 use Rattle.compare.specs.Agree.{groupsAgree}
 use Rattle.compare.specs.SameLaws.{file-answer}
-use Rattle.compare.specs.ToldLeast.{LeastTold, toldLeast}
+use Rattle.compare.specs.ToldLeast.{LeastRead, toldLeast}
 use Rattle.compare.specs.ToldLeastLaws.{agreed-told, none-told}
-use Rattle.visible.specs.Visible.{areLeast, leastVisible, markedGraph}
-use Rattle.visible.specs.ConfirmLaws.{least-truth, told-least}
+use Rattle.grouping.specs.Least.{areLeast, leastVisible}
+use Rattle.masking.specs.Masking.{markedGraph}
+use Rattle.grouping.specs.ConfirmLaws.{least-truth, told-least}
 use Rattle.release.specs.Release.{DecodedAs}
 use Rattle.release.specs.ReleaseLaws.{apart-decoded, file-told-by, held-small, same-release, visible-parts, visible-told-by}
 
@@ -57,7 +58,7 @@ module _ (n : ℕ) {edges hidden : List ℕ} (h : HoldsGraph n edges hidden) (l 
     release-agrees : sameList s (release (graphIn n edges hidden)) ≡ true → groupsAgree (edgeBit (take (rowWords * n) edges)) (rightLeast n (markedGraph n (take (rowWords * n) edges) hidden)) 0 (toldGroups s) ≡ true
     release-agrees t = same-release n h l k truth s _ (file-answer n (rightLeast n g) rows s (visible-parts n rows hidden truth) (file-told-by n h l k s read truth) bytes _ refl) ∙ t
 
-    release-tells : {lst : List ℕ} → LeastTold s (replicate 512 65535) lst → groupsAgree (edgeBit (take (rowWords * n) edges)) (rightLeast n (markedGraph n (take (rowWords * n) edges) hidden)) 0 (toldGroups s) ≡ true → (p : ℕ) → p < n → getD lst p 0 ≡ leastVisible (markedGraph n (take (rowWords * n) edges) hidden) p
+    release-tells : {lst : List ℕ} → LeastRead s (replicate 512 65535) lst → groupsAgree (edgeBit (take (rowWords * n) edges)) (rightLeast n (markedGraph n (take (rowWords * n) edges) hidden)) 0 (toldGroups s) ≡ true → (p : ℕ) → p < n → getD lst p 0 ≡ leastVisible (markedGraph n (take (rowWords * n) edges) hidden) p
     release-tells x a p hp = x .least p ∙ step (decide (placed (toldGroups s) p))
       where
         none : placed (toldGroups s) p ≡ false → 65535 ≡ leastVisible g p
@@ -67,7 +68,7 @@ module _ (n : ℕ) {edges hidden : List ℕ} (h : HoldsGraph n edges hidden) (l 
         step (inl t) = agreed-told (rightLeast n g) p (edgeBit rows) (toldGroups s) (getD (replicate 512 65535) p 0) a t ∙ right-at n g p hp
         step (inr t) = none-told (toldGroups s) p (getD (replicate 512 65535) p 0) t ∙ getD-replicate 512 p 65535 0 (omega (arith, held-small n h l k)) ∙ none t
 
-    pub told-wrong : {lst : List ℕ} {b : Bool} → LeastTold s (replicate 512 65535) lst → b ≡ areLeast n (markedGraph n (take (rowWords * n) edges) hidden) lst → b ≡ false → false ≡ sameList s (release (graphIn n edges hidden))
+    pub told-wrong : {lst : List ℕ} {b : Bool} → LeastRead s (replicate 512 65535) lst → b ≡ areLeast n (markedGraph n (take (rowWords * n) edges) hidden) lst → b ≡ false → false ≡ sameList s (release (graphIn n edges hidden))
     told-wrong {lst} x e f = step (decide (sameList s (release (graphIn n edges hidden))))
       where
         step : (sameList s (release (graphIn n edges hidden)) ≡ true) ⊎ (sameList s (release (graphIn n edges hidden)) ≡ false) → false ≡ sameList s (release (graphIn n edges hidden))

@@ -1,3 +1,4 @@
+pub mod Numbers
 pub mod Release
 pub mod Fill
 pub mod FillLaws

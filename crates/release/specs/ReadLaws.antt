@@ -1,7 +1,7 @@
 -- Reading a release back, and asking it, are the model's calls.
 use mathlib.Core.Path.{_≡_, refl, sym, ap, ap₂, subst, _∙_}
 use mathlib.Core.Bool.{Bool, true, false, cond, not, _&&_}
-use mathlib.Core.List.{List}
+use mathlib.Core.List.{List, [], _∷_}
 use mathlib.Core.Logic.{_≢_, _⊎_, inl, inr}
 use Prim.Native.Nat.{ℕ, _*_, _≤_, _<_}
 use native.Mathlib.Omega.{arith}
@@ -14,21 +14,36 @@ use Rattle.model.specs.Graph.{Graph, rowWords, maxNodes}
 use Rattle.model.specs.Tables.{Tables, tablesOf, edgeBit}
 use Rattle.model.specs.Refusals.{firstOf, lengths, wrongSize}
 use Rattle.model.specs.Release.{isVisible}
-use Rattle.model.specs.Reading.{decode}
+use Rattle.model.specs.Reading.{decode, isRelease}
 use Rattle.model.specs.Queries.{neighbours}
-use Rattle.model.specs.Calls.{readReasons, readCall, listRefused, fileNeighboursReasons, fileNeighboursCall, onto}
+use Rattle.model.specs.Calls.{openRefused, readReasons, readCall, listRefused, fileNeighboursReasons, fileNeighboursCall, onto}
 use Rattle.model.specs.TestLaws.{decide}
+use Rattle.model.specs.RefusalLaws.{first-none}
 use Rattle.model.specs.ListLaws.{filter-cong, nodes-out}
-use Rattle.layout.specs.Scan.{scan}
-use Rattle.layout.specs.WroteLaws.{sets-onto}
+use Rattle.buffers.specs.Scan.{scan}
+use Rattle.buffers.specs.WroteLaws.{sets-onto}
 use Rattle.reader.specs.declared.Decoded.{Decoded}
 use Rattle.reader.specs.declared.Decoded.the-variants as answer
 use Rattle.reader.specs.Decoding.{graphIn, HoldsGraph}
 use Rattle.index.specs.Index.{opened, listed}
 use Rattle.index.specs.IndexLaws.{call-refused, call-done}
 use Rattle.queries.specs.QueryLaws.{scan-nodes}
+use Rattle.release.specs.Numbers.{askedNumber, readNumber}
 use Rattle.release.specs.Release.{Judged, rowTold}
 use Rattle.release.specs.ReleaseLaws.{take-bit}
+
+-- what a number tells of the file
+no-first : (b : Bool) → firstOf ((not b, 19) ∷ []) ≡ 19 → b ≡ false
+unfolding firstOf
+no-first true z = absurd (omega arith)
+no-first false z = refl
+
+module _ {s edges hidden : List ℕ} {r : Decoded} (j : Judged s edges hidden r) where
+  passed : (m : ℕ) → r ≡ answer.Graph m → isRelease s ≡ true
+  passed m z = not-false _ (first-none (not (isRelease s)) 19 [] refl (sym (j .asked) ∙ ap askedNumber z ∙ unfold askedNumber in refl) .0)
+
+  failed : r ≡ answer.NoRelease → isRelease s ≡ false
+  failed z = no-first (isRelease s) (sym (j .asked) ∙ ap askedNumber z ∙ unfold askedNumber in refl)
 
 -- read
 module _ (n : ℕ) (t : Tables) (s : List ℕ) (f : Bool) (e : f ≡ not (wrongSize n (lengths t))) where
@@ -40,27 +55,33 @@ module _ (n : ℕ) (t : Tables) (s : List ℕ) (f : Bool) (e : f ≡ not (wrongS
     right : wrongSize n (lengths t) ≡ false
     right = not-true (wrongSize n (lengths t)) (sym e ∙ fits)
 
+    -- refused by the number of its case
+    read-refused : (k : ℕ) → readNumber n r ≡ k → k ≢ 0 → opened k t ≡ readCall n t s
+    unfolding readCall
+    read-refused k z d = call-refused (readReasons n t s) (openRefused t) _ k (first ∙ sym (j .read n) ∙ z) d
+      where
+        first : firstOf (readReasons n t s) ≡ firstOf ((not (isRelease s), 19) ∷ (not (eqb (decode s .nodeCount) n), 20) ∷ [])
+        first = unfold readReasons firstOf in rw right
+
     pub read-none : r ≡ answer.NoRelease → opened 19 t ≡ readCall n t s
-    unfolding readCall readReasons firstOf
-    read-none z = rw (right, j .none z)
+    read-none z = read-refused 19 (ap (readNumber n) z ∙ unfold readNumber in refl) (omega arith)
 
     -- the number of nodes that the file is for
     count : (m : ℕ) → r ≡ answer.Graph m → decode s .nodeCount ≡ m
     count m z = sym (ap (λ (g : Graph). g .nodeCount) (j .graph m z)) ∙ unfold graphIn in refl
 
     pub read-other : (m : ℕ) → r ≡ answer.Graph m → m ≢ n → opened 20 t ≡ readCall n t s
-    unfolding readCall readReasons firstOf
-    read-other m z d = rw (right, j .is m z, ne-eqb (decode s .nodeCount) n (λ q. d (sym (count m z) ∙ q)))
+    read-other m z d = read-refused 20 (ap (readNumber n) z ∙ unfold readNumber in rw (ne-eqb m n d)) (omega arith)
 
     pub read-done : (m : ℕ) → r ≡ answer.Graph m → m ≡ n → {t₁ : Tables} → t₁ ≡ tablesOf (graphIn n edges hidden) → opened 0 t₁ ≡ readCall n t s
     unfolding readCall readReasons firstOf
-    read-done m z d w = rw (right, j .is m z, eq-eqb (decode s .nodeCount) n (count m z ∙ d)) (ap (opened 0) (w ∙ ap tablesOf (ap (λ (k : ℕ). graphIn k edges hidden) (sym d) ∙ j .graph m z)))
+    read-done m z d w = rw (right, passed j m z, eq-eqb (decode s .nodeCount) n (count m z ∙ d)) (ap (opened 0) (w ∙ ap tablesOf (ap (λ (k : ℕ). graphIn k edges hidden) (sym d) ∙ j .graph m z)))
 
 -- neighbours asked of a file
 module _ (s : List ℕ) (p : ℕ) (out : List ℕ) {edges hidden : List ℕ} {r : Decoded} (j : Judged s edges hidden r) where
   pub ask-none : r ≡ answer.NoRelease → listed 19 0 out ≡ fileNeighboursCall s p out
   unfolding fileNeighboursCall fileNeighboursReasons firstOf
-  ask-none z = rw (j .none z)
+  ask-none z = rw (failed j z)
 
   module _ (n : ℕ) (z : r ≡ answer.Graph n) where
     seen : isVisible (decode s) p ≡ (ltb p n && not (ltb p n && eqb (getD hidden p 0) 1))
@@ -68,11 +89,11 @@ module _ (s : List ℕ) (p : ℕ) (out : List ℕ) {edges hidden : List ℕ} {r 
 
     pub ask-outside : n ≤ p → listed 14 0 out ≡ fileNeighboursCall s p out
     unfolding fileNeighboursCall fileNeighboursReasons firstOf
-    ask-outside h = rw (j .is n z, seen, le-ltb p n h)
+    ask-outside h = rw (passed j n z, seen, le-ltb p n h)
 
     pub ask-hidden : p < n → getD hidden p 0 ≡ 1 → listed 14 0 out ≡ fileNeighboursCall s p out
     unfolding fileNeighboursCall fileNeighboursReasons firstOf
-    ask-hidden h k = rw (j .is n z, seen, lt-ltb p n h, eq-eqb (getD hidden p 0) 1 k)
+    ask-hidden h k = rw (passed j n z, seen, lt-ltb p n h, eq-eqb (getD hidden p 0) 1 k)
 
     pub ask-row : p < n → getD hidden p 0 ≢ 1 → rowTold edges n p out ≡ fileNeighboursCall s p out
     unfolding rowTold
@@ -88,7 +109,7 @@ module _ (s : List ℕ) (p : ℕ) (out : List ℕ) {edges hidden : List ℕ} {r 
         shown = seen ∙ rw (lt-ltb p n h, ne-eqb (getD hidden p 0) 1 v)
 
         first : firstOf (fileNeighboursReasons s p out) ≡ cond (ltb (length out) (length (neighbours (decode s) p))) 18 0
-        first = unfold fileNeighboursReasons firstOf in rw (j .is n z, shown)
+        first = unfold fileNeighboursReasons firstOf in rw (passed j n z, shown)
 
         step : (ltb (length out) (length (neighbours (decode s) p)) ≡ true) ⊎ (ltb (length out) (length (neighbours (decode s) p)) ≡ false)
             → cond (ltb (length out) (length (neighbours (decode s) p))) (listRefused out 18) (record { result = 0; count = length (neighbours (decode s) p); out = onto (neighbours (decode s) p) out }) ≡ fileNeighboursCall s p out

@@ -14,26 +14,28 @@ use Rattle.model.specs.Graph.{Graph, maxNodes, rowWords}
 use Rattle.model.specs.Lists.{sameList}
 use Rattle.model.specs.Tables.{Tables, graphOf, edgeBit, bitAt, nodeNumber, holds}
 use Rattle.model.specs.Refusals.{Reasons, firstOf}
-use Rattle.model.specs.Release.{release, isVisible, visibleEdge}
-use Rattle.model.specs.Reading.{isRelease, u16At}
+use Rattle.model.specs.Release.{isVisible, release, visible, visibleEdge}
+use Rattle.model.specs.Reading.{isRelease, u16At, decode}
 use Rattle.model.specs.Calls.{released, releaseReasons, releaseRefused, releaseCall}
 use Rattle.model.specs.TestLaws.{decide}
 use Rattle.reader.specs.declared.Decoded.{Decoded}
 use Rattle.reader.specs.declared.Decoded.the-variants as answer
 use Rattle.reader.specs.Decoding.{accepted, graphIn, HoldsGraph, Decodes, placed, toldGroups}
 use Rattle.reader.specs.HeldLaws.{answer-accepts, decodes-simple, refused-is-none, release-read, release-compared}
-use Rattle.index.specs.Index.{tableReasons}
-use Rattle.index.specs.IndexLaws.{table-refused, table-rest, call-refused, call-done}
-use Rattle.index.specs.Update.{Held}
-use Rattle.index.specs.UpdateLaws.{held-sized}
+use Rattle.tables.specs.Lent.{tableReasons}
+use Rattle.index.specs.IndexLaws.{call-refused, call-done}
+use Rattle.tables.specs.LentLaws.{table-refused, table-rest}
+use Rattle.tables.specs.Lent.{Held}
+use Rattle.tables.specs.LentLaws.{held-sized}
 use Rattle.rows.specs.Rows.{Words}
-use Rattle.rows.specs.Search.{edgesIn}
-use Rattle.visible.specs.Visible.{Apart, Drawn, markedGraph, shown}
+use Rattle.search.specs.Search.{edgesIn}
+use Rattle.masking.specs.Masking.{Apart, Drawn, markedGraph, shown}
 use Rattle.layout.specs.File.{Partition, fileOf, inGroup, writtenFile}
 use Rattle.layout.specs.Truth.{Truth}
 use Rattle.layout.specs.TruthLaws.{truth-partition, visible-in, written-is, file-is}
 use Rattle.compare.specs.Told.{Told}
 use Rattle.model.specs.ReadBackLaws.{visible-inside}
+use Rattle.release.specs.Numbers.{askedNumber, readNumber}
 use Rattle.release.specs.Release.{told, DecodedAs, Marks, Judged}
 use Rattle.release.specs.Fill.{Copied, MarksTaken}
 use Rattle.release.specs.TableLaws.{filled-within}
@@ -68,13 +70,30 @@ module _ (n : ℕ) (t : Tables) (out : List ℕ) (r : ℕ) (e : r ≡ firstOf (t
       step (inl x) = rw x (call-refused (releaseReasons n t out) (releaseRefused out) (released (graphOf n t) out) 18 (first ∙ unfold firstOf in rw x) (omega arith))
       step (inr x) = rw x (call-done (releaseReasons n t out) (releaseRefused out) (released (graphOf n t) out) (first ∙ unfold firstOf in rw x))
 
+-- the numbers of what is no release, and of the release of a graph of n nodes
+no-release-asked : (s : List ℕ) → isRelease s ≡ false → askedNumber answer.NoRelease ≡ firstOf ((not (isRelease s), 19) ∷ [])
+unfolding askedNumber firstOf
+no-release-asked s z = rw z
+
+no-release-read : (s : List ℕ) → isRelease s ≡ false → (n : ℕ) → readNumber n answer.NoRelease ≡ firstOf ((not (isRelease s), 19) ∷ (not (eqb (decode s .nodeCount) n), 20) ∷ [])
+unfolding readNumber firstOf
+no-release-read s z n = rw z
+
+release-number : (s : List ℕ) (n : ℕ) → isRelease s ≡ true → decode s .nodeCount ≡ n → (m : ℕ) → readNumber m (answer.Graph n) ≡ firstOf ((not (isRelease s), 19) ∷ (not (eqb (decode s .nodeCount) m), 20) ∷ [])
+unfolding readNumber firstOf
+release-number s n t count m = rw (t, count) (step (eqb n m))
+  where
+    step : (b : Bool) → _≡_ {A = ℕ} (cond b 0 20) (cond (not b) 20 0)
+    step true = refl
+    step false = refl
+
 -- a file is judged by what it is decoded as, released again and compared
 pub judged-none : (s edges hidden : List ℕ) {r : Decoded} → Decodes s edges hidden r → r ≡ answer.NoRelease → Judged s edges hidden answer.NoRelease
 judged-none s edges hidden {r} d e = record {
   rows = d .rows;
   size = d .size;
-  none = λ z. refused-is-none s edges hidden (rw e at d);
-  is = λ n z. never n z;
+  asked = no-release-asked s (refused-is-none s edges hidden (rw e at d));
+  read = no-release-read s (refused-is-none s edges hidden (rw e at d));
   graph = λ n z. never n z;
   holds = λ n z. never n z;
 }
@@ -93,8 +112,8 @@ module _ (s edges hidden : List ℕ) (n : ℕ) {r : Decoded} (d₀ : Decodes s e
   judged-other z = record {
     rows = d .rows;
     size = d .size;
-    none = λ w. release-compared s edges hidden n d ∙ sym c ∙ z;
-    is = λ m w. never m w;
+    asked = no-release-asked s (release-compared s edges hidden n d ∙ sym c ∙ z);
+    read = no-release-read s (release-compared s edges hidden n d ∙ sym c ∙ z);
     graph = λ m w. never m w;
     holds = λ m w. never m w;
   }
@@ -106,17 +125,14 @@ module _ (s edges hidden : List ℕ) (n : ℕ) {r : Decoded} (d₀ : Decodes s e
   judged-release z = record {
     rows = d .rows;
     size = d .size;
-    none = λ w. never w;
-    is = λ m w. yes′;
+    asked = unfold askedNumber firstOf in rw yes′;
+    read = release-number s n yes′ (sym (ap (λ (g : Graph). g .nodeCount) (release-read s edges hidden n d yes′)) ∙ unfold graphIn in refl);
     graph = λ m w. let q : n ≡ m = cc in ap (λ (k : ℕ). graphIn k edges hidden) (sym q) ∙ release-read s edges hidden n d yes′;
     holds = λ m w. decodes-simple s edges hidden (answer.Graph n) m d w;
   }
     where
       yes′ : isRelease s ≡ true
       yes′ = release-compared s edges hidden n d ∙ sym c ∙ z
-
-      never : {X : Type 0} → answer.Graph n ≡ answer.NoRelease → X
-      never z = let w : _≡_ {A = ℕ} 0 1 = cc in absurd (omega arith)
 
 -- the two names of the graph of edges and marks
 pub marked-in : (n : ℕ) (edges hidden : List ℕ) → markedGraph n edges hidden ≡ graphIn n edges hidden
@@ -140,10 +156,10 @@ truth-whole n {edges} hidden {lst} {masked} l t = record {
     below : (p : ℕ) → isVisible (markedGraph n edges hidden) p ≡ true → p < n
     below p x = unfold markedGraph in visible-inside (markedGraph n edges hidden) p x
 
-    bit : (p q : ℕ) → isVisible (markedGraph n edges hidden) p ≡ true → isVisible (markedGraph n edges hidden) q ≡ true → edgeBit edges p q ≡ visibleEdge (markedGraph n edges hidden) p q
+    bit : (p q : ℕ) → isVisible (markedGraph n edges hidden) p ≡ true → isVisible (markedGraph n edges hidden) q ≡ true → edgeBit edges p q ≡ visible (markedGraph n edges hidden) .edge p q
     bit p q x y = sym (shown p q x y ∙ inside p q x y)
       where
-        shown : (p q : ℕ) → isVisible (markedGraph n edges hidden) p ≡ true → isVisible (markedGraph n edges hidden) q ≡ true → visibleEdge (markedGraph n edges hidden) p q ≡ markedGraph n edges hidden .edge p q
+        shown : (p q : ℕ) → isVisible (markedGraph n edges hidden) p ≡ true → isVisible (markedGraph n edges hidden) q ≡ true → visible (markedGraph n edges hidden) .edge p q ≡ markedGraph n edges hidden .edge p q
         shown p q x y = unfold visibleEdge in rw (x, y)
 
         inside : (p q : ℕ) → isVisible (markedGraph n edges hidden) p ≡ true → isVisible (markedGraph n edges hidden) q ≡ true → markedGraph n edges hidden .edge p q ≡ edgeBit edges p q
@@ -258,3 +274,7 @@ module _ (n : ℕ) {edges hidden : List ℕ} (h : HoldsGraph n edges hidden) (l 
       where
         shown : (p : ℕ) → p < n → inGroup lst n p ≡ isVisible (markedGraph n (take (rowWords * n) edges) hidden) p
         shown p x = unfold markedGraph in visible-in (markedGraph n (take (rowWords * n) edges) hidden) lst (take (rowWords * n) edges) t p x
+
+-- a prefix that is lent has its length
+pub prefix-length : (k : ℕ) (s : List ℕ) → k ≤ length s → k ≡ length (take k s)
+prefix-length k s h = sym (length-take-le k s h)

@@ -12,13 +12,13 @@ use Rattle.model.specs.Graph.{Graph, Proper, maxNodes, rowWords, nodeNumbers}
 use Rattle.model.specs.Tables.{Tables, tablesOf, edgesOf, rowOf, nodesOf, keysOf, keyPair, edgeBit, bitAt}
 use Rattle.model.specs.TestLaws.{decide, differ}
 use Rattle.rows.specs.Rows.{lent, Words}
-use Rattle.rows.specs.Search.{edgesIn, graphIn as rowsGraph}
+use Rattle.search.specs.Search.{Within, edgesIn, graphIn as rowsGraph}
 use Rattle.rows.specs.EdgeLaws.{edges-by-bits}
-use Rattle.rows.specs.SearchLaws.{edges-in}
+use Rattle.search.specs.SearchLaws.{edges-in}
 use Rattle.rings.specs.Steps.{Built, Grouped, Leading}
 use Rattle.rings.specs.BuildLaws.{grouped-leading}
 use Rattle.rings.specs.NodesLaws.{mark-read}
-use Rattle.visible.specs.Visible.{LeastTold, Within}
+use Rattle.keys.specs.KeySums.{LeastTold}
 use Rattle.reader.specs.Decoding.{graphIn, HoldsGraph}
 use Rattle.release.specs.Fill.{Copied, MarksPut}
 

@@ -1,5 +1,5 @@
 -- Where no node is marked as hidden, the visible part is the whole graph.
-use mathlib.Core.Path.{_≡_, refl, _∙_, fun-ext}
+use mathlib.Core.Path.{_≡_, refl, ap, _∙_, fun-ext}
 use mathlib.Core.Bool.{Bool, true, false, _&&_, and-false}
 use mathlib.Core.List.{List, [], _∷_, List·Memᴰ·head, List·Memᴰ·tail}
 use mathlib.Core.Logic.{_⊎_, inl, inr}
@@ -9,14 +9,16 @@ use lib.Dec.{ltb}
 use lib.ListN.{length-replicate, getD-replicate, replicate}
 use borrow.Author.Tests.{lt-ltb, ltb-true}
 use Rattle.model.specs.Lists.{_∈_, filter, nodes}
-use Rattle.model.specs.Graph.{Graph, Proper}
+use Rattle.model.specs.Graph.{Graph, Proper, View, whole}
+use Rattle.model.specs.Grouping.{least, similar}
 use Rattle.model.specs.Release.{isVisible, visible, visibleEdge}
 use Rattle.model.specs.TestLaws.{and-fst, decide, differ}
 use Rattle.model.specs.ListLaws.{nodes-out}
 use Rattle.layout.specs.Truth.{Truth}
-use Rattle.rows.specs.Search.{edgesIn, graphIn}
-use Rattle.visible.specs.Visible.{Apart, LeastTold, Within, markedGraph, shown}
-use Rattle.visible.specs.MaskLaws.{visible-is}
+use Rattle.search.specs.Search.{Within, edgesIn, graphIn}
+use Rattle.masking.specs.Masking.{Apart, markedGraph, shown}
+use Rattle.keys.specs.KeySums.{LeastTold}
+use Rattle.masking.specs.MaskLaws.{visible-is}
 
 filter-whole : (f : ℕ → Bool) (l : List ℕ) → ((p : ℕ) → p ∈ l → f p ≡ true) → filter f l ≡ l
 unfolding filter
@@ -41,11 +43,11 @@ module _ (n : ℕ) (edges : List ℕ) (w : Within n edges) where
       step (inl x) = rw (x, all-shown p (ltb-true p n x)) refl
       step (inr x) = rw x refl
 
-  whole-nodes : visible (markedGraph n edges (replicate 512 0)) ≡ nodes n
-  unfolding visible markedGraph
+  whole-nodes : visible (markedGraph n edges (replicate 512 0)) .nodes ≡ nodes n
+  unfolding markedGraph
   whole-nodes = filter-whole (isVisible g) (nodes n) (λ p m. seen p ∙ lt-ltb p n (nodes-out n p m))
 
-  whole-edge : visibleEdge (markedGraph n edges (replicate 512 0)) ≡ edgesIn n edges
+  whole-edge : visible (markedGraph n edges (replicate 512 0)) .edge ≡ edgesIn n edges
   unfolding visibleEdge
   whole-edge = fun-ext (λ p. fun-ext (λ q. rw (seen p, seen q) (unfold markedGraph edgesIn in twice (ltb p n) (ltb q n) _)))
     where
@@ -53,6 +55,9 @@ module _ (n : ℕ) (edges : List ℕ) (w : Within n edges) where
       twice true true c = refl
       twice true false c = refl
       twice false b c = refl
+
+  whole-view : visible (markedGraph n edges (replicate 512 0)) ≡ whole (graphIn n edges)
+  whole-view = λ i. record { nodes = whole-nodes i; edge = whole-edge i }
 
   pub whole-apart : Proper (graphIn n edges) → Apart n edges (replicate 512 0)
   whole-apart p = record {
@@ -67,4 +72,4 @@ module _ (n : ℕ) (edges : List ℕ) (w : Within n edges) where
       none a b h (inr x) = unfold edgesIn in rw x (and-false (ltb a n))
 
   pub whole-least : {lst : List ℕ} → Truth (markedGraph n edges (replicate 512 0)) lst edges → LeastTold n edges lst
-  whole-least {lst} t = record { size = unfold markedGraph in t .size; told = λ p h. t .visible-least p (seen p ∙ lt-ltb p n h) ∙ rw (whole-nodes, whole-edge) refl }
+  whole-least {lst} t = record { size = unfold markedGraph in t .size; told = λ p h. t .visible-least p (seen p ∙ lt-ltb p n h) ∙ ap (λ (v : View). least (v .nodes) (similar v) p) whole-view }

@@ -20,7 +20,7 @@ fn is_same(file: &[u8], edges: &[u64], hidden: &[u16], n: usize) -> bool
     let rows = &edges[..end];
     let mut least = [NONE; Graph::NODES];
     compare::told_least(file, n, &mut least);
-    if !visible::are_groups(rows, hidden, n, &least) {
+    if !grouping::are_groups(rows, hidden, n, &least) {
         return false;
     }
     compare::same_file(n, &least, rows, file)

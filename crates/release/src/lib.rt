@@ -1,16 +1,16 @@
 // Releases: written, read back, asked. Each call is the model's (Calls) on every input.
 ghost use mathlib.Core.Path.{_≡_};
 ghost use lib.ListN.{length};
-ghost use Prim.Native.Nat.{_≤_};
+ghost use Prim.Native.Nat.{_*_, _≤_};
+ghost use Rattle.model.specs.Graph.{rowWords};
 ghost use Rattle.model.specs.Tables.{graphOf};
-ghost use Rattle.model.specs.Release.{release};
 ghost use Rattle.model.specs.Calls.{fileNeighboursCall, readCall, releaseCall};
 ghost use Rattle.rows.specs.Rows.{lent};
-ghost use Rattle.visible.specs.Visible.{Drawn, markedGraph};
+ghost use Rattle.masking.specs.Masking.{Drawn, markedGraph};
 ghost use Rattle.layout.specs.Truth.{Truth};
 ghost use Rattle.writer.specs.Written.{answer};
 ghost use Rattle.index.specs.Index.{listed, opened};
-ghost use Rattle.index.specs.Update.{Held};
+ghost use Rattle.tables.specs.Lent.{Held};
 ghost use Rattle.release.specs.Release.{told};
 use index::Listed;
 use reader::Decoded;
@@ -22,6 +22,15 @@ mod copies;
 mod judging;
 mod reading;
 
+// The edges between visible nodes, and the least members of their groups: what the release writer needs.
+fn summarise(edges: &[u64], hidden: &[u16], n: usize, masked: &mut [u64], least: &mut [u16])
+    requires { ⌜ Drawn n (now edges) (now hidden) × (length (now masked) ≡ rowWords * n) × (n ≤ length (now least)) ⌝ }
+    ensures { λ _. ⌜ Truth (markedGraph n (now (edges .entry)) (now (hidden .entry))) (now (least .exit)) (now (masked .exit)) ⌝ }
+{
+    masking::mask_edges(edges, hidden, n, masked);
+    grouping::find_groups(masked, hidden, n, least);
+}
+
 // The least members of the groups of the visible nodes.
 fn least_members(edges: &[u64], hidden: &[u16], n: usize, least: &mut [u16])
     requires { ⌜ Drawn n (now edges) (now hidden) × (n ≤ length (now least)) ⌝ }
@@ -29,7 +38,7 @@ fn least_members(edges: &[u64], hidden: &[u16], n: usize, least: &mut [u16])
 {
     let mut masked = [0u64; Graph::NODES * Graph::ROW_WORDS];
     let end = Graph::ROW_WORDS * n;
-    visible::summarise(edges, hidden, n, &mut masked[..end], least);
+    summarise(edges, hidden, n, &mut masked[..end], least);
 }
 
 // The release of the graph that tables hold, or 18.
@@ -48,7 +57,7 @@ fn write_visible(n: usize, edges: &[u64], nodes: &[u16], keys: &[u32], out: &mut
 pub fn release(n: usize, edges: &[u64], nodes: &[u16], keys: &[u32], out: &mut [u8]) -> Written
     ensures { λ r. ⌜ answer r (now (out .exit)) ≡ releaseCall n (lent (now (edges .entry)) (now (nodes .entry)) (now (keys .entry))) (now (out .entry)) ⌝ }
 {
-    let number = index::table_refusal(n, edges, nodes, keys);
+    let number = tables::refusal(n, edges, nodes, keys);
     if number != 0 {
         return Written {
             result: number,
@@ -65,7 +74,7 @@ pub fn release(n: usize, edges: &[u64], nodes: &[u16], keys: &[u32], out: &mut [
 pub fn read(n: usize, edges: &mut [u64], nodes: &mut [u16], keys: &mut [u32], file: &[u8]) -> u16
     ensures { λ r. ⌜ opened r (lent (now (edges .exit)) (now (nodes .exit)) (now (keys .exit))) ≡ readCall n (lent (now (edges .entry)) (now (nodes .entry)) (now (keys .entry))) (now (file .entry)) ⌝ }
 {
-    if !index::right_size(n, edges, nodes, keys) {
+    if !tables::right_size(n, edges, nodes, keys) {
         return 11;
     }
     let mut drawn = [0u64; Graph::NODES * Graph::ROW_WORDS];

@@ -5,10 +5,10 @@ ghost use lib.ListN.{length};
 ghost use Rattle.model.specs.Graph.{Proper};
 ghost use Rattle.model.specs.Tables.{tablesOf};
 ghost use Rattle.rows.specs.Rows.{lent};
-ghost use Rattle.rows.specs.Search.{graphIn as rowsGraph};
-ghost use Rattle.visible.specs.Visible.{LeastTold, Within};
+ghost use Rattle.search.specs.Search.{Within, graphIn as rowsGraph};
+ghost use Rattle.keys.specs.KeySums.{LeastTold};
 ghost use Rattle.reader.specs.Decoding.{HoldsGraph, graphIn};
-ghost use Rattle.index.specs.Index.{Sized};
+ghost use Rattle.tables.specs.Lent.{Sized};
 use crate::copies;
 use rows::Graph;
 
@@ -18,7 +18,7 @@ fn group_all(edges: &[u64], n: usize, least: &mut [u16])
     ensures { λ _. ⌜ LeastTold n (now (edges .entry)) (now (least .exit)) ⌝ }
 {
     let marks = [0u16; Graph::NODES];
-    visible::find_groups(edges, &marks, n, least);
+    grouping::find_groups(edges, &marks, n, least);
 }
 
 // The tables of the graph that stands in arrays.
@@ -37,6 +37,6 @@ pub fn fill(
     copies::put_marks(hidden, n, nodes);
     let mut least = [0u16; Graph::NODES];
     group_all(edges, n, &mut least);
-    visible::sum_keys(edges, &least, keys, n);
+    keys::sum_keys(edges, &least, keys, n);
     groups::build(nodes, &least, n);
 }

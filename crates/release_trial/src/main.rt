@@ -22,7 +22,7 @@ fn change(command: u8, text: &[u8], line: &[u64; 7], file: &mut [u8], length: us
 // Lines that echo, set sizes or change the file.
 fn prepare(command: u8, text: &[u8], line: &[u64; 7], set: &mut [u64; 5], file: &mut [u8]) {
     script::echo(command, text);
-    sizes::obey(command, line, set);
+    sizes::execute(command, line, set);
     let length = within(set[sizes::OWN], file.len());
     set[sizes::OWN] = change(command, text, line, file, length) as u64;
 }
@@ -83,7 +83,7 @@ fn lend(
 }
 
 // One line.
-fn obey(
+fn execute(
     text: &[u8],
     set: &mut [u64; 5],
     edges: &mut [u64],
@@ -112,7 +112,7 @@ fn run(
     let mut at = 0;
     while at < text.len() {
         let end = script::line_end(text, at);
-        obey(&text[at..end], set, edges, nodes, keys, file);
+        execute(&text[at..end], set, edges, nodes, keys, file);
         at = end;
     }
 }

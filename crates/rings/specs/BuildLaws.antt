@@ -6,13 +6,12 @@ use Prim.Native.Nat.{ℕ, _+_, _*_, _≤_, _<_}
 use native.Mathlib.Omega.{arith}
 use native.Mathlib.Decide.{ℕ-discrete}
 use lib.ListN.{length, getD}
-use Rattle.model.specs.Lists.{nodes}
-use Rattle.model.specs.Graph.{Graph, nodeNumbers}
+use Rattle.model.specs.Graph.{Graph, nodeNumbers, whole}
 use Rattle.model.specs.Grouping.{similar}
 use Rattle.model.specs.Tables.{nodeNumber, nodesOf}
 use Rattle.model.specs.TableLaws.{least-at}
 use Rattle.rings.specs.Ring.{Of, Parts}
-use Rattle.rings.specs.Steps.{Built, Follows, Grouped, Kept, Leading, Linked, Rings, Stored}
+use Rattle.rings.specs.Steps.{Built, Follows, Grouped, MarksKept, Leading, Linked, Rings, Stored}
 use Rattle.rings.specs.StoreLaws.{at, off, beside, size}
 use Rattle.rings.specs.NodesLaws.{graph-parts, is-nodes, of-nodes}
 use Rattle.rings.specs.CertificateLaws.{Led, certified, led}
@@ -20,15 +19,15 @@ use Rattle.rings.specs.CertificateLaws.{Led, certified, led}
 pub rings-none : (lst t : List ℕ) → Rings 0 lst t
 rings-none lst t = record { least = λ p h. absurd (omega arith); follows = λ p h. absurd (omega arith) }
 
-pub kept-none : (t : List ℕ) → Kept t t
+pub kept-none : (t : List ℕ) → MarksKept t t
 kept-none t = record { marks = λ p. refl; size = refl }
 
-pub kept-more : {t t₁ t₂ : List ℕ} → Kept t t₁ → Kept t₁ t₂ → Kept t t₂
+pub kept-more : {t t₁ t₂ : List ℕ} → MarksKept t t₁ → MarksKept t₁ t₂ → MarksKept t t₂
 kept-more a b = record { marks = λ p. b .marks p ∙ a .marks p; size = b .size ∙ a .size }
 
 -- p follows a
 by-previous : {n p : ℕ} (a : ℕ) {t : List ℕ} → nodeNumber t p 2 ≡ a → a < n → nodeNumber t a 0 ≡ nodeNumber t p 0 → nodeNumber t a 1 ≡ p → (nodeNumber t p 0 ≡ p) ⊎ (a < p) → Follows n t p
-by-previous {n} {p} a {t} e h f g o = record { below = rw e h; fellow = rw e f; next = rw e g; order = rw e o }
+by-previous {n} {p} a {t} e h f g o = record { below = rw e h; same-least = rw e f; next = rw e g; order = rw e o }
 
 -- node i is put at the end of the ring of l
 module _ {n i l : ℕ} {lst t t₁ : List ℕ} (k : Leading n lst) (s : length t ≡ nodeNumbers * n) (h : i < n) (r : Rings i lst t) (el : l ≡ getD lst i 0) (e : Stored i 0 l t t₁) where
@@ -36,7 +35,7 @@ module _ {n i l : ℕ} {lst t t₁ : List ℕ} (k : Leading n lst) (s : length t
   end-before d = omega (arith, k .low i h)
 
   -- it leads the ring
-  pub leader-put : {t₂ : List ℕ} → l ≡ i → Linked i i t₁ t₂ → Rings (i + 1) lst t₂ × Kept t t₂
+  pub leader-put : {t₂ : List ℕ} → l ≡ i → Linked i i t₁ t₂ → Rings (i + 1) lst t₂ × MarksKept t t₂
   leader-put {t₂} d f = (record { least = λ p hp. least p hp (ℕ-discrete p i); follows = λ p hp. follows p hp (ℕ-discrete p i) }, record { marks = λ p. f .rest p 3 (omega arith) (omega arith) ∙ beside e p 3 (omega arith) (omega arith) (omega arith); size = f .size ∙ size e })
     where
       here : nodeNumber t₂ i 0 ≡ l
@@ -56,7 +55,7 @@ module _ {n i l : ℕ} {lst t t₁ : List ℕ} (k : Leading n lst) (s : length t
           let b = w .below in
           by-previous (nodeNumber t p 2)
           (f .prev-off p j ∙ beside e p 2 (omega arith) (omega arith) (omega arith)) (omega arith)
-          (old (nodeNumber t p 2) (omega arith) ∙ w .fellow ∙ sym (old p j))
+          (old (nodeNumber t p 2) (omega arith) ∙ w .same-least ∙ sym (old p j))
           (f .next-off (nodeNumber t p 2) (omega arith) ∙ beside e (nodeNumber t p 2) 1 (omega arith) (omega arith) (omega arith) ∙ w .next)
           (subst (λ x. (x ≡ p) ⊎ (nodeNumber t p 2 < p)) (sym (old p j)) (w .order))
 
@@ -77,7 +76,7 @@ module _ {n i l : ℕ} {lst t t₁ : List ℕ} (k : Leading n lst) (s : length t
     leads : nodeNumber t l 0 ≡ l
     leads = r .least l hl ∙ ap (λ (x : ℕ). getD lst x 0) el ∙ k .leads i h ∙ sym el
 
-    pub member-put : {t₂ t₃ : List ℕ} → Linked a i t₁ t₂ → Linked i l t₂ t₃ → Rings (i + 1) lst t₃ × Kept t t₃
+    pub member-put : {t₂ t₃ : List ℕ} → Linked a i t₁ t₂ → Linked i l t₂ t₃ → Rings (i + 1) lst t₃ × MarksKept t t₃
     member-put {t₂} {t₃} f g = (
       record { least = λ p hp. least p hp (ℕ-discrete p i); follows = λ p hp. follows p hp (ℕ-discrete p i) (ℕ-discrete p l) },
       record { marks = λ p. g .rest p 3 (omega arith) (omega arith) ∙ f .rest p 3 (omega arith) (omega arith) ∙ beside e p 3 (omega arith) (omega arith) (omega arith); size = g .size ∙ f .size ∙ size e },
@@ -93,7 +92,7 @@ module _ {n i l : ℕ} {lst t t₁ : List ℕ} (k : Leading n lst) (s : length t
         old p ne = g .least p ∙ f .least p ∙ off e p 0 (omega arith) (omega arith) ne
 
         last-leads : nodeNumber t a 0 ≡ l
-        last-leads = rw is-last at (last .fellow) ∙ leads
+        last-leads = rw is-last at (last .same-least) ∙ leads
 
         last-next : nodeNumber t a 1 ≡ l
         last-next = rw is-last at (last .next)
@@ -111,7 +110,7 @@ module _ {n i l : ℕ} {lst t t₁ : List ℕ} (k : Leading n lst) (s : length t
             let c : nodeNumber t p 2 ≢ a = λ x. y (sym (w .next) ∙ ap (λ (z : ℕ). nodeNumber t z 1) x ∙ last-next) in
             by-previous (nodeNumber t p 2)
             (g .prev-off p y ∙ f .prev-off p j ∙ beside e p 2 (omega arith) (omega arith) (omega arith)) (omega arith)
-            (old (nodeNumber t p 2) (omega arith) ∙ w .fellow ∙ sym (old p j))
+            (old (nodeNumber t p 2) (omega arith) ∙ w .same-least ∙ sym (old p j))
             (g .next-off (nodeNumber t p 2) (omega arith) ∙ f .next-off (nodeNumber t p 2) c ∙ beside e (nodeNumber t p 2) 1 (omega arith) (omega arith) (omega arith) ∙ w .next)
             (subst (λ x. (x ≡ p) ⊎ (nodeNumber t p 2 < p)) (sym (old p j)) (w .order))
 
@@ -127,12 +126,12 @@ led-same {n} {R} t {t′} k a s = record {
 -- lst has the least members of the groups, so the table is the model's
 module _ {g : Graph} {lst t : List ℕ} (a : Grouped g lst t) where
   abbrev R : ℕ → ℕ → Type 0
-  R = Of (g .nodeCount) (similar (nodes (g .nodeCount)) (g .edge))
+  R = Of (g .nodeCount) (similar (whole g))
 
-  parts : Parts (g .nodeCount) (Of (g .nodeCount) (similar (nodes (g .nodeCount)) (g .edge)))
+  parts : Parts (g .nodeCount) (Of (g .nodeCount) (similar (whole g)))
   parts = graph-parts g (a .proper)
 
-  model : Led (g .nodeCount) (Of (g .nodeCount) (similar (nodes (g .nodeCount)) (g .edge))) (nodesOf g)
+  model : Led (g .nodeCount) (Of (g .nodeCount) (similar (whole g))) (nodesOf g)
   model = led parts (nodesOf g) (of-nodes g (a .proper))
 
   is-least : (p : ℕ) → p < g .nodeCount → getD lst p 0 ≡ nodeNumber (nodesOf g) p 0
@@ -145,12 +144,12 @@ module _ {g : Graph} {lst t : List ℕ} (a : Grouped g lst t) where
     leads = λ p hp. rw (is-least p hp) (is-least (nodeNumber (nodesOf g) p 0) (omega (arith, model .low p hp)) ∙ model .leads p hp);
   }
 
-  pub grouped-nodes : {t′ : List ℕ} → Rings (g .nodeCount) lst t′ → Kept t t′ → t′ ≡ nodesOf g
+  pub grouped-nodes : {t′ : List ℕ} → Rings (g .nodeCount) lst t′ → MarksKept t t′ → t′ ≡ nodesOf g
   grouped-nodes {t′} r x =
       is-nodes g (a .proper)
       (certified parts t′ (led-same (nodesOf g) parts model (λ p hp. r .least p hp ∙ is-least p hp)) (r .follows))
       (x .size ∙ a .size)
       (λ p hp. x .marks p ∙ a .marks p hp)
 
-pub built : {n i : ℕ} {lst t t′ : List ℕ} → Rings i lst t′ → Kept t t′ → i ≡ n → Built n lst t t′
+pub built : {n i : ℕ} {lst t t′ : List ℕ} → Rings i lst t′ → MarksKept t t′ → i ≡ n → Built n lst t t′
 built {n} {i} {lst} {t} {t′} r x e = record { nodes = λ g c a. grouped-nodes a (subst (λ z. Rings z lst t′) (e ∙ sym c) r) x }

@@ -15,14 +15,14 @@ use Rattle.rings.specs.Ring.{up, Parts, Table}
 use Rattle.rings.specs.Steps.{Follows}
 use Rattle.rings.specs.RingLaws.{Way, inverse, over, round, up-circle, way}
 
--- every node's least member is a fellow that leads itself, and no two leaders are fellows
+-- every node's least member is in its class and leads itself, and no two leaders are of one class
 pub record Led (n : ℕ) (R : ℕ → ℕ → Type 0) (t : List ℕ) : Type 0 where
   pub low : (p : ℕ) → p < n → nodeNumber t p 0 ≤ p
   pub leads : (p : ℕ) → p < n → nodeNumber t (nodeNumber t p 0) 0 ≡ nodeNumber t p 0
   pub alike : (p : ℕ) → p < n → R p (nodeNumber t p 0)
   pub apart : (u q : ℕ) → q < u → nodeNumber t u 0 ≡ u → nodeNumber t q 0 ≡ q → R u q → ⊥
 
--- a is followed by a greater fellow, which is no greater than r
+-- a is followed by a greater member, which is no greater than r
 record Up (t : List ℕ) (a r : ℕ) : Type 0 where
   above : a < nodeNumber t a 1
   till : nodeNumber t a 1 ≤ r
@@ -56,8 +56,8 @@ module _ {n : ℕ} {R : ℕ → ℕ → Type 0} (k : Parts n R) (t : List ℕ) w
     inside : (p : ℕ) → p < n → nodeNumber t p 0 < n
     inside p hp = omega (arith, h .low p hp)
 
-    fellows : {p q : ℕ} → p < n → q < n → nodeNumber t p 0 ≡ nodeNumber t q 0 → R p q
-    fellows {p} {q} hp hq e = k .on (h .alike p hp) (k .back (subst (λ l. R q l) (sym e) (h .alike q hq)))
+    together : {p q : ℕ} → p < n → q < n → nodeNumber t p 0 ≡ nodeNumber t q 0 → R p q
+    together {p} {q} hp hq e = k .on (h .alike p hp) (k .back (subst (λ l. R q l) (sym e) (h .alike q hq)))
 
     mates : {p q : ℕ} → R p q → nodeNumber t p 0 ≡ nodeNumber t q 0
     mates {p} {q} x = step (order (least p) (least q))
@@ -77,7 +77,7 @@ module _ {n : ℕ} {R : ℕ → ℕ → Type 0} (k : Parts n R) (t : List ℕ) w
         step (more l) = absurd (h .apart (least p) (least q) l (h .leads p hp) (h .leads q hq) joined)
 
     module _ (f : (p : ℕ) → p < n → Follows n t p) where
-      -- so it is with every node that has a greater fellow
+      -- so it is with every node that has a greater member after it
       ups : (b a r : ℕ) → r < b → a < r → r < n → nodeNumber t a 0 ≡ nodeNumber t r 0 → Up t a r
       ups zero a r l g hr e = absurd (omega arith)
       ups (suc b) a r l g hr e = step (f r hr .order) (order a (prev r)) (ups b)
@@ -91,10 +91,10 @@ module _ {n : ℕ} {R : ℕ → ℕ → Type 0} (k : Parts n R) (t : List ℕ) w
               let s : next a ≡ r = ap next w ∙ f r hr .next in
               record { above = omega arith; till = omega arith; mate = ap least s ∙ sym e }
           step (inr z) (less w) below =
-              let u = below a (prev r) (omega arith) w (f r hr .below) (e ∙ sym (f r hr .fellow)) in
+              let u = below a (prev r) (omega arith) w (f r hr .below) (e ∙ sym (f r hr .same-least)) in
               record { above = u .above; till = omega (arith, u .till); mate = u .mate }
           step (inr z) (more w) below =
-              let u = below (prev r) a (omega arith) w (omega arith) (f r hr .fellow ∙ sym e) in
+              let u = below (prev r) a (omega arith) w (omega arith) (f r hr .same-least ∙ sym e) in
               absurd (omega (arith, u .till, f r hr .next))
 
       rise : {a r : ℕ} → a < r → r < n → nodeNumber t a 0 ≡ nodeNumber t r 0 → Up t a r
@@ -111,8 +111,8 @@ module _ {n : ℕ} {R : ℕ → ℕ → Type 0} (k : Parts n R) (t : List ℕ) w
         hl : nodeNumber t p 0 < n
         hl = inside p hp
 
-        top-fellow : nodeNumber t (nodeNumber t (nodeNumber t p 0) 2) 0 ≡ nodeNumber t p 0
-        top-fellow = f l hl .fellow ∙ h .leads p hp
+        top-group : nodeNumber t (nodeNumber t (nodeNumber t p 0) 2) 0 ≡ nodeNumber t p 0
+        top-group = f l hl .same-least ∙ h .leads p hp
 
         top : (r : ℕ) → r < n → nodeNumber t r 0 ≡ nodeNumber t p 0 → r ≤ nodeNumber t (nodeNumber t p 0) 2
         top r hr e = step (order r c)
@@ -121,16 +121,16 @@ module _ {n : ℕ} {R : ℕ → ℕ → Type 0} (k : Parts n R) (t : List ℕ) w
             step (less w) = omega arith
             step (same w) = omega arith
             step (more w) =
-                let u = rise w hr (top-fellow ∙ sym e) in
-                absurd (omega (arith, u .above, f l hl .next, h .low c (f l hl .below), top-fellow))
+                let u = rise w hr (top-group ∙ sym e) in
+                absurd (omega (arith, u .above, f l hl .next, h .low c (f l hl .below), top-group))
 
         next-mem : R p (nodeNumber t p 1)
         next-mem = step (order p c)
           where
             step : Order p c → R p (next p)
             step (less w) =
-                let u = rise w (f l hl .below) (sym top-fellow) in
-                fellows hp (omega (arith, u .till, f l hl .below)) (sym (u .mate))
+                let u = rise w (f l hl .below) (sym top-group) in
+                together hp (omega (arith, u .till, f l hl .below)) (sym (u .mate))
             step (same w) = subst (λ x. R p x) (sym (ap next w ∙ f l hl .next)) (h .alike p hp)
             step (more w) = absurd (omega (arith, top p hp (λ i. l)))
 
@@ -155,7 +155,7 @@ module _ {n : ℕ} {R : ℕ → ℕ → Type 0} (k : Parts n R) (t : List ℕ) w
                 reach u (over g′ i′) = omega (arith, u .till)
                 reach u (round g′ i′) = absurd (omega (arith, u .above))
             step (less w) (over g′ i′) (round g i) = omega (arith, hn)
-            step (less w) (round g′ i′) (round g i) = absurd (omega (arith, rise w (f l hl .below) (sym top-fellow) .above))
+            step (less w) (round g′ i′) (round g i) = absurd (omega (arith, rise w (f l hl .below) (sym top-group) .above))
             step (same w) y (over g i) = absurd (omega (arith, top r hr (sym e)))
             step (same w) (over g′ i′) (round g i) = absurd (omega (arith, ap next w, f l hl .next, h .low p hp))
             step (same w) (round g′ i′) (round g i) = omega (arith, ap next w, f l hl .next, h .low r hr, e)
@@ -177,7 +177,7 @@ module _ {n : ℕ} {R : ℕ → ℕ → Type 0} (k : Parts n R) (t : List ℕ) w
             step (inr z) (over g′ i′) (over g i) = till (order (prev p) r)
               where
                 till : Order (prev p) r → up n (prev p) p ≤ up n r p
-                till (less w) = let u = rise w hr (f p hp .fellow ∙ e) in absurd (omega (arith, u .till, f p hp .next))
+                till (less w) = let u = rise w hr (f p hp .same-least ∙ e) in absurd (omega (arith, u .till, f p hp .next))
                 till (same w) = omega arith
                 till (more w) = omega arith
             step (inr z) (over g′ i′) (round g i) = omega (arith, hr)
@@ -188,7 +188,7 @@ module _ {n : ℕ} {R : ℕ → ℕ → Type 0} (k : Parts n R) (t : List ℕ) w
           record {
             least = λ p hp. record { mem = h .alike p hp; near = λ r x. omega (arith, mates x, h .low r (k .below x)) };
             next = λ p hp. record { mem = next-mem p hp; near = next-near p hp };
-            prev = λ p hp. record { mem = fellows hp (f p hp .below) (sym (f p hp .fellow)); near = prev-near p hp };
+            prev = λ p hp. record { mem = together hp (f p hp .below) (sym (f p hp .same-least)); near = prev-near p hp };
           }
 
   -- a table that holds the groups passes
@@ -210,7 +210,7 @@ module _ {n : ℕ} {R : ℕ → ℕ → Type 0} (k : Parts n R) (t : List ℕ) w
     pub ringed : (p : ℕ) → p < n → Follows n t p
     ringed p hp = record {
       below = k .below (a .prev p hp .mem);
-      fellow = sym (one-least (a .prev p hp .mem));
+      same-least = sym (one-least (a .prev p hp .mem));
       next = inverse k (up-circle n) (a .next) (a .prev) hp;
       order = ⊎-elim inl (λ d. inr (under d)) (equal (ℕ-discrete (least p) p));
     }

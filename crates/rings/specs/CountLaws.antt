@@ -12,7 +12,7 @@ use Rattle.model.specs.Tables.{nodeNumber}
 use Rattle.rings.specs.Ring.{Parts, Out, Table}
 use Rattle.rings.specs.RingLaws.{up-circle, below′, followed}
 use Rattle.rings.specs.MoveLaws.{one-least, one-of}
-use Rattle.rings.specs.Steps.{Taken, Placed, Parted, stayed, left}
+use Rattle.rings.specs.Steps.{Taken, Placed, OthersLeft, stayed, left}
 
 abbrev pub bit : Bool → ℕ
 bit true = 1
@@ -47,20 +47,20 @@ module _ {n : ℕ} {R : ℕ → ℕ → Type 0} (k : Parts n R) {t : List ℕ} (
     pub count-alone : nodeNumber t u 1 ≡ u → count n (leads t′) ≡ count n (leads t)
     count-alone e = count-same n (λ p hp. go p hp (ℕ-discrete p u))
       where
-        lone : {p : ℕ} → R u p → ¬ (p ≢ u)
-        lone y ne = followed k (up-circle n) (a .next) y ne e
+        no-other : {p : ℕ} → R u p → ¬ (p ≢ u)
+        no-other y ne = followed k (up-circle n) (a .next) y ne e
 
         go : (p : ℕ) → p < n → Dec (p ≡ u) → leads t′ p ≡ leads t p
         go p hp (yes i) = rw i (eq-eqb _ _ (x .least-u) ∙ sym (eq-eqb _ _ (own (ℕ-discrete (nodeNumber t u 0) u))))
           where
             own : Dec (nodeNumber t u 0 ≡ u) → nodeNumber t u 0 ≡ u
             own (yes j) = j
-            own (no j) = absurd (lone (a .least u hu .mem) j)
-        go p hp (no i) = ap (λ v. eqb v p) (x .least-off p hp i (λ j. lone (k .back (subst (λ v. R p v) j (a .least p hp .mem))) i))
+            own (no j) = absurd (no-other (a .least u hu .mem) j)
+        go p hp (no i) = ap (λ v. eqb v p) (x .least-off p hp i (λ j. no-other (k .back (subst (λ v. R p v) j (a .least p hp .mem))) i))
 
-    -- u had fellows
-    pub count-parted : nodeNumber t u 1 ≢ u → count n (leads t′) ≡ count n (leads t) + 1
-    count-parted nb = first (ℕ-discrete (nodeNumber t u 0) u)
+    -- u leaves others behind
+    pub count-others-left : nodeNumber t u 1 ≢ u → count n (leads t′) ≡ count n (leads t) + 1
+    count-others-left nb = first (ℕ-discrete (nodeNumber t u 0) u)
       where
         xb : R u (nodeNumber t u 1)
         xb = a .next u hu .mem
@@ -82,9 +82,9 @@ module _ {n : ℕ} {R : ℕ → ℕ → Type 0} (k : Parts n R) {t : List ℕ} (
             count-more n u hu (ne-eqb _ _ e) (eq-eqb _ _ (x .least-u))
             (λ p hp ne. ap (λ v. eqb v p) (sym (x .least-off p hp ne (λ i. e (sym (one-least k a (subst (λ v. R p v) i (a .least p hp .mem))) ∙ i)))))
 
-    pub count-taken : {b r : ℕ} → b ≡ nodeNumber t u 1 → Parted b u r → count n (leads t′) ≡ count n (leads t) + r
+    pub count-taken : {b r : ℕ} → b ≡ nodeNumber t u 1 → OthersLeft b u r → count n (leads t′) ≡ count n (leads t) + r
     count-taken f (stayed e i) = count-alone (sym f ∙ e) ∙ omega arith
-    count-taken f (left e i) = count-parted (λ j. e (f ∙ j)) ∙ omega arith
+    count-taken f (left e i) = count-others-left (λ j. e (f ∙ j)) ∙ omega arith
 
 module _ {n : ℕ} {R : ℕ → ℕ → Type 0} (k : Parts n R) {u g : ℕ} (x : R u g) (ng : g ≢ u) {t t′ : List ℕ} (a : Table n (Out u R) t) (lg : nodeNumber t g 0 ≡ g) (z : Placed n u g t t′) where
   -- u joined a group

@@ -11,10 +11,10 @@ use lib.ListN.{length}
 use lib.IntN.{subℕ}
 use borrow.Author.Tests.{ltb-true, ltb-false, lt-ltb, le-ltb}
 use Rattle.model.specs.Lists.{filter, from, nodes}
-use Rattle.model.specs.Graph.{Graph, Proper}
+use Rattle.model.specs.Graph.{Graph, Proper, whole}
 use Rattle.model.specs.Grouping.{leaders, least, similar}
 use Rattle.model.specs.Tables.{nodeNumber, nodesOf}
-use Rattle.model.specs.Updates.{Update, answer, groupCount, onEdge, refusal, updated}
+use Rattle.model.specs.Updates.{Update, answer, groupCount, onEdge, refusal, updated, wanted}
 use Rattle.model.specs.TestLaws.{decide}
 use Rattle.model.specs.ListLaws.{nodes-ascending}
 use Rattle.model.specs.SummaryLaws.{length-groups}
@@ -22,7 +22,7 @@ use Rattle.model.specs.TableLaws.{least-at, length-nodes-of, mark-at, proper-si
 use Rattle.model.specs.BoundLaws.{similar-cong}
 use Rattle.model.specs.UpdateLaws.{answer-accepted, apart, proper-updated, rows-kept, u-inside, v-inside}
 use Rattle.rings.specs.Ring.{Table, Of}
-use Rattle.rings.specs.Steps.{Back, Parted, Taken}
+use Rattle.rings.specs.Steps.{Back, OthersLeft, Taken}
 use Rattle.rings.specs.CountLaws.{bit, count, count-same, leads}
 use Rattle.rings.specs.UpdateLaws.{Shift, counted, moved, moved-rest, moved-size}
 use Rattle.rings.specs.NodesLaws.{graph-parts, is-nodes, of-nodes}
@@ -52,17 +52,17 @@ count-nodes f n = let z = none in let c = count-from f 0 n in let e : 0 + n ≡ 
 
 -- a table of the graph's groups leads with as many nodes as there are groups
 module _ (g : Graph) (h : Proper g) where
-  least-of : {t : List ℕ} → Table (g .nodeCount) (Of (g .nodeCount) (similar (nodes (g .nodeCount)) (g .edge))) t → (p : ℕ) → p < g .nodeCount → nodeNumber t p 0 ≡ least (nodes (g .nodeCount)) (similar (nodes (g .nodeCount)) (g .edge)) p
+  least-of : {t : List ℕ} → Table (g .nodeCount) (Of (g .nodeCount) (similar (whole g))) t → (p : ℕ) → p < g .nodeCount → nodeNumber t p 0 ≡ least (whole g .nodes) (similar (whole g)) p
   least-of a p hp =
       let b = of-nodes g h in
       le-antisymm (a .least p hp .near _ (b .least p hp .mem)) (b .least p hp .near _ (a .least p hp .mem)) ∙ least-at g p hp
 
-  pub count-groups : {t : List ℕ} → Table (g .nodeCount) (Of (g .nodeCount) (similar (nodes (g .nodeCount)) (g .edge))) t → count (g .nodeCount) (leads t) ≡ groupCount g
+  pub count-groups : {t : List ℕ} → Table (g .nodeCount) (Of (g .nodeCount) (similar (whole g))) t → count (g .nodeCount) (leads t) ≡ groupCount g
   unfolding groupCount leaders
   count-groups a =
       count-same (g .nodeCount) (λ p hp. ap (λ (v : ℕ). eqb v p) (least-of a p hp))
       ∙ sym (count-nodes _ (g .nodeCount))
-      ∙ sym (length-groups (nodes (g .nodeCount)) (g .edge) (proper-simple g h) (nodes-ascending (g .nodeCount)))
+      ∙ sym (length-groups (whole g) (proper-simple g h) (nodes-ascending (g .nodeCount)))
 
 -- equal sums have equal differences
 pub same-difference : (a b c d : ℕ) → a + d ≡ b + c → subℕ a b ≡ subℕ c d
@@ -91,8 +91,8 @@ pub record EdgeUpdate (g : Graph) (c : Update) (u v : ℕ) (t : List ℕ) : Type
   pub table : t ≡ nodesOf g
 
 module _ {g : Graph} {c : Update} {u v : ℕ} {t : List ℕ} (a : EdgeUpdate g c u v t) where
-  old : Table (g .nodeCount) (Of (g .nodeCount) (similar (nodes (g .nodeCount)) (g .edge))) t
-  old = subst (λ x. Table (g .nodeCount) (Of (g .nodeCount) (similar (nodes (g .nodeCount)) (g .edge))) x) (sym (a .table)) (of-nodes g (a .proper))
+  old : Table (g .nodeCount) (Of (g .nodeCount) (similar (whole g))) t
+  old = subst (λ x. Table (g .nodeCount) (Of (g .nodeCount) (similar (whole g))) x) (sym (a .table)) (of-nodes g (a .proper))
 
   new : Proper (updated g c)
   new = proper-updated g c (a .proper) (a .accepted)
@@ -103,7 +103,7 @@ module _ {g : Graph} {c : Update} {u v : ℕ} {t : List ℕ} (a : EdgeUpdate g c
       kept : p ≢ c .u → p ≢ c .v → g .edge p r ≡ updated g c .edge p r
       kept x y = sym (rows-kept g c (a .proper) (a .accepted) p r x y)
 
-  pub update-shift : Shift (g .nodeCount) u v (similar (nodes (g .nodeCount)) (g .edge)) (similar (nodes (g .nodeCount)) (updated g c .edge)) t
+  pub update-shift : Shift (g .nodeCount) u v (similar (whole g)) (similar (whole (updated g c))) t
   unfolding updated
   update-shift =
       record {
@@ -113,24 +113,24 @@ module _ {g : Graph} {c : Update} {u v : ℕ} {t : List ℕ} (a : EdgeUpdate g c
         hu = ⊎-elim (λ x. subst (λ z. z < g .nodeCount) (sym (x .0)) (u-inside g c (a .proper) (a .accepted))) (λ x. subst (λ z. z < g .nodeCount) (sym (x .0)) (v-inside g c (a .proper) (a .accepted) (a .edge))) (a .ends);
         hv = ⊎-elim (λ x. subst (λ z. z < g .nodeCount) (sym (x .1)) (v-inside g c (a .proper) (a .accepted) (a .edge))) (λ x. subst (λ z. z < g .nodeCount) (sym (x .1)) (u-inside g c (a .proper) (a .accepted))) (a .ends);
         ne = ⊎-elim (λ x i. apart g c (a .proper) (a .accepted) (a .edge) (sym (x .0) ∙ i ∙ x .1)) (λ x i. apart g c (a .proper) (a .accepted) (a .edge) (sym (x .1) ∙ sym i ∙ x .0)) (a .ends);
-        agree = λ p q pu pv qu qv. similar-cong (nodes (g .nodeCount)) (g .edge) (updated g c .edge) p q (row p pu pv) (row q qu qv);
+        agree = λ p q pu pv qu qv. similar-cong (whole g) (updated g c .edge) p q (row p pu pv) (row q qu qv);
         size = ap length (a .table) ∙ length-nodes-of g;
         table = old;
       }
 
   module _ {t₁ t₂ t₃ t₄ : List ℕ} {z₃ z₄ : ℕ} (x₁ : Taken (g .nodeCount) u t t₁) (x₂ : Taken (g .nodeCount) v t₁ t₂)
-      (x₃ : Back (g .nodeCount) u v z₃ (similar (nodes (g .nodeCount)) (updated g c .edge) u) t₂ t₃)
-      (x₄ : Back (g .nodeCount) v v z₄ (similar (nodes (g .nodeCount)) (updated g c .edge) v) t₃ t₄) where
+      (x₃ : Back (g .nodeCount) u v z₃ (similar (whole (updated g c)) u) t₂ t₃)
+      (x₄ : Back (g .nodeCount) v v z₄ (similar (whole (updated g c)) v) t₃ t₄) where
     pub update-nodes : t₄ ≡ nodesOf (updated g c)
     unfolding updated
     update-nodes =
         is-nodes (updated g c) new (moved update-shift x₁ x₂ x₃ x₄) (moved-size update-shift x₁ x₂ x₃ x₄)
         (λ p hp. moved-rest update-shift x₁ x₂ x₃ x₄ p 3 hp (omega arith) (omega arith) ∙ ap (λ x. nodeNumber x p 3) (a .table) ∙ mark-at g p hp ∙ marks p)
       where
-        marks : (p : ℕ) → _≡_ {A = ℕ} (cond (g .hidden p) 1 0) (cond (cond (not (onEdge c) && eqb p (c .u)) (eqb (c .kind) 3) (g .hidden p)) 1 0)
+        marks : (p : ℕ) → _≡_ {A = ℕ} (cond (g .hidden p) 1 0) (cond (cond (not (onEdge c) && eqb p (c .u)) (wanted c) (g .hidden p)) 1 0)
         marks p = rw (a .edge) refl
 
-    pub update-answer : {z₁ z₂ : ℕ} → Parted (nodeNumber t u 1) u z₁ → Parted (nodeNumber t₁ v 1) v z₂ → subℕ (z₁ + z₂) (z₃ + z₄) ≡ answer g c
+    pub update-answer : {z₁ z₂ : ℕ} → OthersLeft (nodeNumber t u 1) u z₁ → OthersLeft (nodeNumber t₁ v 1) v z₂ → subℕ (z₁ + z₂) (z₃ + z₄) ≡ answer g c
     unfolding updated
     update-answer {z₁} {z₂} p₁ p₂ =
         let b = count-groups g (a .proper) old in

@@ -14,7 +14,7 @@ use Rattle.rings.specs.RingLaws.{up-circle, flip, out-parts, below′, i
 use Rattle.rings.specs.Steps.{Sound, Taken, Before, lower, wrapped, Placed}
 
 module _ {n : ℕ} {R : ℕ → ℕ → Type 0} (k : Parts n R) {t : List ℕ} (a : Table n R t) where
-  -- fellows have one least member
+  -- members of one group have one least member
   pub one-least : {p q : ℕ} → R p q → nodeNumber t p 0 ≡ nodeNumber t q 0
   one-least {p} {q} x =
       let lp = a .least p (below′ k x) in
@@ -32,7 +32,7 @@ module _ {n : ℕ} {R : ℕ → ℕ → Type 0} (k : Parts n R) {t : List ℕ} (
         next = λ p hp. k .below (a .next p hp .mem);
         prev = λ p hp. k .below (a .prev p hp .mem);
         under = λ p hp. a .least p hp .near p (k .own hp);
-        fellow = λ p hp. sym (one-least (a .next p hp .mem));
+        same-least = λ p hp. sym (one-least (a .next p hp .mem));
         skips = λ p r hp hr e i. skip i hr (a .next p hp .near r (shares p r hp hr e)) (way n p (nodeNumber t p 1)) (way n p r);
         behind = λ p hp. sym (one-least (a .prev p hp .mem));
         last = λ g r hg hr l e.
@@ -105,9 +105,9 @@ module _ {n : ℕ} {R : ℕ → ℕ → Type 0} (k : Parts n R) {u g : ℕ} (x :
   hg : g < n
   hg = k .below x
 
-  -- the fellows of u are those whose least member is g
-  fellow : (p : ℕ) → p ≢ u → R u p → nodeNumber t p 0 ≡ g
-  fellow p ne y =
+  -- the other members of u's group are those whose least member is g
+  same-least : (p : ℕ) → p ≢ u → R u p → nodeNumber t p 0 ≡ g
+  same-least p ne y =
       let hp : p < n = k .below y in
       let z : R p g = k .on (k .back y) x in
       let lp = a .least p hp in
@@ -123,7 +123,7 @@ module _ {n : ℕ} {R : ℕ → ℕ → Type 0} (k : Parts n R) {u g : ℕ} (x :
   before {b} (lower h e f) =
       record {
         mem = (joins b (omega (arith, hu)) e, (λ i. omega arith));
-        near = λ r y. go r (k .below (y .0)) (y .1) (λ i j. f r i j (fellow r (y .1) (y .0))) (decLt b r) (way n b u) (way n r u);
+        near = λ r y. go r (k .below (y .0)) (y .1) (λ i j. f r i j (same-least r (y .1) (y .0))) (decLt b r) (way n b u) (way n r u);
       }
     where
       go : (r : ℕ) → r < n → r ≢ u → (b < r → r < u → ⊥) → Dec (b < r) → Way n b u (up n b u) → Way n r u (up n r u) → up n b u ≤ up n r u
@@ -147,7 +147,7 @@ module _ {n : ℕ} {R : ℕ → ℕ → Type 0} (k : Parts n R) {u g : ℕ} (x :
       le-of-not-lt r i = omega arith
 
       above : (r : ℕ) → R u r → r ≢ u → u ≤ r
-      above r y ne = le-of-not-lt r (λ i. f r i (fellow r ne y))
+      above r y ne = le-of-not-lt r (λ i. f r i (same-least r ne y))
 
       go : (r : ℕ) → r < n → u ≤ r → u ≤ b → nodeNumber t g 0 ≤ r → nodeNumber t g 0 ≤ b → up n b g ≤ up n r g
           → Way n b g (up n b g) → Way n r g (up n r g) → Way n b u (up n b u) → Way n r u (up n r u) → up n b u ≤ up n r u
@@ -188,5 +188,5 @@ module _ {n : ℕ} {R : ℕ → ℕ → Type 0} (k : Parts n R) {u g : ℕ} (x :
           move R (λ p q. q) (λ p. nodeNumber t′ p 0) refl (z .put .least-off p hp ne ne′)
           (record {
             mem = a .least p hp .mem .0;
-            near = λ r w. a .least p hp .near r (both R ne (λ e. ne′ (fellow p ne (k .back (subst (λ v. R p v) e w)))) w);
+            near = λ r w. a .least p hp .near r (both R ne (λ e. ne′ (same-least p ne (k .back (subst (λ v. R p v) e w)))) w);
           })

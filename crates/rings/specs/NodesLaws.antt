@@ -1,7 +1,7 @@
 -- The node table that the model demands of a graph is the one table that holds the graph's groups, with its marks.
 use mathlib.Core.Path.{_≡_, refl, sym, subst, _∙_, ap}
 use mathlib.Core.Logic.{_⊎_, inl, inr, ⊎-elim}
-use mathlib.Core.Bool.{Bool, true, false, cond, _&&_}
+use mathlib.Core.Bool.{true, false, cond, _&&_}
 use mathlib.Core.List.{List, [], _∷_, List·Memᴰ·head, List·Memᴰ·tail, List·Memᴰ·cases-cons, List·Memᴰ·not-nil}
 use Prim.Native.Nat.{ℕ, suc, zero, _+_, _*_, _/_, _%_, _≤_, _<_}
 use native.Mathlib.Omega.{arith}
@@ -11,12 +11,12 @@ use lib.ListN.{length, getD}
 use lib.Seq.{ext-getD}
 use borrow.Author.Tests.{eqb-true, eqb-false, ltb-true, lt-ltb}
 use Rattle.model.specs.Lists.{_∈_, filter, headOr, lastOr, nodes}
-use Rattle.model.specs.Graph.{Graph, Proper, nodeNumbers}
+use Rattle.model.specs.Graph.{Graph, Proper, nodeNumbers, whole}
 use Rattle.model.specs.Grouping.{group, least, similar}
 use Rattle.model.specs.Tables.{groupIn, nextIn, nodeNumber, nodeOf, nodesOf, prevIn}
 use Rattle.model.specs.TestLaws.{decide}
 use Rattle.model.specs.ListLaws.{Ascending, filter-ascending, filter-elim, filter-intro, headOr-in, headOr-le, nodes-ascending, nodes-in, nodes-out}
-use Rattle.model.specs.TwinLaws.{Simple, similar-refl, similar-sym, similar-trans}
+use Rattle.model.specs.TwinLaws.{similar-refl, similar-sym, similar-trans}
 use Rattle.model.specs.TableLaws.{getD-blocks, getD-nodes, length-nodes, length-nodes-of, mark-at, proper-simple}
 use Rattle.rings.specs.Ring.{up, Parts, Best, Table, Of}
 use Rattle.rings.specs.RingLaws.{Circle, up-circle, flip, Way, over, round, way}
@@ -123,16 +123,6 @@ best-one {n} o k {p} {q} {q′} hp a b =
     (λ s. o .full hq hq′ (omega arith))
     (o .turn hp hq hq′)
 
--- who is similar shares a group
-pub similar-parts : (n : ℕ) (e : ℕ → ℕ → Bool) → Simple (nodes n) e → Parts n (Of n (similar (nodes n) e))
-similar-parts n e g =
-    record {
-      below = λ x. x .1;
-      own = λ {p} h. (h, h, similar-refl (nodes n) e p);
-      back = λ {p} {q} x. (x .1, x .0, similar-sym (nodes n) e p q (x .2));
-      on = λ {p} {q} {r} x y. (x .0, y .1, similar-trans (nodes n) e g p q r (nodes-in n p (x .0)) (nodes-in n q (x .1)) (nodes-in n r (y .1)) (x .2) (y .2));
-    }
-
 pub node-at : (g : Graph) (p k : ℕ) → p < g .nodeCount → k < nodeNumbers → nodeNumber (nodesOf g) p k ≡ getD (nodeOf g p) k 0
 unfolding nodeNumber nodesOf nodeOf
 node-at g p k hp hk = getD-blocks (nodeOf g) nodeNumbers (λ q. refl) (nodes (g .nodeCount)) p k (rw length-nodes hp) hk ∙ ap (λ (q : ℕ). getD (nodeOf g q) k 0) (getD-nodes (g .nodeCount) p hp)
@@ -142,10 +132,17 @@ module _ (g : Graph) (h : Proper g) where
   n = g .nodeCount
 
   abbrev R : ℕ → ℕ → Type 0
-  R = Of (g .nodeCount) (similar (nodes (g .nodeCount)) (g .edge))
+  R = Of (g .nodeCount) (similar (whole g))
 
-  pub graph-parts : Parts (g .nodeCount) (Of (g .nodeCount) (similar (nodes (g .nodeCount)) (g .edge)))
-  graph-parts = similar-parts n (g .edge) (proper-simple g h)
+  -- who is similar shares a group
+  pub graph-parts : Parts (g .nodeCount) (Of (g .nodeCount) (similar (whole g)))
+  graph-parts =
+      record {
+        below = λ x. x .1;
+        own = λ {p} l. (l, l, similar-refl (whole g) p);
+        back = λ {p} {q} x. (x .1, x .0, similar-sym (whole g) p q (x .2));
+        on = λ {p} {q} {r} x y. (x .0, y .1, similar-trans (whole g) (proper-simple g h) p q r (nodes-in n p (x .0)) (nodes-in n q (x .1)) (nodes-in n r (y .1)) (x .2) (y .2));
+      }
 
   in-group : (p q : ℕ) → R p q → q ∈ groupIn g p
   unfolding groupIn group
@@ -163,7 +160,7 @@ module _ (g : Graph) (h : Proper g) where
   nearest δ {p} {q} {v} hp b e = subst (λ x. Best (R p) δ x) (sym e) (record { mem = group-in p q hp (b .mem); near = λ r x. b .near r (in-group p r x) })
 
   -- the model's node table holds the graph's groups
-  pub of-nodes : Table (g .nodeCount) (Of (g .nodeCount) (similar (nodes (g .nodeCount)) (g .edge))) (nodesOf g)
+  pub of-nodes : Table (g .nodeCount) (Of (g .nodeCount) (similar (whole g))) (nodesOf g)
   unfolding nodeOf
   of-nodes =
       record {
@@ -173,7 +170,7 @@ module _ (g : Graph) (h : Proper g) where
       }
 
   -- and it is the only one, with these marks
-  pub is-nodes : {t : List ℕ} → Table (g .nodeCount) (Of (g .nodeCount) (similar (nodes (g .nodeCount)) (g .edge))) t → length t ≡ nodeNumbers * g .nodeCount
+  pub is-nodes : {t : List ℕ} → Table (g .nodeCount) (Of (g .nodeCount) (similar (whole g))) t → length t ≡ nodeNumbers * g .nodeCount
       → ((p : ℕ) → p < g .nodeCount → nodeNumber t p 3 ≡ cond (g .hidden p) 1 0) → t ≡ nodesOf g
   is-nodes {t} a l ms = ext-getD 0 t (nodesOf g) (l ∙ sym (length-nodes-of g)) (λ i hi. at i hi)
     where

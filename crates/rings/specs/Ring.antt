@@ -26,7 +26,7 @@ pub record Best (S : ℕ → Type 0) (δ : ℕ → ℕ) (q : ℕ) : Type 0 where
 abbrev pub Out : ℕ → (ℕ → ℕ → Type 0) → ℕ → ℕ → Type 0
 Out u R p q = R p q × (p ≡ u → q ≡ u) × (q ≡ u → p ≡ u)
 
--- every number's nearest fellow
+-- every number's nearest one of its class
 abbrev pub Ring : ℕ → (ℕ → ℕ → Type 0) → (ℕ → ℕ → ℕ) → (ℕ → ℕ) → Type 0
 Ring n R δ N = (p : ℕ) → p < n → Best (R p) (δ p) (N p)
 

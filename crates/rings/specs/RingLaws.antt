@@ -77,7 +77,7 @@ module _ {n : ℕ} {R : ℕ → ℕ → Type 0} (k : Parts n R) where
         on = λ x y. (k .on (x .0) (y .0), (λ e. y .1 (x .1 e)), (λ e. x .2 (y .2 e)));
       }
 
--- a fellow that is not u, of one that is not u
+-- one of the same class that is not u, of one that is not u
 pub both : (R : ℕ → ℕ → Type 0) {u p q : ℕ} → p ≢ u → q ≢ u → R p q → Out u R p q
 both R f g x = (x, (λ e. absurd (f e)), (λ e. absurd (g e)))
 
@@ -99,7 +99,7 @@ module _ {n : ℕ} {R : ℕ → ℕ → Type 0} (k : Parts n R) {δ : ℕ → �
       (λ e. o .full hq hu (omega (arith, o .cap hq hu)))
       (o .turn ha hq hu)
 
-  -- who has a fellow is not followed by itself
+  -- who is not alone is not followed by itself
   pub followed : {N : ℕ → ℕ} → Ring n R δ N → {u p : ℕ} → R u p → p ≢ u → N u ≢ u
   followed {N} hN {u} {p} x ne e =
       let hu : u < n = below′ k x in
@@ -149,12 +149,12 @@ module _ {n : ℕ} {R : ℕ → ℕ → Type 0} (k : Parts n R) {δ : ℕ → �
             near = λ r x. hN p hp .near r (x .0);
           })
 
-  -- a ring with u put in after a, the last of its new fellows before u
+  -- a ring with u put in after a, the last of its new group before u
   module _ {u a : ℕ} (hu : u < n) (la : Best (λ r. R u r × r ≢ u) (λ r. δ r u) a) where
     ha : a < n
     ha = k .below (la .mem .0)
 
-    -- from a, u comes before each other fellow
+    -- from a, u comes before each other member
     first : (r : ℕ) → R u r → r ≢ u → δ a u < δ a r
     first r x ne =
         let hr : r < n = k .below x in

@@ -6,8 +6,7 @@ use mathlib.Core.List.{List}
 use Prim.Native.Nat.{ℕ, _+_, _*_, _≤_, _<_, min}
 use lib.Dec.{ltb}
 use lib.ListN.{length, getD, set}
-use Rattle.model.specs.Lists.{nodes}
-use Rattle.model.specs.Graph.{Graph, Proper, maxNodes, nodeNumbers}
+use Rattle.model.specs.Graph.{Graph, Proper, maxNodes, nodeNumbers, whole}
 use Rattle.model.specs.Grouping.{least, similar}
 use Rattle.model.specs.Tables.{nodeNumber, nodesOf}
 
@@ -18,7 +17,7 @@ pub record Sound (n : ℕ) (t : List ℕ) : Type 0 where
   pub next : (p : ℕ) → p < n → nodeNumber t p 1 < n
   pub prev : (p : ℕ) → p < n → nodeNumber t p 2 < n
   pub under : (p : ℕ) → p < n → nodeNumber t p 0 ≤ p
-  pub fellow : (p : ℕ) → p < n → nodeNumber t (nodeNumber t p 1) 0 ≡ nodeNumber t p 0
+  pub same-least : (p : ℕ) → p < n → nodeNumber t (nodeNumber t p 1) 0 ≡ nodeNumber t p 0
   pub skips : (p r : ℕ) → p < n → r < n → nodeNumber t r 0 ≡ nodeNumber t p 0 → p < r → (p < nodeNumber t p 1) × (nodeNumber t p 1 ≤ r)
   pub behind : (p : ℕ) → p < n → nodeNumber t (nodeNumber t p 2) 0 ≡ nodeNumber t p 0
   pub last : (g r : ℕ) → g < n → r < n → nodeNumber t g 0 ≡ g → nodeNumber t r 0 ≡ nodeNumber t g 0 → r ≤ nodeNumber t g 2
@@ -62,15 +61,15 @@ pub record Taken (n u : ℕ) (t t′ : List ℕ) : Type 0 where
   pub rest : (p k : ℕ) → p < n → 3 ≤ k → k < nodeNumbers → nodeNumber t′ p k ≡ nodeNumber t p k
   pub size : length t′ ≡ length t
 
--- whom u's fellows have for their least member once u is gone: b, if u was it
-pub data Heir (l u b y : ℕ) : Type 0 where
-  heir : l ≡ u → y ≡ b → Heir l u b y
-  none : l ≢ u → y ≡ u → Heir l u b y
+-- whom the other members of u's group have for their least one once u is gone: b, if u was it
+pub data NewLeast (l u b y : ℕ) : Type 0 where
+  passes : l ≡ u → y ≡ b → NewLeast l u b y
+  none : l ≢ u → y ≡ u → NewLeast l u b y
 
--- r is 1 if u had a fellow, b after it, else 0
-pub data Parted (b u r : ℕ) : Type 0 where
-  stayed : b ≡ u → r ≡ 0 → Parted b u r
-  left : b ≢ u → r ≡ 1 → Parted b u r
+-- r is 1 if u leaves others behind, b being the next of them, else 0
+pub data OthersLeft (b u r : ℕ) : Type 0 where
+  stayed : b ≡ u → r ≡ 0 → OthersLeft b u r
+  left : b ≢ u → r ≡ 1 → OthersLeft b u r
 
 -- u is put into the group whose least member is g, after a; h is the lesser of u and g
 pub record Put (n u g a h : ℕ) (t t′ : List ℕ) : Type 0 where
@@ -119,7 +118,7 @@ pub record Leading (n : ℕ) (lst : List ℕ) : Type 0 where
 -- lst has the least member of each node's group, and t the marks
 pub record Grouped (g : Graph) (lst t : List ℕ) : Type 0 where
   pub proper : Proper g
-  pub least : (p : ℕ) → p < g .nodeCount → getD lst p 0 ≡ least (nodes (g .nodeCount)) (similar (nodes (g .nodeCount)) (g .edge)) p
+  pub least : (p : ℕ) → p < g .nodeCount → getD lst p 0 ≡ least (whole g .nodes) (similar (whole g)) p
   pub size : length t ≡ nodeNumbers * g .nodeCount
   pub marks : (p : ℕ) → p < g .nodeCount → nodeNumber t p 3 ≡ cond (g .hidden p) 1 0
 
@@ -130,7 +129,7 @@ pub record Built (n : ℕ) (lst t t′ : List ℕ) : Type 0 where
 -- p's previous member has the same least member, is followed by p, and is below p unless p is the least
 pub record Follows (n : ℕ) (t : List ℕ) (p : ℕ) : Type 0 where
   pub below : nodeNumber t p 2 < n
-  pub fellow : nodeNumber t (nodeNumber t p 2) 0 ≡ nodeNumber t p 0
+  pub same-least : nodeNumber t (nodeNumber t p 2) 0 ≡ nodeNumber t p 0
   pub next : nodeNumber t (nodeNumber t p 2) 1 ≡ p
   pub order : (nodeNumber t p 0 ≡ p) ⊎ (nodeNumber t p 2 < p)
 
@@ -140,6 +139,6 @@ pub record Rings (i : ℕ) (lst t : List ℕ) : Type 0 where
   pub follows : (p : ℕ) → p < i → Follows i t p
 
 -- the marks stay
-pub record Kept (t t′ : List ℕ) : Type 0 where
+pub record MarksKept (t t′ : List ℕ) : Type 0 where
   pub marks : (p : ℕ) → nodeNumber t′ p 3 ≡ nodeNumber t p 3
   pub size : length t′ ≡ length t

@@ -13,7 +13,7 @@ use lib.Seq.{getD-set-same, getD-set-other}
 use Rattle.model.specs.Graph.{nodeNumbers}
 use Rattle.model.specs.Tables.{nodeNumber}
 use Rattle.model.specs.TestLaws.{decide}
-use Rattle.rings.specs.Steps.{Before, lower, wrapped, Taken, Put, Sound, Heir, heir, none, Linked, Renamed, Stored, rising}
+use Rattle.rings.specs.Steps.{Before, lower, wrapped, Taken, Put, Sound, NewLeast, passes, none, Linked, Renamed, Stored, rising}
 
 module _ {q j v : ℕ} {t t′ : List ℕ} (e : Stored q j v t t′) where
   pub at : nodeNumbers * q + j < length t → nodeNumber t′ q j ≡ v
@@ -66,7 +66,7 @@ rises {n} {p} {r} {t} s hp e = step (decide (ltb p (nodeNumber t p 1)))
         record {
           above = omega arith;
           within = omega (arith, s .next p hp);
-          member = λ j. rw i (s .fellow p hp);
+          member = λ j. rw i (s .same-least p hp);
           between = λ q hq j j′ f. omega (arith, s .skips p q hp hq f j .1);
         }
     step (inr b) =
@@ -170,21 +170,21 @@ pub before-below : {n u g a : ℕ} {t : List ℕ} → Sound n t → u < n → g 
 before-below s hu hg (lower h e f) = omega arith
 before-below {g = g} s hu hg (wrapped e f) = omega (arith, s .prev g hg)
 
-inherits : {l u b y : ℕ} → Heir l u b y → l ≡ u → y ≡ b
-inherits (heir e f) i = f
-inherits (none e f) i = absurd (e i)
+passes-on : {l u b y : ℕ} → NewLeast l u b y → l ≡ u → y ≡ b
+passes-on (passes e f) i = f
+passes-on (none e f) i = absurd (e i)
 
--- who has an heir leads, and its heir is a node
-pub heir-leads : {l u b y : ℕ} → Heir l u b y → u ≢ y → l ≡ u
-heir-leads (heir e f) i = e
-heir-leads (none e f) i = absurd (i (sym f))
+-- whose members get another least member leads, and that one is a node
+pub new-least-leads : {l u b y : ℕ} → NewLeast l u b y → u ≢ y → l ≡ u
+new-least-leads (passes e f) i = e
+new-least-leads (none e f) i = absurd (i (sym f))
 
-pub heir-below : {n l u b y : ℕ} → Heir l u b y → u < n → b < n → y < n
-heir-below (heir e f) hu hb = omega arith
-heir-below (none e f) hu hb = omega arith
+pub new-least-below : {n l u b y : ℕ} → NewLeast l u b y → u < n → b < n → y < n
+new-least-below (passes e f) hu hb = omega arith
+new-least-below (none e f) hu hb = omega arith
 
 -- the steps of `take_out`
-module _ {n u a b y : ℕ} {t t₁ t₂ t₃ t₄ : List ℕ} (l : length t ≡ nodeNumbers * n) (hu : u < n) (ea : a ≡ nodeNumber t u 2) (eb : b ≡ nodeNumber t u 1) (ey : Heir (nodeNumber t u 0) u b y)
+module _ {n u a b y : ℕ} {t t₁ t₂ t₃ t₄ : List ℕ} (l : length t ≡ nodeNumbers * n) (hu : u < n) (ea : a ≡ nodeNumber t u 2) (eb : b ≡ nodeNumber t u 1) (ey : NewLeast (nodeNumber t u 0) u b y)
     (r : Renamed n u y t t₁) (l₂ : Linked a b t₁ t₂) (l₃ : Linked u u t₂ t₃) (e : Stored u 0 u t₃ t₄) where
   same-size : length t₃ ≡ nodeNumbers * n
   same-size = l₃ .size ∙ l₂ .size ∙ r .size ∙ l
@@ -200,7 +200,7 @@ module _ {n u a b y : ℕ} {t t₁ t₂ t₃ t₄ : List ℕ} (l : length t ≡ 
       let l′ = same-size in
       record {
         least-u = at e (omega arith);
-        least-hit = λ p hp ne i f. off e p 0 (omega arith) (omega arith) ne ∙ l₃ .least p ∙ l₂ .least p ∙ r .hit p hp f ∙ inherits ey i ∙ eb;
+        least-hit = λ p hp ne i f. off e p 0 (omega arith) (omega arith) ne ∙ l₃ .least p ∙ l₂ .least p ∙ r .hit p hp f ∙ passes-on ey i ∙ eb;
         least-off = λ p hp ne f. off e p 0 (omega arith) (omega arith) ne ∙ l₃ .least p ∙ l₂ .least p ∙ r .off p hp f;
         next-u = beside e u 1 (omega arith) (omega arith) (omega arith) ∙ l₃ .next-at;
         next-hit = λ p hp ne f. beside e p 1 (omega arith) (omega arith) (omega arith) ∙ l₃ .next-off p ne ∙ next-is p (f ∙ sym ea) ∙ eb;

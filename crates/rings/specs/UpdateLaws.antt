@@ -12,7 +12,7 @@ use Rattle.model.specs.Graph.{maxNodes, nodeNumbers}
 use Rattle.model.specs.Tables.{nodeNumber}
 use Rattle.rings.specs.Ring.{Parts, Out, Ring, Table, Of}
 use Rattle.rings.specs.RingLaws.{out-parts}
-use Rattle.rings.specs.Steps.{Sound, Taken, Parted, stayed, left, Fit, Back, joined, alone}
+use Rattle.rings.specs.Steps.{Sound, Taken, OthersLeft, stayed, left, Fit, Back, joined, alone}
 use Rattle.rings.specs.MoveLaws.{sound, taken, placed}
 use Rattle.rings.specs.CountLaws.{count, leads, count-taken, count-joined}
 
@@ -37,9 +37,9 @@ pub back-rest : {n u w z : ℕ} {S : ℕ → Bool} {t t′ : List ℕ} → Back 
 back-rest (joined g h f x i) p k hp h3 hk = x .put .rest p k hp h3 hk
 back-rest (alone f e i) p k hp h3 hk = ap (λ x. nodeNumber x p k) e
 
-pub parted-small : {b u r : ℕ} → Parted b u r → r ≤ 1
-parted-small (stayed e i) = omega arith
-parted-small (left e i) = omega arith
+pub others-left-small : {b u r : ℕ} → OthersLeft b u r → r ≤ 1
+others-left-small (stayed e i) = omega arith
+others-left-small (left e i) = omega arith
 
 pub back-small : {n u w z : ℕ} {S : ℕ → Bool} {t t′ : List ℕ} → Back n u w z S t t′ → z ≤ 1
 back-small (joined g h f x i) = omega arith
@@ -77,11 +77,11 @@ module _ {n : ℕ} {R : ℕ → ℕ → Type 0} (k : Parts n R) {u : ℕ} (hu : 
   back f g (joined r hr y x i) = placed k (f r hr (y .not-u) (y .not-w) (y .alike)) (y .not-u) a (y .leads) x
   back f g (alone no-one e o) =
       subst (λ v. Table n R v) (sym e)
-      (same (λ p q x. x .0) (λ p q x. (x, (λ i. lone q (subst (λ v. R v q) i x) (ℕ-discrete q u)), (λ i. lone p (k .back (subst (λ v. R p v) i x)) (ℕ-discrete p u)))) a)
+      (same (λ p q x. x .0) (λ p q x. (x, (λ i. no-other q (subst (λ v. R v q) i x) (ℕ-discrete q u)), (λ i. no-other p (k .back (subst (λ v. R p v) i x)) (ℕ-discrete p u)))) a)
     where
-      lone : (q : ℕ) → R u q → Dec (q ≡ u) → q ≡ u
-      lone q x (yes i) = i
-      lone q x (no ne) =
+      no-other : (q : ℕ) → R u q → Dec (q ≡ u) → q ≡ u
+      no-other q x (yes i) = i
+      no-other q x (no ne) =
           let hq = k .below x in
           let l = a .least q hq .mem in
           let y : R u (nodeNumber t q 0) = k .on x (l .0) in
@@ -159,7 +159,7 @@ module _ {n u v : ℕ} {sim sim′ : ℕ → ℕ → Bool} {t : List ℕ} (a : S
           moved-rest p k hp h3 hk = back-rest x₄ p k hp h3 hk ∙ back-rest x₃ p k hp h3 hk ∙ x₂ .rest p k hp h3 hk ∙ x₁ .rest p k hp h3 hk
 
           -- as many groups more as nodes left theirs, less those that joined one
-          pub counted : {b₁ b₂ z₁ z₂ : ℕ} → b₁ ≡ nodeNumber t u 1 → Parted b₁ u z₁ → b₂ ≡ nodeNumber t₁ v 1 → Parted b₂ v z₂
+          pub counted : {b₁ b₂ z₁ z₂ : ℕ} → b₁ ≡ nodeNumber t u 1 → OthersLeft b₁ u z₁ → b₂ ≡ nodeNumber t₁ v 1 → OthersLeft b₂ v z₂
               → count n (leads t₄) + (z₃ + z₄) ≡ count n (leads t) + (z₁ + z₂)
           counted e₁ p₁ e₂ p₂ =
               let c₁ = count-taken (a .parts) (a .table) (a .hu) x₁ e₁ p₁ in

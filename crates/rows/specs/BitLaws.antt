@@ -4,7 +4,7 @@ use mathlib.Core.Bool.{Bool, true, false, not, cond, xor, _&&_, _||_}
 use mathlib.Core.List.{List}
 use mathlib.Core.Logic.{_⊎_, inl, inr}
 use Prim.Native.Nat.{ℕ, zero, suc, _+_, _*_, _-_, _/_, _%_, _^_, _≤_, _<_}
-use native.Mathlib.Nat.{one-mul, pow-suc, div-eq-of-lt, mul-comm}
+use native.Mathlib.Nat.{one-mul, pow-suc, div-eq-of-lt, mul-comm, zero-div}
 use native.Mathlib.Omega.{arith}
 use lib.Bits.{bitXor, differ, xor-step, xor-shr, xor-lt}
 use lib.Dec.{eqb, ltb, lit<}
@@ -192,3 +192,16 @@ flipped-at t p q i m small fits e f = rw (e, f) (flipped t p q small fits)
 
 pub mask-at : (q k : ℕ) → k ≡ q % 64 → 1 * 2 ^ k % 18446744073709551616 ≡ 2 ^ (q % 64)
 mask-at q k e = rw e (one-shl (q % 64) (omega arith))
+
+-- no bit of zero is set
+pub bit-zero : (j : ℕ) → bitAt 0 j ≡ false
+unfolding bitAt
+bit-zero j = ne-eqb (0 / 2 ^ j % 2) 1 (let z : 0 / 2 ^ j ≡ 0 = zero-div (2 ^ j) in omega arith)
+
+-- a bit of a row, by its word
+pub word-bit : (edges : List ℕ) (p j c : ℕ) → c < 64 → edgeBit edges p (64 * j + c) ≡ bitAt (getD edges (8 * p + j) 0) c
+unfolding edgeBit
+word-bit edges p j c h =
+    let x : (64 * j + c) / 64 ≡ j = omega arith in
+    let y : (64 * j + c) % 64 ≡ c = omega arith in
+    rw (x, y)

@@ -1,6 +1,6 @@
 -- The edge table is determined by its bits, and a changed edge makes it that of the updated graph.
-use mathlib.Core.Path.{_≡_, refl, sym, ap, _∙_}
-use mathlib.Core.Bool.{Bool, true, false, not, cond, _&&_, _||_, Bool·not-not}
+use mathlib.Core.Path.{_≡_, sym, ap, _∙_}
+use mathlib.Core.Bool.{Bool, true, false, not, cond, _&&_, Bool·not-not}
 use mathlib.Core.List.{List}
 use mathlib.Core.Logic.{_⊎_, inl, inr}
 use Prim.Native.Nat.{ℕ, _+_, _*_, _/_, _%_, _^_, _<_}
@@ -9,14 +9,14 @@ use lib.Dec.{eqb, ltb}
 use lib.ListN.{length, getD, List·getD-eq-default}
 use lib.Pow.{pow-pos}
 use lib.Seq.{ext-getD}
-use borrow.Author.Tests.{eqb-true, ltb-true, ltb-false, not-false}
+use borrow.Author.Tests.{eqb-true, ltb-true, ltb-false}
 use Rattle.model.specs.Lists.{nodes}
 use Rattle.model.specs.Graph.{Graph, Proper}
 use Rattle.model.specs.Tables.{bitAt, edgeBit, edgesOf, rowOf, word}
-use Rattle.model.specs.Updates.{Update, isPair, onEdge, refusal, updateReasons, updated}
-use Rattle.model.specs.TestLaws.{and-fst, and-snd, decide, differ, or-cases, or-none}
+use Rattle.model.specs.Updates.{Update, isPair, onEdge, refusal, updated, wanted}
+use Rattle.model.specs.TestLaws.{and-fst, and-snd, decide, or-cases}
 use Rattle.model.specs.TableLaws.{edge-bit, getD-blocks, getD-nodes, length-edges, length-nodes, length-row, row-at}
-use Rattle.model.specs.UpdateLaws.{first-none}
+use Rattle.model.specs.UpdateLaws.{there-before}
 use Rattle.rows.specs.Rows.{Words, Changed}
 use Rattle.rows.specs.BitLaws.{word-bits, word-cong, word-lt}
 
@@ -59,32 +59,17 @@ module _ (g : Graph) (t : List ℕ) (size : length t ≡ 8 * g .nodeCount) (word
 
 -- an accepted update of an edge
 module _ (g : Graph) (c : Update) (h : Proper g) (ok : refusal g c ≡ 0) (two : onEdge c ≡ true) where
-  -- the edge was there exactly if it is to be deleted
-  pub edge-before : g .edge (c .u) (c .v) ≡ not (eqb (c .kind) 1)
-  unfolding refusal updateReasons
-  edge-before =
-      let a = first-none _ 13 _ refl ok in
-      let b = first-none _ 14 _ refl (a .1) in
-      let d = first-none _ 15 _ refl (b .1) in
-      let e = first-none _ 16 _ refl (d .1) in
-      let f = first-none _ 17 _ refl (e .1) in
-      step (or-none (eqb (c .kind) 1 && g .edge (c .u) (c .v)) _ (e .0) .0) (or-none (eqb (c .kind) 2 && not (g .edge (c .u) (c .v))) _ (f .0) .0) two
-    where
-      kinds : (k l b : Bool) → (k && b) ≡ false → (l && not b) ≡ false → (k || l) ≡ true → b ≡ not k
-      kinds true l b x y z = x
-      kinds false true b x y z = not-false b y
-      kinds false false b x y z = differ z refl
+  -- the edge was there exactly if it is not wanted
+  pub edge-before : g .edge (c .u) (c .v) ≡ not (wanted c)
+  edge-before = sym (ap (λ (x : Bool). cond x (g .edge (c .u) (c .v)) (g .hidden (c .u))) two) ∙ there-before g c h ok
 
-      step : (eqb (c .kind) 1 && g .edge (c .u) (c .v)) ≡ false → (eqb (c .kind) 2 && not (g .edge (c .u) (c .v))) ≡ false → onEdge c ≡ true → g .edge (c .u) (c .v) ≡ not (eqb (c .kind) 1)
-      step = kinds (eqb (c .kind) 1) (eqb (c .kind) 2) (g .edge (c .u) (c .v))
-
-  edge-pair : (p q : ℕ) → isPair (c .u) (c .v) p q ≡ true → eqb (c .kind) 1 ≡ not (g .edge p q)
+  edge-pair : (p q : ℕ) → isPair (c .u) (c .v) p q ≡ true → wanted c ≡ not (g .edge p q)
   edge-pair p q t = step (or-cases (eqb p (c .u) && eqb q (c .v)) (eqb p (c .v) && eqb q (c .u)) t)
     where
-      now : eqb (c .kind) 1 ≡ not (g .edge (c .u) (c .v))
-      now = sym (Bool·not-not (eqb (c .kind) 1)) ∙ sym (ap not edge-before)
+      now : wanted c ≡ not (g .edge (c .u) (c .v))
+      now = sym (Bool·not-not (wanted c)) ∙ sym (ap not edge-before)
 
-      step : ((eqb p (c .u) && eqb q (c .v)) ≡ true) ⊎ ((eqb p (c .v) && eqb q (c .u)) ≡ true) → eqb (c .kind) 1 ≡ not (g .edge p q)
+      step : ((eqb p (c .u) && eqb q (c .v)) ≡ true) ⊎ ((eqb p (c .v) && eqb q (c .u)) ≡ true) → wanted c ≡ not (g .edge p q)
       step (inl x) = rw (eqb-true p (c .u) (and-fst (eqb p (c .u)) _ x), eqb-true q (c .v) (and-snd (eqb p (c .u)) _ x)) now
       step (inr x) = rw (eqb-true p (c .v) (and-fst (eqb p (c .v)) _ x), eqb-true q (c .u) (and-snd (eqb p (c .v)) _ x), h .symmetric (c .v) (c .u)) now
 
@@ -94,7 +79,7 @@ module _ (g : Graph) (c : Update) (h : Proper g) (ok : refusal g c ≡ 0) (two :
   updated-edge p q = step (decide (isPair (c .u) (c .v) p q))
     where
       step : (isPair (c .u) (c .v) p q ≡ true) ⊎ (isPair (c .u) (c .v) p q ≡ false)
-          → cond (onEdge c && isPair (c .u) (c .v) p q) (eqb (c .kind) 1) (g .edge p q) ≡ cond (isPair (c .u) (c .v) p q) (not (g .edge p q)) (g .edge p q)
+          → cond (onEdge c && isPair (c .u) (c .v) p q) (wanted c) (g .edge p q) ≡ cond (isPair (c .u) (c .v) p q) (not (g .edge p q)) (g .edge p q)
       step (inl x) = rw (two, x) (edge-pair p q x)
       step (inr x) = rw (two, x)
 

@@ -5,7 +5,9 @@ use mathlib.Core.List.{List}
 use Prim.Native.Nat.{ℕ, _+_, _*_, _-_, _%_, _^_, _<_}
 use lib.Dec.{eqb}
 use lib.ListN.{length, getD}
-use Rattle.model.specs.Grouping.{cube}
+use Rattle.model.specs.Lists.{filter, nodes}
+use Rattle.model.specs.Graph.{Graph, maxNodes}
+use Rattle.model.specs.Grouping.{cube, sumCubes}
 use Rattle.model.specs.Tables.{Tables, edgeBit}
 use Rattle.model.specs.Updates.{isPair}
 
@@ -21,13 +23,17 @@ Words t = (i : ℕ) → getD t i 0 < 2 ^ 64
 pub record Flipped (p q : ℕ) (t after : List ℕ) : Type 0 where
   pub size : length after ≡ length t
   pub words : Words t → Words after
-  pub bits : (a b : ℕ) → b < 512 → edgeBit after a b ≡ cond (eqb a p && eqb b q) (not (edgeBit t a b)) (edgeBit t a b)
+  pub bits : (a b : ℕ) → b < maxNodes → edgeBit after a b ≡ cond (eqb a p && eqb b q) (not (edgeBit t a b)) (edgeBit t a b)
 
 -- the edge between u and v is changed, in both rows
 pub record Changed (u v : ℕ) (t after : List ℕ) : Type 0 where
   pub size : length after ≡ length t
   pub words : Words t → Words after
-  pub bits : (a b : ℕ) → b < 512 → edgeBit after a b ≡ cond (isPair u v a b) (not (edgeBit t a b)) (edgeBit t a b)
+  pub bits : (a b : ℕ) → b < maxNodes → edgeBit after a b ≡ cond (isPair u v a b) (not (edgeBit t a b)) (edgeBit t a b)
+
+-- number k of node p's keys: 0 open, 1 closed
+abbrev pub keyOf : Graph → ℕ → ℕ → ℕ
+keyOf g p k = (sumCubes (filter (g .edge p) (nodes (g .nodeCount))) + k * cube p) % 2 ^ 32
 
 -- a key with a cube put in or taken out, wrapping at 32 bits
 unfoldable pub movedKey : Bool → ℕ → ℕ → ℕ

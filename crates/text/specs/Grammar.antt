@@ -8,7 +8,7 @@ use lib.ListN.{length, take, drop}
 use Rattle.model.specs.Graph.{maxUpdates}
 use Rattle.model.specs.Lists.{headOr}
 use Rattle.model.specs.Program.{Input, Line as ModelLine, accepted, change, illFormed, isNumber, refusedAt, valueOf}
-use Rattle.model.specs.Updates.{inThrees}
+use Rattle.model.specs.Updates.{updateNumbers, updatesIn}
 use Rattle.text.specs.declared.Line.{Line}
 use Rattle.text.specs.declared.Line.the-variants.{Change, NoChange}
 use Rattle.text.specs.declared.Number.{Number}
@@ -50,7 +50,7 @@ markChange kind NoNumber = NoChange
 -- the input that each case is, its changes in the first numbers of the batch
 unfoldable pub inputIn : Parsed → List ℕ → Input
 inputIn (Refused line) batch = refusedAt line
-inputIn (Accepted n count) batch = accepted n (inThrees (take (3 * count) batch))
+inputIn (Accepted n count) batch = accepted n (updatesIn (take (updateNumbers * count) batch))
 
 -- how many changes the batch may hold; of a refused input as many as fit
 unfoldable pub used : Parsed → ℕ
@@ -61,4 +61,4 @@ used (Accepted n count) = count
 pub record Told (all : Input) (before after : List ℕ) (r : Parsed) : Type 0 where
   pub input : inputIn r after ≡ all
   pub few : used r ≤ maxUpdates
-  pub beyond : drop (3 * used r) after ≡ drop (3 * used r) before
+  pub beyond : drop (updateNumbers * used r) after ≡ drop (updateNumbers * used r) before

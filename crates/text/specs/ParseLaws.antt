@@ -12,9 +12,11 @@ use borrow.Author.Tests.{le-leb, le-ltb, lt-leb, lt-ltb, ne-eqb}
 use Rattle.model.specs.Graph.{maxNodes, maxUpdates}
 use Rattle.model.specs.Program.{Input, Line as ModelLine, accepted, change, firstLine, illFormed, inputOf, isCount, isNone, isNumber, lineOf, linesFrom, maxBytes, pieces, refusedAt, valueOf, withLine, withUpdate}
 use Rattle.model.specs.TestLaws.{decide}
-use Rattle.model.specs.Updates.{Update, inThrees}
-use Rattle.layout.specs.Wrote.{Wrote}
-use Rattle.layout.specs.WroteLaws.{wrote-then}
+use Rattle.model.specs.Updates.{Update, updateNumbers, updatesIn}
+use Rattle.buffers.specs.Wrote.{Wrote}
+use Rattle.buffers.specs.WroteLaws.{wrote-then}
+use Rattle.buffers.specs.Wrote.{Wrote}
+use Rattle.buffers.specs.WroteLaws.{wrote-then}
 use Rattle.text.specs.declared.Line.{Line}
 use Rattle.text.specs.declared.Line.the-variants.{Change, NoChange}
 use Rattle.text.specs.declared.Number.{Number}
@@ -35,13 +37,13 @@ unfolding numbers
 numbers-append [] b = refl
 numbers-append (c ∷ cs) b = ap (λ (l : List ℕ). c .kind ∷ c .u ∷ c .v ∷ l) (numbers-append cs b)
 
-numbers-length : (cs : List Update) → length (numbers cs) ≡ 3 * length cs
+numbers-length : (cs : List Update) → length (numbers cs) ≡ updateNumbers * length cs
 unfolding numbers
 numbers-length [] = refl
 numbers-length (c ∷ cs) = omega (arith, numbers-length cs)
 
-numbers-back : (cs : List Update) → inThrees (numbers cs) ≡ cs
-unfolding numbers inThrees
+numbers-back : (cs : List Update) → updatesIn (numbers cs) ≡ cs
+unfolding numbers updatesIn
 numbers-back [] = refl
 numbers-back (c ∷ cs) = ap (λ (l : List Update). c ∷ l) (numbers-back cs)
 
@@ -69,13 +71,13 @@ drop-sets (b ∷ bs) s at k h = drop-sets bs (set s at b) (suc at) k (omega arit
 pub record Reading (input before after : List ℕ) (all : Input) (n at count : ℕ) : Type 0 where
   pub within : at ≤ length input
   pub few : count ≤ maxUpdates
-  pub room : 3 * maxUpdates ≤ length before
+  pub room : updateNumbers * maxUpdates ≤ length before
   pub changes : List Update
   pub size : length changes ≡ count
-  pub wrote : Wrote before 0 (numbers changes) after (3 * count)
+  pub wrote : Wrote before 0 (numbers changes) after (updateNumbers * count)
   pub same : following changes (linesFrom n (count + 2) (pieces 0x0A (drop at input))) ≡ all
 
-pub reading-start : (input batch : List ℕ) (n from : ℕ) → from ≤ length input → 3 * maxUpdates ≤ length batch → Reading input batch batch (linesFrom n 2 (pieces 0x0A (drop from input))) n from 0
+pub reading-start : (input batch : List ℕ) (n from : ℕ) → from ≤ length input → updateNumbers * maxUpdates ≤ length batch → Reading input batch batch (linesFrom n 2 (pieces 0x0A (drop from input))) n from 0
 unfolding numbers
 reading-start input batch n from h r = record {
   within = h;
@@ -94,7 +96,7 @@ module _ {input before after : List ℕ} {all : Input} {n at count : ℕ} (x : R
   refused e = record {
     input = sym (ap (following (x .changes)) e) ∙ x .same;
     few = omega arith;
-    beyond = ap (drop (3 * maxUpdates)) (x .wrote .bytes) ∙ drop-sets (numbers (x .changes)) before 0 (3 * maxUpdates) (omega (arith, numbers-length (x .changes), x .size, x .few));
+    beyond = ap (drop (updateNumbers * maxUpdates)) (x .wrote .bytes) ∙ drop-sets (numbers (x .changes)) before 0 (updateNumbers * maxUpdates) (omega (arith, numbers-length (x .changes), x .size, x .few));
   }
 
   rest-length : length (drop at input) ≡ length input - at
@@ -143,7 +145,7 @@ module _ {input before after : List ℕ} {all : Input} {n at count : ℕ} (x : R
 
   -- a change
   pub reading-step : {r : Line} {batch : List ℕ} (u kind p q : ℕ) → u ≡ upTo 0x0A (take (length input - at) (drop at input)) → (at + u ≡ length input → ⊥) → (count ≡ maxUpdates → ⊥)
-      → lineIn r ≡ lineOf (take (at + u - at) (drop at input)) → r ≡ Change kind p q → Wrote after (3 * count) (kind ∷ p ∷ q ∷ []) batch (3 * (count + 1)) → Reading input before batch all n (at + u + 1) (count + 1)
+      → lineIn r ≡ lineOf (take (at + u - at) (drop at input)) → r ≡ Change kind p q → Wrote after (updateNumbers * count) (kind ∷ p ∷ q ∷ []) batch (updateNumbers * (count + 1)) → Reading input before batch all n (at + u + 1) (count + 1)
   reading-step {r} {batch} u kind p q e l f t y w = record {
     within = omega (arith, e, l, upTo-le 0x0A (take (length input - at) (drop at input)), ap length (part-from at input), rest-length, x .within);
     few = omega (arith, f, x .few);
@@ -169,18 +171,18 @@ module _ {input before after : List ℕ} {all : Input} {n at count : ℕ} (x : R
   pub reading-done : length input ≤ at → Told all before after (Accepted n count)
   unfolding following inputIn used
   reading-done h = record {
-    input = ap (accepted n) (ap inThrees front ∙ numbers-back (x .changes)) ∙ sym (ap (accepted n) (append-nil (x .changes))) ∙ sym (ap (following (x .changes)) none) ∙ x .same;
+    input = ap (accepted n) (ap updatesIn front ∙ numbers-back (x .changes)) ∙ sym (ap (accepted n) (append-nil (x .changes))) ∙ sym (ap (following (x .changes)) none) ∙ x .same;
     few = x .few;
-    beyond = ap (drop (3 * count)) (x .wrote .bytes) ∙ drop-sets (numbers (x .changes)) before 0 (3 * count) (omega (arith, numbers-length (x .changes), x .size));
+    beyond = ap (drop (updateNumbers * count)) (x .wrote .bytes) ∙ drop-sets (numbers (x .changes)) before 0 (updateNumbers * count) (omega (arith, numbers-length (x .changes), x .size));
   }
     where
-      long : length (numbers (x .changes)) ≡ 3 * count
+      long : length (numbers (x .changes)) ≡ updateNumbers * count
       long = omega (arith, numbers-length (x .changes), x .size)
 
-      front : take (3 * count) after ≡ numbers (x .changes)
+      front : take (updateNumbers * count) after ≡ numbers (x .changes)
       front =
-          ap (take (3 * count)) (x .wrote .bytes ∙ sets-eq (numbers (x .changes)) before 0 (omega (arith, long, x .room, x .few)))
-          ∙ take-at (numbers (x .changes)) (drop (0 + length (numbers (x .changes))) before) (3 * count) long
+          ap (take (updateNumbers * count)) (x .wrote .bytes ∙ sets-eq (numbers (x .changes)) before 0 (omega (arith, long, x .room, x .few)))
+          ∙ take-at (numbers (x .changes)) (drop (0 + length (numbers (x .changes))) before) (updateNumbers * count) long
 
       none : linesFrom n (count + 2) (pieces 0x0A (drop at input)) ≡ accepted n []
       none = rw (drop-of-length-le input h) (unfold linesFrom pieces isNone in refl)
@@ -190,10 +192,10 @@ pub end-within : (input : List ℕ) (at u : ℕ) → at ≤ length input → u �
 end-within input at u h e = omega (arith, e, upTo-le 0x0A (take (length input - at) (drop at input)), ap length (part-from at input), length-drop at input)
 
 -- one change is written
-pub three-wrote : (batch : List ℕ) (count kind u v : ℕ) → Wrote batch (3 * count) (kind ∷ u ∷ v ∷ []) (set (set (set batch (3 * count) kind) (3 * count + 1) u) (3 * count + 2) v) (3 * (count + 1))
-three-wrote batch count kind u v =
-    let a : 3 * count + 1 ≡ suc (3 * count) = omega arith in
-    let b : 3 * count + 2 ≡ suc (suc (3 * count)) = omega arith in
+pub change-wrote : (batch : List ℕ) (count kind u v : ℕ) → Wrote batch (updateNumbers * count) (kind ∷ u ∷ v ∷ []) (set (set (set batch (updateNumbers * count) kind) (updateNumbers * count + 1) u) (updateNumbers * count + 2) v) (updateNumbers * (count + 1))
+change-wrote batch count kind u v =
+    let a : updateNumbers * count + 1 ≡ suc (updateNumbers * count) = omega arith in
+    let b : updateNumbers * count + 2 ≡ suc (suc (updateNumbers * count)) = omega arith in
     rw (a, b) (record { bytes = refl; place = omega arith })
 
 -- what the case of a number tells

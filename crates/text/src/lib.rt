@@ -5,8 +5,9 @@ ghost use mathlib.Core.List.{[], _∷_};
 ghost use Prim.Native.Nat.{_+_, _*_, _≤_, _<_};
 ghost use lib.ListN.{length, drop};
 ghost use Rattle.model.specs.Graph.{maxUpdates};
+ghost use Rattle.model.specs.Updates.{updateNumbers};
 ghost use Rattle.model.specs.Program.{edgeLine, inputOf, lineOf, linesFrom, markLine, pieces};
-ghost use Rattle.layout.specs.Wrote.{Wrote};
+ghost use Rattle.buffers.specs.Wrote.{Wrote};
 ghost use Rattle.text.specs.Grammar.{Told, digitOf, edgeChange, lineIn, markChange, numberOf, shape, upTo};
 
 // Longer input is refused.
@@ -159,10 +160,10 @@ fn read_line(s: &[u8]) -> Line
 
 // A change into the batch, after `count` others.
 fn put_change(batch: &mut [u16], count: usize, kind: u16, u: u16, v: u16)
-    requires { ⌜ (count < maxUpdates) × (3 * maxUpdates ≤ length (now batch)) ⌝ }
-    ensures { λ _. ⌜ Wrote (now (batch .entry)) (3 * count) (kind ∷ u ∷ v ∷ []) (now (batch .exit)) (3 * (count + 1)) ⌝ }
+    requires { ⌜ (count < maxUpdates) × (updateNumbers * maxUpdates ≤ length (now batch)) ⌝ }
+    ensures { λ _. ⌜ Wrote (now (batch .entry)) (updateNumbers * count) (kind ∷ u ∷ v ∷ []) (now (batch .exit)) (updateNumbers * (count + 1)) ⌝ }
 {
-    let at = 3 * count;
+    let at = Graph::UPDATE_NUMBERS * count;
     batch[at] = kind;
     batch[at + 1] = u;
     batch[at + 2] = v;
@@ -170,7 +171,7 @@ fn put_change(batch: &mut [u16], count: usize, kind: u16, u: u16, v: u16)
 
 // The lines after the first, from the place `from` on.
 fn read_lines(input: &[u8], from: usize, n: usize, batch: &mut [u16]) -> Parsed
-    requires { ⌜ (from ≤ length (now input)) × (3 * maxUpdates ≤ length (now batch)) ⌝ }
+    requires { ⌜ (from ≤ length (now input)) × (updateNumbers * maxUpdates ≤ length (now batch)) ⌝ }
     ensures { λ r. ⌜ Told (linesFrom n 2 (pieces 0x0A (drop from (now (input .entry))))) (now (batch .entry)) (now (batch .exit)) r ⌝ }
 {
     let mut at = from;
@@ -196,7 +197,7 @@ fn read_lines(input: &[u8], from: usize, n: usize, batch: &mut [u16]) -> Parsed
 
 // The program's whole input. Its changes go to the batch, three numbers for each, which has room for 4,096 of them.
 pub fn parse(input: &[u8], batch: &mut [u16]) -> Parsed
-    requires { ⌜ 3 * maxUpdates ≤ length (now batch) ⌝ }
+    requires { ⌜ updateNumbers * maxUpdates ≤ length (now batch) ⌝ }
     ensures { λ r. ⌜ Told (inputOf (now (input .entry))) (now (batch .entry)) (now (batch .exit)) r ⌝ }
 {
     if input.len() > INPUT_BYTES {

@@ -64,7 +64,7 @@ fn push_random(batch: &mut [u16], count: usize, seed: u64, times: u64, span: u64
 }
 
 // Lines that change the batch, and apply, which empties it: how many numbers it has then.
-pub fn obey(command: u8, line: &[u64; 7], batch: &mut [u16], count: usize) -> usize {
+pub fn execute(command: u8, line: &[u64; 7], batch: &mut [u16], count: usize) -> usize {
     match command {
         b'u' => push_update(batch, count, line[1], line[2], line[3]),
         b'e' => push(batch, count, line[1]),

@@ -30,7 +30,13 @@ fn put_key(keys: &mut [u32], i: u64, x: u64) {
 }
 
 // Lines that change the tables behind the index's back.
-pub fn obey(command: u8, line: &[u64; 7], edges: &mut [u64], nodes: &mut [u16], keys: &mut [u32]) {
+pub fn execute(
+    command: u8,
+    line: &[u64; 7],
+    edges: &mut [u64],
+    nodes: &mut [u16],
+    keys: &mut [u32],
+) {
     match command {
         b'f' => flip(edges, line[1], line[2]),
         b'p' => put(nodes, line[1], line[2]),

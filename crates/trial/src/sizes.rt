@@ -26,7 +26,7 @@ fn set_lengths(line: &[u64; 7], set: &mut [u64; 5]) {
 }
 
 // Lines that set sizes.
-pub fn obey(command: u8, line: &[u64; 7], set: &mut [u64; 5]) {
+pub fn execute(command: u8, line: &[u64; 7], set: &mut [u64; 5]) {
     match command {
         b's' => set_size(line, set),
         b'l' => set_lengths(line, set),

@@ -10,8 +10,8 @@ use lib.Count.{ones}
 use lib.ListN.{getD, length}
 use Rattle.model.specs.Tables.{edgeBit}
 use Rattle.layout.specs.File.{later}
-use Rattle.layout.specs.Scan.{Counting, scan}
-use Rattle.layout.specs.ScanLaws.{counting-done, counting-start, scan-length}
+use Rattle.buffers.specs.Scan.{Counting, scan}
+use Rattle.buffers.specs.ScanLaws.{counting-done, counting-start, scan-length}
 use Rattle.layout.specs.WordLaws.{counting-word, later-total}
 use Rattle.layout.specs.Words.{Marked, laterWord, marked}
 

@@ -4,23 +4,25 @@ ghost use mathlib.Core.List.{[], _∷_};
 ghost use Prim.Native.Nat.{_+_, _*_, _-_, _≤_, _<_};
 ghost use lib.Count.{ones};
 ghost use lib.ListN.{length, getD};
+ghost use Rattle.model.specs.Graph.{maxNodes, rowWords};
 ghost use Rattle.model.specs.Tables.{edgeBit};
-ghost use Rattle.model.specs.Release.{u16, headRecord, superedgeRecord};
+ghost use Rattle.model.specs.Release.{headRecord, superedgeRecord, u16, u16Limit};
 ghost use Rattle.rows.specs.Rows.{Words};
-ghost use Rattle.layout.specs.Wrote.{Wrote};
-ghost use Rattle.layout.specs.Scan.{scan};
-ghost use Rattle.layout.specs.File.{Ahead, Linked, Partition, Rows, chain, fileNodes, fileOf, firstTwo, groupBytes, groupMark, groupsBytes, inGroup, later, leadersOf, leads, superedgeBytes, superedgeTotal, superedgesTo, u16s, writtenFile};
+ghost use Rattle.buffers.specs.Wrote.{Wrote};
+ghost use Rattle.buffers.specs.Scan.{scan};
+ghost use Rattle.layout.specs.File.{Ahead, Linked, Partition, Rows, chain, fileNodes, fileOf, firstTwo, groupBytes, groupMark, groupsBytes, inGroup, later, leadersOf, leads, superedgeBytes, superedgeTotal, superedgesTo, u16Bytes, writtenFile};
 ghost use Rattle.layout.specs.Words.{Leading, Marked, Placed, Rowed, laterWord, marked, positionsOf};
 ghost use Rattle.writer.specs.Written.{Measured, answer};
+use rows::Graph;
 
 // Stands for no node: after the last member of a group, and at hidden nodes.
 const NONE: u16 = 65535;
 
-fn wide(x: u16) -> usize
-    ensures { λ r. ⌜ r ≡ x ⌝ }
-{
-    x as usize
-}
+// The mark and the count before the members of a group.
+const GROUP_HEAD: usize = 4;
+
+// The greatest node that there can be.
+const LAST: usize = Graph::NODES - 1;
 
 // The two bytes of a mark; the place after them.
 fn put_mark(out: &mut [u8], at: usize, mark: &[u8; 2]) -> usize
@@ -34,7 +36,7 @@ fn put_mark(out: &mut [u8], at: usize, mark: &[u8; 2]) -> usize
 
 // A number of 16 bits, low byte first; the place after it.
 fn put_u16(out: &mut [u8], at: usize, v: usize) -> usize
-    requires { ⌜ (v < 65536) × (at + 2 ≤ length (now out)) ⌝ }
+    requires { ⌜ (v < u16Limit) × (at + 2 ≤ length (now out)) ⌝ }
     ensures { λ r. ⌜ Wrote (now (out .entry)) at (u16 v) (now (out .exit)) r ⌝ }
 {
     out[at] = (v % 256) as u8;
@@ -44,7 +46,7 @@ fn put_u16(out: &mut [u8], at: usize, v: usize) -> usize
 
 // The head: nodes n, visible nodes m, groups g.
 fn write_head(out: &mut [u8], at: usize, n: usize, m: usize, g: usize) -> usize
-    requires { ⌜ (n < 65536) × (m < 65536) × (g < 65536) × (at + 8 ≤ length (now out)) ⌝ }
+    requires { ⌜ (n < u16Limit) × (m < u16Limit) × (g < u16Limit) × (at + 8 ≤ length (now out)) ⌝ }
     ensures { λ r. ⌜ Wrote (now (out .entry)) at (headRecord n m g) (now (out .exit)) r ⌝ }
 {
     let a = put_mark(out, at, b"HD");
@@ -64,7 +66,7 @@ fn put_group_mark(out: &mut [u8], at: usize, clique: bool) -> usize
 }
 
 fn put_superedge(out: &mut [u8], at: usize, i: usize, j: usize) -> usize
-    requires { ⌜ (i < 65536) × (j < 65536) × (at + 6 ≤ length (now out)) ⌝ }
+    requires { ⌜ (i < u16Limit) × (j < u16Limit) × (at + 6 ≤ length (now out)) ⌝ }
     ensures { λ r. ⌜ Wrote (now (out .entry)) at (superedgeRecord (i, j)) (now (out .exit)) r ⌝ }
 {
     let a = put_mark(out, at, b"SE");
@@ -75,14 +77,14 @@ fn put_superedge(out: &mut [u8], at: usize, i: usize, j: usize) -> usize
 // The members of a group from `first` on, by the table of next members.
 fn write_members(out: &mut [u8], at: usize, next: &[u16], n: usize, first: usize) -> usize
     requires { ⌜ Ahead n (now next) ⌝ }
-    requires { ⌜ at + length (u16s (chain n (now next) n first)) ≤ length (now out) ⌝ }
-    ensures { λ r. ⌜ Wrote (now (out .entry)) at (u16s (chain n (now (next .entry)) n first)) (now (out .exit)) r ⌝ }
+    requires { ⌜ at + length (u16Bytes (chain n (now next) n first)) ≤ length (now out) ⌝ }
+    ensures { λ r. ⌜ Wrote (now (out .entry)) at (u16Bytes (chain n (now (next .entry)) n first)) (now (out .exit)) r ⌝ }
 {
     let mut to = at;
     let mut q = first;
     while q < n {
         to = put_u16(out, to, q);
-        q = wide(next[q]);
+        q = rows::wide(next[q]);
     }
     to
 }
@@ -90,10 +92,10 @@ fn write_members(out: &mut [u8], at: usize, next: &[u16], n: usize, first: usize
 // The first two members of a group tell whether it is a clique.
 fn is_clique(next: &[u16], n: usize, edges: &[u64], l: usize) -> bool
     requires { ⌜ Ahead n (now next) ⌝ }
-    requires { ⌜ (l < n) × (8 * n ≤ length (now edges)) ⌝ }
+    requires { ⌜ (l < n) × (rowWords * n ≤ length (now edges)) ⌝ }
     ensures { λ r. ⌜ r ≡ firstTwo (edgeBit (now (edges .entry))) (chain n (now (next .entry)) n l) ⌝ }
 {
-    let second = wide(next[l]);
+    let second = rows::wide(next[l]);
     if second < n {
         return rows::edge(edges, l, second);
     }
@@ -103,14 +105,14 @@ fn is_clique(next: &[u16], n: usize, edges: &[u64], l: usize) -> bool
 // The group whose least member is l. Its count is known once the members stand.
 fn write_group(out: &mut [u8], at: usize, next: &[u16], n: usize, edges: &[u64], l: usize) -> usize
     requires { ⌜ Ahead n (now next) ⌝ }
-    requires { ⌜ (l < n) × (8 * n ≤ length (now edges)) ⌝ }
+    requires { ⌜ (l < n) × (rowWords * n ≤ length (now edges)) ⌝ }
     requires { ⌜ at + length (groupBytes (edgeBit (now edges)) (chain n (now next) n l)) ≤ length (now out) ⌝ }
     ensures { λ r. ⌜ Wrote (now (out .entry)) at (groupBytes (edgeBit (now (edges .entry))) (chain n (now (next .entry)) n l)) (now (out .exit)) r ⌝ }
 {
-    let to = write_members(out, at + 4, next, n, l);
+    let to = write_members(out, at + GROUP_HEAD, next, n, l);
     let clique = is_clique(next, n, edges, l);
     let a = put_group_mark(out, at, clique);
-    put_u16(out, a, (to - at - 4) / 2);
+    put_u16(out, a, (to - at - GROUP_HEAD) / 2);
     to
 }
 
@@ -130,14 +132,14 @@ fn write_groups(
 {
     let mut to = at;
     for i in 0..leaders.len() {
-        to = write_group(out, to, next, n, edges, wide(leaders[i]));
+        to = write_group(out, to, next, n, edges, rows::wide(leaders[i]));
     }
     to
 }
 
 // Of the word that holds node q's bit, the nodes from q on that are in the set and have an edge to p.
-fn later_word(edges: &[u64], set: &[u64; 8], p: usize, q: usize) -> u64
-    requires { ⌜ (p < 512) × (q < 512) × (8 * p + 8 ≤ length (now edges)) ⌝ }
+fn later_word(edges: &[u64], set: &[u64; Graph::ROW_WORDS], p: usize, q: usize) -> u64
+    requires { ⌜ (p < maxNodes) × (q < maxNodes) × (rowWords * p + rowWords ≤ length (now edges)) ⌝ }
     ensures { λ r. ⌜ r ≡ laterWord (now (edges .entry)) (now (set .entry)) p q ⌝ }
 {
     let t = rows::bit_of(q);
@@ -146,7 +148,7 @@ fn later_word(edges: &[u64], set: &[u64; 8], p: usize, q: usize) -> u64
 
 // The superedges of the i-th group to the groups of the nodes b + k, for the bits k of a word, lowest first.
 fn write_word(out: &mut [u8], at: usize, position: &[u16], i: usize, b: usize, x: u64) -> usize
-    requires { ⌜ (i < 65536) × (b + 64 ≤ length (now position)) ⌝ }
+    requires { ⌜ (i < u16Limit) × (b + 64 ≤ length (now position)) ⌝ }
     requires { ⌜ at + length (superedgesTo i (positionsOf (now position) b x)) ≤ length (now out) ⌝ }
     ensures { λ r. ⌜ Wrote (now (out .entry)) at (superedgesTo i (positionsOf (now (position .entry)) b x)) (now (out .exit)) r ⌝ }
 {
@@ -154,7 +156,7 @@ fn write_word(out: &mut [u8], at: usize, position: &[u16], i: usize, b: usize, x
     let mut rest = x;
     while rest != 0 {
         let z = u64::trailing_zeros(rest) as usize;
-        to = put_superedge(out, to, i, wide(position[b + z]));
+        to = put_superedge(out, to, i, rows::wide(position[b + z]));
         rest = rest & (rest - 1);
     }
     to
@@ -166,7 +168,7 @@ fn write_superedges_of(
     at: usize,
     edges: &[u64],
     leaders: &[u16],
-    set: &[u64; 8],
+    set: &[u64; Graph::ROW_WORDS],
     position: &[u16],
     i: usize,
 ) -> usize
@@ -176,10 +178,10 @@ fn write_superedges_of(
     requires { ⌜ at + length (superedgesTo i (later (edgeBit (now edges)) (now leaders) i)) ≤ length (now out) ⌝ }
     ensures { λ r. ⌜ Wrote (now (out .entry)) at (superedgesTo i (later (edgeBit (now (edges .entry))) (now (leaders .entry)) i)) (now (out .exit)) r ⌝ }
 {
-    let p = wide(leaders[i]);
+    let p = rows::wide(leaders[i]);
     let mut to = at;
     let mut q = p + 1;
-    while q < 512 {
+    while q < Graph::NODES {
         let w = rows::word_of(q);
         let x = later_word(edges, set, p, q);
         to = write_word(out, to, position, i, 64 * w, x);
@@ -193,7 +195,7 @@ fn write_superedges(
     at: usize,
     edges: &[u64],
     leaders: &[u16],
-    set: &[u64; 8],
+    set: &[u64; Graph::ROW_WORDS],
     position: &[u16],
 ) -> usize
     requires { ⌜ Rowed (now edges) (now leaders) ⌝ }
@@ -210,7 +212,7 @@ fn write_superedges(
 
 // A count and the bits of a word, of which most have none.
 fn add_ones(count: usize, x: u64) -> usize
-    requires { ⌜ count ≤ 512 ⌝ }
+    requires { ⌜ count ≤ maxNodes ⌝ }
     ensures { λ r. ⌜ r ≡ count + ones x ⌝ }
 {
     if x == 0 {
@@ -220,14 +222,14 @@ fn add_ones(count: usize, x: u64) -> usize
 }
 
 // The nodes of a set, from word `from` on, that have an edge to p.
-fn count_words(edges: &[u64], set: &[u64; 8], p: usize, from: usize) -> usize
-    requires { ⌜ (p < 512) × (from ≤ 8) × (8 * p + 8 ≤ length (now edges)) × Words (now set) ⌝ }
-    ensures { λ r. ⌜ r ≡ length (scan (marked (now (edges .entry)) (now (set .entry)) p) 512 (64 * from)) ⌝ }
+fn count_words(edges: &[u64], set: &[u64; Graph::ROW_WORDS], p: usize, from: usize) -> usize
+    requires { ⌜ (p < maxNodes) × (from ≤ rowWords) × (rowWords * p + rowWords ≤ length (now edges)) × Words (now set) ⌝ }
+    ensures { λ r. ⌜ r ≡ length (scan (marked (now (edges .entry)) (now (set .entry)) p) maxNodes (64 * from)) ⌝ }
 {
-    let a = 8 * p;
+    let a = Graph::ROW_WORDS * p;
     let mut count: usize = 0;
     let mut w = from;
-    while w < 8 {
+    while w < Graph::ROW_WORDS {
         count = add_ones(count, set[w] & edges[a + w]);
         w += 1;
     }
@@ -235,14 +237,19 @@ fn count_words(edges: &[u64], set: &[u64; 8], p: usize, from: usize) -> usize
 }
 
 // The superedges of the i-th group to later groups.
-fn count_superedges_of(edges: &[u64], leaders: &[u16], set: &[u64; 8], i: usize) -> usize
+fn count_superedges_of(
+    edges: &[u64],
+    leaders: &[u16],
+    set: &[u64; Graph::ROW_WORDS],
+    i: usize,
+) -> usize
     requires { ⌜ Rowed (now edges) (now leaders) ⌝ }
     requires { ⌜ Marked (now leaders) (now set) ⌝ }
     requires { ⌜ i < length (now leaders) ⌝ }
     ensures { λ r. ⌜ r ≡ length (later (edgeBit (now (edges .entry))) (now (leaders .entry)) i) ⌝ }
 {
-    let p = wide(leaders[i]);
-    if p == 511 {
+    let p = rows::wide(leaders[i]);
+    if p == LAST {
         return 0;
     }
     let first = add_ones(0, later_word(edges, set, p, p + 1));
@@ -250,10 +257,10 @@ fn count_superedges_of(edges: &[u64], leaders: &[u16], set: &[u64; 8], i: usize)
 }
 
 // All superedges.
-fn count_superedges(edges: &[u64], leaders: &[u16], set: &[u64; 8]) -> usize
+fn count_superedges(edges: &[u64], leaders: &[u16], set: &[u64; Graph::ROW_WORDS]) -> usize
     requires { ⌜ Rowed (now edges) (now leaders) ⌝ }
     requires { ⌜ Marked (now leaders) (now set) ⌝ }
-    ensures { λ r. ⌜ (r ≡ superedgeTotal (edgeBit (now (edges .entry))) (now (leaders .entry))) × (r ≤ 262144) ⌝ }
+    ensures { λ r. ⌜ (r ≡ superedgeTotal (edgeBit (now (edges .entry))) (now (leaders .entry))) × (r ≤ maxNodes * maxNodes) ⌝ }
 {
     let mut count: usize = 0;
     for i in 0..leaders.len() {
@@ -264,12 +271,12 @@ fn count_superedges(edges: &[u64], leaders: &[u16], set: &[u64; 8]) -> usize
 
 // The visible nodes.
 fn count_visible(least: &[u16], n: usize) -> usize
-    requires { ⌜ (n ≤ 512) × (n ≤ length (now least)) ⌝ }
+    requires { ⌜ (n ≤ maxNodes) × (n ≤ length (now least)) ⌝ }
     ensures { λ r. ⌜ r ≡ length (scan (inGroup (now (least .entry)) n) n 0) ⌝ }
 {
     let mut m: usize = 0;
     for p in 0..n {
-        if wide(least[p]) < n {
+        if rows::wide(least[p]) < n {
             m += 1;
         }
     }
@@ -278,12 +285,12 @@ fn count_visible(least: &[u16], n: usize) -> usize
 
 // The least members of the groups, ascending; how many.
 fn collect_leaders(least: &[u16], n: usize, leaders: &mut [u16]) -> usize
-    requires { ⌜ (n ≤ 512) × (n ≤ length (now least)) × (n ≤ length (now leaders)) ⌝ }
+    requires { ⌜ (n ≤ maxNodes) × (n ≤ length (now least)) × (n ≤ length (now leaders)) ⌝ }
     ensures { λ r. ⌜ Wrote (now (leaders .entry)) 0 (scan (leads (now (least .entry))) n 0) (now (leaders .exit)) r ⌝ }
 {
     let mut g: usize = 0;
     for p in 0..n {
-        if wide(least[p]) == p {
+        if rows::wide(least[p]) == p {
             leaders[g] = p as u16;
             g += 1;
         }
@@ -292,13 +299,13 @@ fn collect_leaders(least: &[u16], n: usize, leaders: &mut [u16]) -> usize
 }
 
 // The least members as a set of bits.
-fn leader_set(least: &[u16], n: usize) -> [u64; 8]
-    requires { ⌜ (n ≤ 512) × (n ≤ length (now least)) ⌝ }
+fn leader_set(least: &[u16], n: usize) -> [u64; Graph::ROW_WORDS]
+    requires { ⌜ (n ≤ maxNodes) × (n ≤ length (now least)) ⌝ }
     ensures { λ r. ⌜ Marked (leadersOf n (now (least .entry))) r ⌝ }
 {
-    let mut set = [0u64; 8];
+    let mut set = [0u64; Graph::ROW_WORDS];
     for p in 0..n {
-        if wide(least[p]) == p {
+        if rows::wide(least[p]) == p {
             let w = rows::word_of(p);
             set[w] = set[w] ^ rows::mask(p);
         }
@@ -307,27 +314,27 @@ fn leader_set(least: &[u16], n: usize) -> [u64; 8]
 }
 
 // The position of each leader.
-fn positions_of(leaders: &[u16]) -> [u16; 512]
+fn positions_of(leaders: &[u16]) -> [u16; Graph::NODES]
     requires { ⌜ Leading (now leaders) ⌝ }
     ensures { λ r. ⌜ Placed (now (leaders .entry)) r ⌝ }
 {
-    let mut position = [0u16; 512];
+    let mut position = [0u16; Graph::NODES];
     for i in 0..leaders.len() {
-        position[wide(leaders[i])] = i as u16;
+        position[rows::wide(leaders[i])] = i as u16;
     }
     position
 }
 
 // The next greater member of each node's group, NONE after the last and at nodes of no group.
 fn link(least: &[u16], n: usize, next: &mut [u16])
-    requires { ⌜ (n ≤ 512) × (n ≤ length (now least)) × (n ≤ length (now next)) ⌝ }
+    requires { ⌜ (n ≤ maxNodes) × (n ≤ length (now least)) × (n ≤ length (now next)) ⌝ }
     ensures { λ _. ⌜ Linked n (now (least .entry)) (now (next .exit)) ⌝ }
 {
-    let mut head = [NONE; 512];
+    let mut head = [NONE; Graph::NODES];
     let mut p = n;
     while 0 < p {
         p -= 1;
-        let l = wide(least[p]);
+        let l = rows::wide(least[p]);
         if l < n {
             next[p] = head[l];
             head[l] = p as u16;
@@ -344,7 +351,7 @@ fn write_file(
     least: &[u16],
     edges: &[u64],
     leaders: &[u16],
-    set: &[u64; 8],
+    set: &[u64; Graph::ROW_WORDS],
     out: &mut [u8],
 ) -> usize
     requires { ⌜ Partition n (now least) (now edges) ⌝ }
@@ -353,7 +360,7 @@ fn write_file(
     requires { ⌜ length (fileOf n (now least) (now edges)) ≤ length (now out) ⌝ }
     ensures { λ r. ⌜ Wrote (now (out .entry)) 0 (fileOf n (now (least .entry)) (now (edges .entry))) (now (out .exit)) r ⌝ }
 {
-    let mut next = [NONE; 512];
+    let mut next = [NONE; Graph::NODES];
     link(least, n, &mut next);
     let position = positions_of(leaders);
     let a = write_head(out, 0, n, m, leaders.len());
@@ -368,12 +375,12 @@ pub struct Sizes {
     pub groups: usize,
     pub superedges: usize,
     pub bytes: usize,
-    pub set: [u64; 8],
+    pub set: [u64; Graph::ROW_WORDS],
 }
 
 // A file measured, and the least members in a list.
 fn measure(n: usize, least: &[u16], edges: &[u64], leaders: &mut [u16]) -> Sizes
-    requires { ⌜ Partition n (now least) (now edges) × (length (now leaders) ≡ 512) ⌝ }
+    requires { ⌜ Partition n (now least) (now edges) × (length (now leaders) ≡ maxNodes) ⌝ }
     ensures { λ r. ⌜ Measured n (now (least .entry)) (now (edges .entry)) (now (leaders .exit)) r ⌝ }
 {
     let g = collect_leaders(least, n, leaders);
@@ -384,7 +391,7 @@ fn measure(n: usize, least: &[u16], edges: &[u64], leaders: &mut [u16]) -> Sizes
         nodes: m,
         groups: g,
         superedges: s,
-        bytes: 10 + 4 * g + 2 * m + 6 * s,
+        bytes: 10 + GROUP_HEAD * g + 2 * m + 6 * s,
         set,
     }
 }
@@ -403,7 +410,7 @@ pub fn write(n: usize, least: &[u16], edges: &[u64], out: &mut [u8]) -> Written
     requires { ⌜ Partition n (now least) (now edges) ⌝ }
     ensures { λ r. ⌜ answer r (now (out .exit)) ≡ writtenFile n (now (least .entry)) (now (edges .entry)) (now (out .entry)) ⌝ }
 {
-    let mut leaders = [0u16; 512];
+    let mut leaders = [0u16; Graph::NODES];
     let measured = measure(n, least, edges, &mut leaders);
     if out.len() < measured.bytes {
         return Written {

@@ -2,7 +2,7 @@
 use native.Mathlib.Omega.{arith}
 use borrow.Author.Needs.{needs}
 use Rattle.rows.specs.Rows.{lent}
-use Rattle.checks.specs.StepLaws.{failed, passed}
+use Rattle.buffers.specs.AllLaws.{failed, passed}
 use Rattle.checks.specs.HoldLaws.{hold-leaders, hold-nodes, hold-rows, hold-twins, rows-ready}
 use Rattle.checks.proofs.hold.Statement.{statement}
 use Rattle.checks.proofs.hold.Tie as tie

@@ -2,7 +2,7 @@
 use mathlib.Core.Path.{sym, _∙_}
 use native.Mathlib.Omega.{arith}
 use borrow.Author.Needs.{needs}
-use Rattle.rows.specs.SearchLaws.{ready-keys}
+use Rattle.search.specs.SearchLaws.{ready-keys}
 use Rattle.checks.specs.SlotLaws.{alone-fresh, seen-leader, seen-member}
 use Rattle.checks.specs.StepLaws.{alone-leader, alone-member}
 use Rattle.checks.proofs.is_alone.Statement.{statement}

@@ -6,8 +6,9 @@ use native.Mathlib.Omega.{arith}
 use lib.ListN.{length-replicate}
 use borrow.Author.Count.{below-more, below-none}
 use Rattle.checks.specs.Checks.{alone, leadersApart}
-use Rattle.checks.specs.SlotLaws.{Seen, seen-none}
-use Rattle.checks.specs.StepLaws.{all-fail, all-pass, failed, passed}
+use Rattle.checks.specs.SlotLaws.{seen-none}
+use Rattle.checks.specs.Slots.{Seen}
+use Rattle.buffers.specs.AllLaws.{all-fail, all-pass, failed, passed}
 use Rattle.checks.proofs.leaders_apart.Statement.{statement}
 use Rattle.checks.proofs.leaders_apart.Tie as tie
 

@@ -5,7 +5,7 @@ use Prim.Native.Nat.{ℕ, _-_, _≤_, _<_}
 use native.Mathlib.Omega.{arith}
 use borrow.Author.Count.{below-more, below-none}
 use Rattle.checks.specs.Checks.{nodeHolds, nodesHold}
-use Rattle.checks.specs.StepLaws.{all-fail, all-pass, failed, passed}
+use Rattle.buffers.specs.AllLaws.{all-fail, all-pass, failed, passed}
 use Rattle.checks.proofs.nodes_hold.Statement.{statement}
 use Rattle.checks.proofs.nodes_hold.Tie as tie
 

@@ -6,7 +6,8 @@ use native.Mathlib.Omega.{arith}
 use borrow.Author.Count.{below-more, below-none}
 use Rattle.model.specs.Tables.{nodeNumber}
 use Rattle.checks.specs.Checks.{twinOf, twinsHold}
-use Rattle.checks.specs.StepLaws.{all-fail, all-pass, failed, passed, twin-told}
+use Rattle.checks.specs.StepLaws.{twin-told}
+use Rattle.buffers.specs.AllLaws.{all-fail, all-pass, failed, passed}
 use Rattle.checks.proofs.twins_hold.Statement.{statement}
 use Rattle.checks.proofs.twins_hold.Tie as tie
 

@@ -2,8 +2,8 @@
 use borrow.Author.Needs.{needs}
 use native.Mathlib.Omega.{arith}
 use mathlib.Core.Path.{subst, sym, _∙_}
-use Rattle.rings.specs.Steps.{Parted, Heir}
-use Rattle.rings.specs.StoreLaws.{heir-below, heir-leads, taken-by}
+use Rattle.rings.specs.Steps.{OthersLeft, NewLeast}
+use Rattle.rings.specs.StoreLaws.{new-least-below, new-least-leads, taken-by}
 use Rattle.groups.proofs.take_out.Statement.{statement}
 use Rattle.groups.proofs.take_out.Tie as tie
 
@@ -16,11 +16,11 @@ number-requires-2 c κs = search needs
 number-requires-3 : tie.Need-number-requires-3
 number-requires-3 c κs = search needs
 
-parted-requires : tie.Need-parted-requires
-parted-requires c κs = search needs
+others-left-requires : tie.Need-others-left-requires
+others-left-requires c κs = search needs
 
-heir-requires : tie.Need-heir-requires
-heir-requires c κs = search needs
+new-least-requires : tie.Need-new-least-requires
+new-least-requires c κs = search needs
 
 rename-requires : tie.Need-rename-requires
 rename-requires c κs =
@@ -29,7 +29,7 @@ rename-requires c κs =
     let b = l .before .before in
     let s = b .before .before .before .before .before in
     let i = s .pre .0 .next (s .args .u) (s .pre .1) in
-    (s .pre .0, s .pre .1, heir-below (h .heir .ensures) (s .pre .1) (omega (arith, b .number2 .ensures)), λ ne. sym (l .number3 .ensures) ∙ heir-leads (h .heir .ensures) ne)
+    (s .pre .0, s .pre .1, new-least-below (h .new-least .ensures) (s .pre .1) (omega (arith, b .number2 .ensures)), λ ne. sym (l .number3 .ensures) ∙ new-least-leads (h .new-least .ensures) ne)
 
 link-requires : tie.Need-link-requires
 link-requires c κs =
@@ -57,8 +57,8 @@ returns c =
     let b = l .before .before in
     let a = b .before .before in
     let s = a .before .before .before in (
-      taken-by (s .pre .0 .size) (s .pre .1) (a .number .ensures) (b .number2 .ensures) (subst (λ z. Heir z (s .args .u) (b .number2 .result) (y .heir .result)) (l .number3 .ensures) (y .heir .ensures)) (r .rename .ensures) (l₂ .link .ensures) (l₃ .link2 .ensures) (e .store .ensures),
-      subst (λ z. Parted z (s .args .u) (d .parted .result)) (b .number2 .ensures) (d .parted .ensures),
+      taken-by (s .pre .0 .size) (s .pre .1) (a .number .ensures) (b .number2 .ensures) (subst (λ z. NewLeast z (s .args .u) (b .number2 .result) (y .new-least .result)) (l .number3 .ensures) (y .new-least .ensures)) (r .rename .ensures) (l₂ .link .ensures) (l₃ .link2 .ensures) (e .store .ensures),
+      subst (λ z. OthersLeft z (s .args .u) (d .others-left .result)) (b .number2 .ensures) (d .others-left .ensures),
     )
 
 pub take-out-spec : {M : Type 1} → statement M
@@ -68,8 +68,8 @@ take-out-spec =
     number-requires
     number-requires-2
     number-requires-3
-    parted-requires
-    heir-requires
+    others-left-requires
+    new-least-requires
     rename-requires
     link-requires
     link-requires-2

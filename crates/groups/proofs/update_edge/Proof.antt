@@ -3,7 +3,7 @@ use borrow.Author.Needs.{needs}
 use mathlib.Core.Path.{_∙_}
 use native.Mathlib.Omega.{arith}
 use mir.Facts.{toZ-ofZ}
-use Rattle.rings.specs.UpdateLaws.{back-small, parted-small}
+use Rattle.rings.specs.UpdateLaws.{back-small, others-left-small}
 use Rattle.groups.specs.ChangeLaws.{asked-answer, asked-ends, asked-greater, asked-lesser, asked-ready, asked-sizes, asked-tables, asked₀, asked₁, asked₂, asked₃}
 use Rattle.groups.proofs.update_edge.Statement.{statement}
 use Rattle.groups.proofs.update_edge.Tie as tie
@@ -84,7 +84,7 @@ add-left c =
     let b₁ = c .before .before .before .before .before .before .before .before in
     let o₂ = b₁ .before .before .before .before .before .before .before .before .before .before .before .before .before .before in
     let o₁ = o₂ .before .before .before .before in
-    omega (arith, parted-small (o₁ .take-out .ensures .1), parted-small (o₂ .take-out2 .ensures .1))
+    omega (arith, others-left-small (o₁ .take-out .ensures .1), others-left-small (o₂ .take-out2 .ensures .1))
 
 add-joined : tie.Need-add-joined
 add-joined c =
@@ -98,7 +98,7 @@ difference-requires c κs =
     let b₁ = b₂ .before .before .before .before .before .before in
     let o₂ = b₁ .before .before .before .before .before .before .before .before .before .before .before .before .before .before in
     let o₁ = o₂ .before .before .before .before in
-    omega (arith, parted-small (o₁ .take-out .ensures .1), parted-small (o₂ .take-out2 .ensures .1), back-small (b₁ .put-back .ensures), back-small (b₂ .put-back2 .ensures))
+    omega (arith, others-left-small (o₁ .take-out .ensures .1), others-left-small (o₂ .take-out2 .ensures .1), back-small (b₁ .put-back .ensures), back-small (b₂ .put-back2 .ensures))
 
 same-length : tie.Need-same-length
 same-length c = search needs

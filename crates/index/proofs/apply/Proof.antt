@@ -4,7 +4,7 @@ use Rattle.index.proofs.apply.Statement.{statement}
 use Rattle.index.proofs.apply.Tie as tie
 use Rattle.index.proofs.apply.Reads as reads
 use Rattle.index.proofs.apply.Lts as lts
-use Rattle.index.proofs.batch.run.Reads as run-reads
+use Rattle.updates.proofs.run.Reads as run-reads
 use Rattle.index.proofs.batch_refusal.Reads as batch-refusal-reads
 
 batch-refusal-requires : tie.Need-batch-refusal-requires

@@ -5,9 +5,9 @@ use Rattle.index.proofs.batch_refusal.Statement.{statement}
 use Rattle.index.proofs.batch_refusal.Tie as tie
 use Rattle.index.proofs.batch_refusal.Reads as reads
 use Rattle.index.proofs.batch_refusal.Lts as lts
-use Rattle.index.proofs.batch.count.Reads as count-reads
-use Rattle.index.proofs.batch.is_whole.Reads as is-whole-reads
-use Rattle.index.proofs.table_refusal.Reads as table-refusal-reads
+use Rattle.updates.proofs.count.Reads as count-reads
+use Rattle.updates.proofs.is_whole.Reads as is-whole-reads
+use Rattle.tables.proofs.refusal.Reads as refusal-reads
 
 is-whole-requires : tie.Need-is-whole-requires
 is-whole-requires c κs = search needs
@@ -15,11 +15,11 @@ is-whole-requires c κs = search needs
 returns : tie.Need-returns
 returns c = batch-wrong _ _ _ _ _ (c .before .is-whole .ensures) (not-true _ (c .if1 .taken))
 
-table-refusal-requires : tie.Need-table-refusal-requires
-table-refusal-requires c κs = search needs
+refusal-requires : tie.Need-refusal-requires
+refusal-requires c κs = search needs
 
 returns-2 : tie.Need-returns-2
-returns-2 c = apply-table _ _ _ _ _ (c .before .before .before .is-whole .ensures) (not-false _ (c .before .before .if1 .left)) _ (c .before .table-refusal .ensures) (c .if2 .taken)
+returns-2 c = apply-table _ _ _ _ _ (c .before .before .before .is-whole .ensures) (not-false _ (c .before .before .if1 .left)) _ (c .before .refusal .ensures) (c .if2 .taken)
 
 count-requires : tie.Need-count-requires
 count-requires c κs = search needs
@@ -27,12 +27,12 @@ count-requires c κs = search needs
 returns-3 : tie.Need-returns-3
 returns-3 c =
     let r = c .before .before .before in
-    apply-short _ _ _ _ _ (r .before .before .is-whole .ensures) (not-false _ (r .before .if1 .left)) _ _ (r .table-refusal .ensures) (c .before .before .if2 .left) (c .before .count .ensures) (c .if3 .taken)
+    apply-short _ _ _ _ _ (r .before .before .is-whole .ensures) (not-false _ (r .before .if1 .left)) _ _ (r .refusal .ensures) (c .before .before .if2 .left) (c .before .count .ensures) (c .if3 .taken)
 
 returns-4 : tie.Need-returns-4
 returns-4 c =
     let r = c .before .before .before in
-    apply-none _ _ _ _ _ (r .before .before .is-whole .ensures) (not-false _ (r .before .if1 .left)) _ _ (r .table-refusal .ensures) (c .before .before .if2 .left) (c .before .count .ensures) (c .if3 .left)
+    apply-none _ _ _ _ _ (r .before .before .is-whole .ensures) (not-false _ (r .before .if1 .left)) _ _ (r .refusal .ensures) (c .before .before .if2 .left) (c .before .count .ensures) (c .if3 .left)
 
 pub batch-refusal-spec : {M : Type 1} → statement M
 batch-refusal-spec =
@@ -40,7 +40,7 @@ batch-refusal-spec =
     (tie.spec
     is-whole-requires
     returns
-    table-refusal-requires
+    refusal-requires
     returns-2
     count-requires
     returns-3

@@ -18,17 +18,17 @@ loop-holds c = search needs
 line-end-requires : tie.Need-line-end-requires Inv-loop μ-loop
 line-end-requires c κs = search needs
 
-sub-obey : tie.Need-sub-obey Inv-loop μ-loop
-sub-obey c = omega arith
+sub-execute : tie.Need-sub-execute Inv-loop μ-loop
+sub-execute c = omega arith
 
-part-obey-start : tie.Need-part-obey-start Inv-loop μ-loop
-part-obey-start c = omega arith
+part-execute-start : tie.Need-part-execute-start Inv-loop μ-loop
+part-execute-start c = omega arith
 
-part-obey-end : tie.Need-part-obey-end Inv-loop μ-loop
-part-obey-end c = omega arith
+part-execute-end : tie.Need-part-execute-end Inv-loop μ-loop
+part-execute-end c = omega arith
 
-obey-requires : tie.Need-obey-requires Inv-loop μ-loop
-obey-requires c κs = search needs
+execute-requires : tie.Need-execute-requires Inv-loop μ-loop
+execute-requires c κs = search needs
 
 loop-less : tie.Need-loop-less Inv-loop μ-loop
 loop-less c = omega arith
@@ -59,10 +59,10 @@ run-spec =
     μ-loop
     loop-holds
     line-end-requires
-    sub-obey
-    part-obey-start
-    part-obey-end
-    obey-requires
+    sub-execute
+    part-execute-start
+    part-execute-end
+    execute-requires
     loop-less
     loop-again
     same-length

@@ -4,7 +4,7 @@ use native.Mathlib.Omega.{arith}
 use borrow.Author.Needs.{needs}
 use borrow.Fn.Kinds.{In}
 use borrow.Fn.PlainCycle.{Measures, is, falls, and}
-use Rattle.layout.specs.WroteLaws.{wrote-length}
+use Rattle.buffers.specs.WroteLaws.{wrote-length}
 use Rattle.print.specs.DecimalLaws.{length-short, length-long, wrote-short, wrote-long}
 use Rattle.print.proofs.+put_decimal.{statement}
 use Rattle.print.proofs.+put_decimal.Lts-put_decimal as put-decimal-lts

@@ -3,7 +3,7 @@ use mathlib.Core.List.{_++_}
 use lib.IntN.{ℤ}
 use borrow.Author.Needs.{needs}
 use Rattle.model.specs.Program.{changeLine, decimal, signed, text}
-use Rattle.layout.specs.WroteLaws.{wrote-then}
+use Rattle.buffers.specs.WroteLaws.{wrote-then}
 use Rattle.print.specs.LineLaws.{label-next, label-room, label-then, room-first, room-then}
 use Rattle.print.specs.SignedLaws.{signed-kept}
 use Rattle.print.proofs.change_line.Statement.{statement}

@@ -4,8 +4,8 @@ use native.Mathlib.Omega.{arith}
 use lib.ListN.{length, drop}
 use borrow.Author.Needs.{needs}
 use Rattle.model.specs.Program.{changeLines}
-use Rattle.layout.specs.Wrote.{Left}
-use Rattle.layout.specs.WroteLaws.{left-start}
+use Rattle.buffers.specs.Wrote.{Left}
+use Rattle.buffers.specs.WroteLaws.{left-start}
 use Rattle.print.specs.ChangeLaws.{change-done, change-room, change-step}
 use Rattle.print.proofs.change_lines.Statement.{statement}
 use Rattle.print.proofs.change_lines.Tie as tie

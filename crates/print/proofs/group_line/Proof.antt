@@ -6,7 +6,7 @@ use native.Mathlib.Omega.{arith}
 use lib.ListN.{length, drop}
 use borrow.Author.Needs.{needs}
 use Rattle.model.specs.Program.{text}
-use Rattle.layout.specs.WroteLaws.{wrote-then}
+use Rattle.buffers.specs.WroteLaws.{wrote-then}
 use Rattle.print.specs.LineLaws.{room-first, room-then}
 use Rattle.print.specs.Lines.{memberTexts}
 use Rattle.print.specs.WalkLaws.{group-line-is}

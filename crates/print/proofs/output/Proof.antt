@@ -3,7 +3,7 @@ use native.Mathlib.Omega.{arith}
 use lib.ListN.{length-append}
 use borrow.Author.Needs.{needs}
 use Rattle.model.specs.Program.{changeLines}
-use Rattle.layout.specs.WroteLaws.{wrote-length, wrote-then}
+use Rattle.buffers.specs.WroteLaws.{wrote-length, wrote-then}
 use Rattle.print.specs.Lines.{fileText}
 use Rattle.print.proofs.output.Statement.{statement}
 use Rattle.print.proofs.output.Tie as tie

@@ -1,7 +1,7 @@
 -- `print::put_count` meets its contract.
 use borrow.Author.Needs.{needs}
 use Rattle.model.specs.Program.{decimal}
-use Rattle.layout.specs.WroteLaws.{wrote-then}
+use Rattle.buffers.specs.WroteLaws.{wrote-then}
 use Rattle.print.specs.LineLaws.{room-first, room-then}
 use Rattle.print.proofs.put_count.Statement.{statement}
 use Rattle.print.proofs.put_count.Tie as tie

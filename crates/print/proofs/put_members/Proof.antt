@@ -2,8 +2,8 @@
 use Prim.Native.Nat.{_+_, _*_, _≤_}
 use native.Mathlib.Omega.{arith}
 use lib.ListN.{drop}
-use Rattle.layout.specs.Wrote.{Left}
-use Rattle.layout.specs.WroteLaws.{left-start}
+use Rattle.buffers.specs.Wrote.{Left}
+use Rattle.buffers.specs.WroteLaws.{left-start}
 use Rattle.print.specs.Lines.{memberTexts}
 use Rattle.print.specs.WalkLaws.{member-done, member-room, member-step}
 use Rattle.print.proofs.put_members.Statement.{statement}

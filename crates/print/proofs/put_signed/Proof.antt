@@ -2,7 +2,7 @@
 use mathlib.Core.Path.{refl}
 use native.Mathlib.Omega.{arith}
 use borrow.Author.Needs.{needs}
-use Rattle.layout.specs.WroteLaws.{wrote-length}
+use Rattle.buffers.specs.WroteLaws.{wrote-length}
 use Rattle.print.specs.SignedLaws.{length-below, length-else, wrote-below, wrote-else}
 use Rattle.print.proofs.put_signed.Statement.{statement}
 use Rattle.print.proofs.put_signed.Tie as tie

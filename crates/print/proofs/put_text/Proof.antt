@@ -2,7 +2,7 @@
 use Prim.Native.Nat.{_+_, _-_, _≤_}
 use native.Mathlib.Omega.{arith}
 use lib.ListN.{length, drop}
-use Rattle.layout.specs.Wrote.{Left}
+use Rattle.buffers.specs.Wrote.{Left}
 use Rattle.print.specs.TextLaws.{text-start, text-step, text-done}
 use Rattle.print.proofs.put_text.Statement.{statement}
 use Rattle.print.proofs.put_text.Tie as tie

@@ -2,7 +2,7 @@
 use mathlib.Core.List.{_++_}
 use borrow.Author.Needs.{needs}
 use Rattle.model.specs.Program.{spaced, superedgeLine, text}
-use Rattle.layout.specs.WroteLaws.{wrote-then}
+use Rattle.buffers.specs.WroteLaws.{wrote-then}
 use Rattle.print.specs.LineLaws.{room-first, room-then}
 use Rattle.print.proofs.superedge_line.Statement.{statement}
 use Rattle.print.proofs.superedge_line.Tie as tie

@@ -4,6 +4,7 @@ use Prim.Native.Nat.{_*_}
 use native.Mathlib.Omega.{arith}
 use lib.Seq.{length-take-le}
 use borrow.Author.Needs.{needs}
+use Rattle.model.specs.Updates.{updateNumbers}
 use Rattle.program.specs.RunLaws.{accepted-few, accepted-is, accepted-small, refused-is, run-bytes, run-short}
 use Rattle.program.proofs.run.Statement.{statement}
 use Rattle.program.proofs.run.Tie as tie
@@ -45,7 +46,7 @@ slice-aggregate-print-accepted c =
     let p = c .before .before .before .before .before in
     let k = c .before .before .parsed2 .given in
     let few = accepted-few _ (p .parse .ensures) _ _ (k .1) in
-    sym (length-take-le (3 * k .0 .1 .0) (p .parse .last .1 .0) (omega arith))
+    sym (length-take-le (updateNumbers * k .0 .1 .0) (p .parse .last .1 .0) (omega arith))
 
 print-accepted-requires : tie.Need-print-accepted-requires
 print-accepted-requires c κs =

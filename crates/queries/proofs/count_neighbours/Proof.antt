@@ -3,8 +3,8 @@ use mathlib.Core.Path.{sym, _∙_}
 use Prim.Native.Nat.{_-_, _≤_}
 use native.Mathlib.Omega.{arith}
 use lib.ListN.{length}
-use Rattle.layout.specs.Scan.{scan, Counting}
-use Rattle.layout.specs.ScanLaws.{counting-start, counting-yes, counting-no, counting-done}
+use Rattle.buffers.specs.Scan.{scan, Counting}
+use Rattle.buffers.specs.ScanLaws.{counting-start, counting-yes, counting-no, counting-done}
 use Rattle.model.specs.Tables.{edgeBit}
 use Rattle.queries.proofs.count_neighbours.Statement.{statement}
 use Rattle.queries.proofs.count_neighbours.Tie as tie

@@ -2,8 +2,8 @@ use mathlib.Core.Logic.{⊎-elim}
 use Prim.Native.Nat.{_-_, _≤_}
 use native.Mathlib.Omega.{arith}
 use lib.ListN.{length}
-use Rattle.layout.specs.Scan.{scan, Counting}
-use Rattle.layout.specs.ScanLaws.{counting-start, counting-yes, counting-no, counting-done}
+use Rattle.buffers.specs.Scan.{scan, Counting}
+use Rattle.buffers.specs.ScanLaws.{counting-start, counting-yes, counting-no, counting-done}
 use Rattle.queries.specs.Query.{ledBy}
 use Rattle.queries.specs.QueryLaws.{led-yes, led-no}
 use Rattle.queries.proofs.group_size.Statement.{statement}

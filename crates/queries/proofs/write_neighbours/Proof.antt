@@ -2,10 +2,10 @@ use mathlib.Core.Logic.{⊎-elim}
 use mathlib.Core.Path.{sym, _∙_}
 use Prim.Native.Nat.{_-_, _≤_}
 use native.Mathlib.Omega.{arith}
-use Rattle.layout.specs.Scan.{scan}
-use Rattle.layout.specs.ScanLaws.{scan-no, scan-end}
-use Rattle.layout.specs.Wrote.{Left}
-use Rattle.layout.specs.WroteLaws.{left-start, left-as, left-done}
+use Rattle.buffers.specs.Scan.{scan}
+use Rattle.buffers.specs.ScanLaws.{scan-no, scan-end}
+use Rattle.buffers.specs.Wrote.{Left}
+use Rattle.buffers.specs.WroteLaws.{left-start, left-as, left-done}
 use Rattle.model.specs.Tables.{edgeBit}
 use Rattle.queries.specs.QueryLaws.{collected, collect-room}
 use Rattle.queries.proofs.write_neighbours.Statement.{statement}

@@ -2,14 +2,13 @@ use mathlib.Core.Path.{sym}
 use Prim.Native.Nat.{ℕ, _*_}
 use native.Mathlib.Omega.{arith}
 use lib.ListN.{length-replicate, replicate}
-use Rattle.visible.specs.KeySumLaws.{prefix-length}
-use Rattle.release.specs.ReleaseLaws.{truth-whole}
+use Rattle.release.specs.ReleaseLaws.{prefix-length, truth-whole}
 use borrow.Author.Needs.{needs}
 use Rattle.release.proofs.least_members.Statement.{statement}
 use Rattle.release.proofs.least_members.Tie as tie
 use Rattle.release.proofs.least_members.Reads as reads
 use Rattle.release.proofs.least_members.Lts as lts
-use Rattle.visible.proofs.summarise.Reads as summarise-reads
+use Rattle.release.proofs.summarise.Reads as summarise-reads
 
 mul-end : tie.Need-mul-end
 mul-end c = search needs

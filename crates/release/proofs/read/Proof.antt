@@ -1,13 +1,13 @@
 use Rattle.release.specs.ReadLaws.{judged-holds}
 use borrow.Author.Tests.{not-true, not-false}
-use Rattle.index.specs.IndexLaws.{sized}
+use Rattle.tables.specs.LentLaws.{sized}
 use Rattle.release.specs.ReadLaws.{read-size, read-none, read-other, read-done}
 use borrow.Author.Needs.{needs}
 use Rattle.release.proofs.read.Statement.{statement}
 use Rattle.release.proofs.read.Tie as tie
 use Rattle.release.proofs.read.Reads as reads
 use Rattle.release.proofs.read.Lts as lts
-use Rattle.index.proofs.right_size.Reads as right-size-reads
+use Rattle.tables.proofs.right_size.Reads as right-size-reads
 use Rattle.release.proofs.judging.judge.Reads as judge-reads
 use Rattle.release.proofs.reading.fill.Reads as fill-reads
 

@@ -2,7 +2,7 @@ use mathlib.Core.Path.{refl, _∙_}
 use Prim.Native.Nat.{ℕ}
 use native.Mathlib.Omega.{arith}
 use lib.ListN.{length-replicate}
-use Rattle.index.specs.UpdateLaws.{held-sized}
+use Rattle.tables.specs.LentLaws.{held-sized}
 use Rattle.release.specs.ReleaseLaws.{drawn-held, visible-parts, visible-told}
 use borrow.Author.Needs.{needs}
 use Rattle.release.proofs.write_visible.Statement.{statement}

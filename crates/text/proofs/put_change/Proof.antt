@@ -2,7 +2,7 @@
 use native.Mathlib.Omega.{arith}
 use lib.ListN.{length-set}
 use borrow.Author.Needs.{needs}
-use Rattle.text.specs.ParseLaws.{three-wrote}
+use Rattle.text.specs.ParseLaws.{change-wrote}
 use Rattle.text.proofs.put_change.Statement.{statement}
 use Rattle.text.proofs.put_change.Tie as tie
 
@@ -37,7 +37,7 @@ same-length : tie.Need-same-length
 same-length c = search needs
 
 returns : tie.Need-returns
-returns c = three-wrote _ _ _ _ _
+returns c = change-wrote _ _ _ _ _
 
 pub put-change-spec : {M : Type 1} → statement M
 put-change-spec =

@@ -4,7 +4,7 @@ use native.Mathlib.Omega.{arith}
 use lib.ListN.{length, drop}
 use borrow.Author.Needs.{needs}
 use Rattle.model.specs.Program.{linesFrom, pieces}
-use Rattle.layout.specs.WroteLaws.{wrote-length}
+use Rattle.buffers.specs.WroteLaws.{wrote-length}
 use Rattle.text.specs.ParseLaws.{Reading, end-within, reading-done, reading-ill, reading-open, reading-over, reading-start, reading-step}
 use Rattle.text.proofs.read_lines.Statement.{statement}
 use Rattle.text.proofs.read_lines.Tie as tie

@@ -5,10 +5,10 @@ use native.Mathlib.Omega.{arith}
 use borrow.Author.Needs.{needs}
 use Rattle.layout.specs.File.{leads}
 use Rattle.layout.specs.FileLaws.{collect-yes, leads-no, leads-yes}
-use Rattle.layout.specs.Scan.{scan}
-use Rattle.layout.specs.ScanLaws.{scan-end, scan-no}
-use Rattle.layout.specs.Wrote.{Left}
-use Rattle.layout.specs.WroteLaws.{left-as, left-done, left-start}
+use Rattle.buffers.specs.Scan.{scan}
+use Rattle.buffers.specs.ScanLaws.{scan-end, scan-no}
+use Rattle.buffers.specs.Wrote.{Left}
+use Rattle.buffers.specs.WroteLaws.{left-as, left-done, left-start}
 use Rattle.writer.proofs.collect_leaders.Statement.{statement}
 use Rattle.writer.proofs.collect_leaders.Tie as tie
 

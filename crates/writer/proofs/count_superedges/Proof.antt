@@ -5,8 +5,8 @@ use lib.ListN.{length}
 use Rattle.model.specs.Tables.{edgeBit}
 use Rattle.layout.specs.File.{later, superedgeTotal}
 use Rattle.layout.specs.FileLaws.{later-small}
-use Rattle.layout.specs.Scan.{Summing}
-use Rattle.layout.specs.ScanLaws.{summing-done, summing-start, summing-step}
+use Rattle.buffers.specs.Scan.{Summing}
+use Rattle.buffers.specs.ScanLaws.{summing-done, summing-start, summing-step}
 use Rattle.writer.proofs.count_superedges.Statement.{statement}
 use Rattle.writer.proofs.count_superedges.Tie as tie
 

@@ -6,8 +6,8 @@ use lib.ListN.{length}
 use borrow.Author.Needs.{needs}
 use Rattle.layout.specs.File.{inGroup}
 use Rattle.layout.specs.FileLaws.{inGroup-no, inGroup-yes}
-use Rattle.layout.specs.Scan.{Counting, scan}
-use Rattle.layout.specs.ScanLaws.{counting-done, counting-no, counting-start, counting-yes}
+use Rattle.buffers.specs.Scan.{Counting, scan}
+use Rattle.buffers.specs.ScanLaws.{counting-done, counting-no, counting-start, counting-yes}
 use Rattle.writer.proofs.count_visible.Statement.{statement}
 use Rattle.writer.proofs.count_visible.Tie as tie
 

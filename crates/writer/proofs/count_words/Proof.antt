@@ -3,8 +3,8 @@ use Prim.Native.Nat.{_*_, _-_, _≤_}
 use native.Mathlib.Omega.{arith}
 use lib.ListN.{length}
 use borrow.Author.Needs.{needs}
-use Rattle.layout.specs.Scan.{Counting, scan}
-use Rattle.layout.specs.ScanLaws.{counting-done, counting-start}
+use Rattle.buffers.specs.Scan.{Counting, scan}
+use Rattle.buffers.specs.ScanLaws.{counting-done, counting-start}
 use Rattle.layout.specs.Words.{marked}
 use Rattle.writer.specs.CountLaws.{counting-next, counting-small}
 use Rattle.writer.proofs.count_words.Statement.{statement}

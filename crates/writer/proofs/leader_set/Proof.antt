@@ -6,7 +6,8 @@ use borrow.Author.Needs.{needs}
 use Rattle.rows.specs.BitLaws.{flipped-at}
 use Rattle.layout.specs.File.{leads}
 use Rattle.layout.specs.FileLaws.{leads-no, leads-yes}
-use Rattle.layout.specs.WordLaws.{Marking, marking-done, marking-no, marking-start, marking-yes}
+use Rattle.layout.specs.WordLaws.{marking-done, marking-no, marking-start, marking-yes}
+use Rattle.layout.specs.Words.{Marking}
 use Rattle.writer.proofs.leader_set.Statement.{statement}
 use Rattle.writer.proofs.leader_set.Tie as tie
 

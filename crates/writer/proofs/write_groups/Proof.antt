@@ -6,10 +6,10 @@ use borrow.Author.Needs.{needs}
 use Rattle.model.specs.Tables.{edgeBit}
 use Rattle.layout.specs.File.{chain, groupBytes, groupsBytes}
 use Rattle.layout.specs.FileLaws.{flat-more, flat-room}
-use Rattle.layout.specs.Scan.{flat}
-use Rattle.layout.specs.ScanLaws.{flat-end}
-use Rattle.layout.specs.Wrote.{Left}
-use Rattle.layout.specs.WroteLaws.{left-done, left-start}
+use Rattle.buffers.specs.Scan.{flat}
+use Rattle.buffers.specs.ScanLaws.{flat-end}
+use Rattle.buffers.specs.Wrote.{Left}
+use Rattle.buffers.specs.WroteLaws.{left-done, left-start}
 use Rattle.writer.proofs.write_groups.Statement.{statement}
 use Rattle.writer.proofs.write_groups.Tie as tie
 

@@ -5,10 +5,10 @@ use lib.ListN.{length}
 use Rattle.model.specs.Tables.{edgeBit}
 use Rattle.layout.specs.File.{later, superedgeBytes, superedgesTo}
 use Rattle.layout.specs.FileLaws.{flat-more, flat-room}
-use Rattle.layout.specs.Scan.{flat}
-use Rattle.layout.specs.ScanLaws.{flat-end}
-use Rattle.layout.specs.Wrote.{Left}
-use Rattle.layout.specs.WroteLaws.{left-done, left-start}
+use Rattle.buffers.specs.Scan.{flat}
+use Rattle.buffers.specs.ScanLaws.{flat-end}
+use Rattle.buffers.specs.Wrote.{Left}
+use Rattle.buffers.specs.WroteLaws.{left-done, left-start}
 use Rattle.writer.proofs.write_superedges.Statement.{statement}
 use Rattle.writer.proofs.write_superedges.Tie as tie
 

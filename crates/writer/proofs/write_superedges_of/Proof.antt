@@ -6,8 +6,8 @@ use Rattle.model.specs.Tables.{edgeBit}
 use Rattle.layout.specs.File.{later, superedgesTo}
 use Rattle.layout.specs.WordLaws.{records-end, records-more, records-room, records-start}
 use Rattle.layout.specs.Words.{laterRecords}
-use Rattle.layout.specs.Wrote.{Left}
-use Rattle.layout.specs.WroteLaws.{left-as, left-done, left-start}
+use Rattle.buffers.specs.Wrote.{Left}
+use Rattle.buffers.specs.WroteLaws.{left-as, left-done, left-start}
 use Rattle.writer.proofs.write_superedges_of.Statement.{statement}
 use Rattle.writer.proofs.write_superedges_of.Tie as tie
 

@@ -7,8 +7,8 @@ use borrow.Author.Needs.{needs}
 use Rattle.layout.specs.File.{superedgesTo}
 use Rattle.layout.specs.WordLaws.{ne-pos, word-end, word-less, word-more, word-room, word-within}
 use Rattle.layout.specs.Words.{positionsOf}
-use Rattle.layout.specs.Wrote.{Left}
-use Rattle.layout.specs.WroteLaws.{left-done, left-start}
+use Rattle.buffers.specs.Wrote.{Left}
+use Rattle.buffers.specs.WroteLaws.{left-done, left-start}
 use Rattle.writer.proofs.write_word.Statement.{statement}
 use Rattle.writer.proofs.write_word.Tie as tie
 

@@ -6,8 +6,8 @@ use native.Mathlib.Omega.{arith}
 use borrow.Author.Count.{below-more, below-none}
 use borrow.Author.Needs.{needs}
 use Rattle.model.specs.Tables.{edgeBit}
-use Rattle.checks.specs.Dense.{loopless}
-use Rattle.checks.specs.StepLaws.{all-fail, all-pass}
+use Rattle.checks.specs.Checks.{loopless}
+use Rattle.buffers.specs.AllLaws.{all-fail, all-pass}
 use Rattle.checks.proofs.dense.is_loopless.Statement.{statement}
 use Rattle.checks.proofs.dense.is_loopless.Tie as tie
 

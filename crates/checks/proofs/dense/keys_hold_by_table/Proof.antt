@@ -4,8 +4,8 @@ use Prim.Native.Nat.{_-_, _≤_}
 use native.Mathlib.Omega.{arith}
 use borrow.Author.Count.{below-more, below-none}
 use borrow.Author.Needs.{needs}
-use Rattle.checks.specs.Dense.{KeysBelow}
-use Rattle.checks.specs.StepLaws.{failed, passed}
+use Rattle.checks.specs.Checks.{KeysBelow}
+use Rattle.buffers.specs.AllLaws.{failed, passed}
 use Rattle.checks.specs.DenseLaws.{key-fails, key-told, keys-pass}
 use Rattle.checks.proofs.dense.keys_hold_by_table.Statement.{statement}
 use Rattle.checks.proofs.dense.keys_hold_by_table.Tie as tie

@@ -1,0 +1,6 @@
+pub mod Scan
+pub mod ScanLaws
+pub mod AllLaws
+pub mod StoreLaws
+pub mod Wrote
+pub mod WroteLaws

@@ -1,0 +1,6 @@
+pub mod Least
+pub mod Chains
+pub mod HashLaws
+pub mod ChainLaws
+pub mod LeastLaws
+pub mod ConfirmLaws

@@ -1,0 +1,243 @@
+// The groups of the visible nodes, where hidden ones have no edges: found, or confirmed, by chains of leaders whose rows have one hash.
+ghost use mathlib.Core.Path.{_≡_};
+ghost use mathlib.Core.Bool.{Bool, true, false};
+ghost use Prim.Native.Nat.{ℕ, _+_, _*_, _≤_, _<_};
+ghost use lib.Dec.{eqb};
+ghost use lib.ListN.{length};
+ghost use Rattle.model.specs.Graph.{maxNodes, rowWords};
+ghost use Rattle.layout.specs.Truth.{Truth};
+ghost use Rattle.masking.specs.Masking.{Apart, markedGraph};
+ghost use Rattle.grouping.specs.Least.{LeastBelow, areLeast, isLeast, leastVisible};
+ghost use Rattle.grouping.specs.Chains.{Chains, Entered, Links, Met, Sought, alike, hashOf, ownRotated, plain, rotated, slotFor, slotIn, slotOf, slots};
+use rows::Graph;
+
+// Stands for no node, at hidden nodes.
+const NONE: usize = 65535;
+
+// Rows are hashed into so many slots.
+const SLOTS: usize = 1024;
+
+// The words of p's row added up bit by bit, what is there rotated before each.
+fn sum_rotated(edges: &[u64], p: usize) -> u64
+    requires { ⌜ (p < maxNodes) × (rowWords * p + rowWords ≤ length (now edges)) ⌝ }
+    ensures { λ r. ⌜ r ≡ hashOf rotated (now (edges .entry)) false p rowWords ⌝ }
+{
+    let a = Graph::ROW_WORDS * p;
+    let mut h = 0u64;
+    let mut w = 0;
+    while w < 8 {
+        h = ((h << 9) ^ (h >> 55)) ^ edges[a + w];
+        w += 1;
+    }
+    h
+}
+
+// The same without rotation.
+fn sum_plain(edges: &[u64], p: usize) -> u64
+    requires { ⌜ (p < maxNodes) × (rowWords * p + rowWords ≤ length (now edges)) ⌝ }
+    ensures { λ r. ⌜ r ≡ hashOf plain (now (edges .entry)) false p rowWords ⌝ }
+{
+    let a = Graph::ROW_WORDS * p;
+    let mut h = 0u64;
+    let mut w = 0;
+    while w < 8 {
+        h = h ^ edges[a + w];
+        w += 1;
+    }
+    h
+}
+
+// Node p's own bit where the rotations leave it.
+fn own_rotated(p: usize) -> u64
+    requires { ⌜ p < maxNodes ⌝ }
+    ensures { λ r. ⌜ r ≡ ownRotated p ⌝ }
+{
+    1u64 << ((p + 63 - 9 * rows::word_of(p)) % 64)
+}
+
+// A slot for a word, by its halves.
+fn slot_in(y: u64) -> usize
+    ensures { λ r. ⌜ r ≡ slotIn y ⌝ }
+{
+    let z = ((y % 4294967296) * 2654435769) ^ ((y >> 32) * 2246822519);
+    ((z >> 20) as usize) % SLOTS
+}
+
+// A slot for the two sums of a row.
+fn slot_for(h: u64, k: u64) -> usize
+    ensures { λ r. ⌜ r ≡ slotFor h k ⌝ }
+{
+    slot_in((h ^ (k >> 5)) ^ (k >> 23))
+}
+
+// The slot of p's row, of the open or of the closed one, which has p's own bit too.
+fn slot_of(edges: &[u64], closed: bool, p: usize) -> usize
+    requires { ⌜ (p < maxNodes) × (rowWords * p + rowWords ≤ length (now edges)) ⌝ }
+    ensures { λ r. ⌜ r ≡ slotOf (now (edges .entry)) closed p ⌝ }
+{
+    let h = sum_rotated(edges, p);
+    let k = sum_plain(edges, p);
+    if closed {
+        return slot_for(h ^ own_rotated(p), k ^ rows::mask(p));
+    }
+    slot_for(h, k)
+}
+
+// The leader below u, in the chain of slot s, whose row agrees with u's; u if there is none.
+fn find_alike(edges: &[u64], chains: &[u16], closed: bool, u: usize, s: usize) -> usize
+    requires { ⌜ (u < maxNodes) × (rowWords * u + rowWords ≤ length (now edges)) × (s < slots) × Links u (now chains) ⌝ }
+    ensures { λ r. ⌜ (r ≤ u) × ((slot : ℕ → ℕ) (leads : ℕ → Bool) → slot u ≡ s → Chains slot leads u (now (chains .entry)) → Met slot leads (alike (now (edges .entry)) closed u) u r) ⌝ }
+{
+    let mut c = rows::wide(chains[s]);
+    while c != 0 {
+        let q = c - 1;
+        if search::same_row(edges, closed, u, q) {
+            return q;
+        }
+        c = rows::wide(chains[SLOTS + q]);
+    }
+    u
+}
+
+// u put into the chain of slot s if it leads, that is if l is u.
+fn enter(chains: &mut [u16], s: usize, u: usize, l: usize)
+    requires { ⌜ (u < maxNodes) × (s < slots) × Links u (now chains) ⌝ }
+    ensures { λ _. ⌜ Entered u s l (now (chains .entry)) (now (chains .exit)) ⌝ }
+{
+    if l == u {
+        chains[SLOTS + u] = chains[s];
+        chains[s] = (u + 1) as u16;
+    }
+}
+
+// The least member of u's group; for a hidden node a number that no node has.
+fn least_of(
+    edges: &[u64],
+    hidden: &[u16],
+    n: usize,
+    opens: &[u16],
+    closeds: &[u16],
+    u: usize,
+    a: usize,
+    b: usize,
+) -> usize
+    requires { ⌜ Apart n (now edges) (now hidden) × Sought n (now edges) (now hidden) u (now opens) (now closeds) × (u < n) ⌝ }
+    requires { ⌜ (a ≡ slotOf (now edges) false u) × (b ≡ slotOf (now edges) true u) ⌝ }
+    ensures { λ r. ⌜ r ≡ leastVisible (markedGraph n (now (edges .entry)) (now (hidden .entry))) u ⌝ }
+{
+    if !masking::is_visible(hidden, u) {
+        return NONE;
+    }
+    let q = find_alike(edges, opens, false, u, a);
+    if q < u {
+        return q;
+    }
+    find_alike(edges, closeds, true, u, b)
+}
+
+// The least members of the groups of the visible nodes, which alone have edges. Chains of leaders are kept on the way.
+fn group_visible(
+    edges: &[u64],
+    hidden: &[u16],
+    n: usize,
+    opens: &mut [u16],
+    closeds: &mut [u16],
+    least: &mut [u16],
+)
+    requires { ⌜ Apart n (now edges) (now hidden) × Links 0 (now opens) × Links 0 (now closeds) × (n ≤ length (now least)) ⌝ }
+    ensures { λ _. ⌜ Truth (markedGraph n (now (edges .entry)) (now (hidden .entry))) (now (least .exit)) (now (edges .entry)) ⌝ }
+{
+    for u in 0..n {
+        let a = slot_of(edges, false, u);
+        let b = slot_of(edges, true, u);
+        let l = least_of(edges, hidden, n, opens, closeds, u, a, b);
+        enter(opens, a, u, l);
+        enter(closeds, b, u, l);
+        least[u] = l as u16;
+    }
+}
+
+// The least members of the groups of the visible nodes, where hidden nodes have no edges.
+pub fn find_groups(edges: &[u64], hidden: &[u16], n: usize, least: &mut [u16])
+    requires { ⌜ Apart n (now edges) (now hidden) × (n ≤ length (now least)) ⌝ }
+    ensures { λ _. ⌜ Truth (markedGraph n (now (edges .entry)) (now (hidden .entry))) (now (least .exit)) (now (edges .entry)) ⌝ }
+{
+    let mut opens = [0u16; SLOTS + Graph::NODES];
+    let mut closeds = [0u16; SLOTS + Graph::NODES];
+    group_visible(edges, hidden, n, &mut opens, &mut closeds, least);
+}
+
+// Whether l, not u itself, is the least member of u's group: NONE for a hidden node, else a leader below u whose row agrees.
+// The edge between the two says whether the open or the closed rows must agree.
+fn is_led(edges: &[u64], hidden: &[u16], n: usize, least: &[u16], u: usize, l: usize) -> bool
+    requires { ⌜ Apart n (now edges) (now hidden) × LeastBelow (markedGraph n (now edges) (now hidden)) u (now least) × (n ≤ length (now least)) × (u < n) × (l ≡ u → ⊥) ⌝ }
+    ensures { λ r. ⌜ r ≡ eqb l (leastVisible (markedGraph n (now (edges .entry)) (now (hidden .entry))) u) ⌝ }
+{
+    if !masking::is_visible(hidden, u) {
+        return l == NONE;
+    }
+    if l > u {
+        return false;
+    }
+    if rows::wide(least[l]) != l {
+        return false;
+    }
+    search::same_row(edges, rows::edge(edges, l, u), u, l)
+}
+
+// Whether `least` is right at u, as it is below u. Only a leader is looked for in the chains, and put into them.
+fn confirm(
+    edges: &[u64],
+    hidden: &[u16],
+    n: usize,
+    opens: &mut [u16],
+    closeds: &mut [u16],
+    least: &[u16],
+    u: usize,
+) -> bool
+    requires { ⌜ Apart n (now edges) (now hidden) × Sought n (now edges) (now hidden) u (now opens) (now closeds) ⌝ }
+    requires { ⌜ LeastBelow (markedGraph n (now edges) (now hidden)) u (now least) × (n ≤ length (now least)) × (u < n) ⌝ }
+    ensures { λ r. ⌜ (r ≡ isLeast (markedGraph n (now (edges .entry)) (now (hidden .entry))) (now (least .entry)) u) × (r ≡ true → Sought n (now (edges .entry)) (now (hidden .entry)) (u + 1) (now (opens .exit)) (now (closeds .exit))) ⌝ }
+{
+    let l = rows::wide(least[u]);
+    if l != u {
+        return is_led(edges, hidden, n, least, u, l);
+    }
+    let a = slot_of(edges, false, u);
+    let b = slot_of(edges, true, u);
+    if least_of(edges, hidden, n, opens, closeds, u, a, b) != u {
+        return false;
+    }
+    enter(opens, a, u, u);
+    enter(closeds, b, u, u);
+    true
+}
+
+fn confirm_all(
+    edges: &[u64],
+    hidden: &[u16],
+    n: usize,
+    opens: &mut [u16],
+    closeds: &mut [u16],
+    least: &[u16],
+) -> bool
+    requires { ⌜ Apart n (now edges) (now hidden) × Links 0 (now opens) × Links 0 (now closeds) × (n ≤ length (now least)) ⌝ }
+    ensures { λ r. ⌜ r ≡ areLeast n (markedGraph n (now (edges .entry)) (now (hidden .entry))) (now (least .entry)) ⌝ }
+{
+    for u in 0..n {
+        if !confirm(edges, hidden, n, opens, closeds, least, u) {
+            return false;
+        }
+    }
+    true
+}
+
+// Whether `least` has the least member of each visible node's group and NONE for each hidden node, where hidden nodes have no edges.
+pub fn are_groups(edges: &[u64], hidden: &[u16], n: usize, least: &[u16]) -> bool
+    requires { ⌜ Apart n (now edges) (now hidden) × (n ≤ length (now least)) ⌝ }
+    ensures { λ r. ⌜ r ≡ areLeast n (markedGraph n (now (edges .entry)) (now (hidden .entry))) (now (least .entry)) ⌝ }
+{
+    let mut opens = [0u16; SLOTS + Graph::NODES];
+    let mut closeds = [0u16; SLOTS + Graph::NODES];
+    confirm_all(edges, hidden, n, &mut opens, &mut closeds, least)
+}

@@ -1,0 +1,274 @@
+-- Laws of sums of cubes over the bits of a row, four and eight bits at a time.
+use mathlib.Core.Path.{_≡_, refl, sym, ap, ap₂, _∙_, subst}
+use mathlib.Core.Bool.{Bool, true, false, cond, _&&_}
+use mathlib.Core.List.{List, [], _∷_}
+use mathlib.Core.Logic.{_⊎_, inl, inr}
+use Prim.Native.Nat.{ℕ, zero, suc, _+_, _*_, _-_, _/_, _%_, _^_, _≤_, _<_}
+use native.Mathlib.Omega.{arith}
+use lib.Dec.{eqb, ltb}
+use lib.ListN.{length, getD, set}
+use lib.Pow.{shr-shr}
+use borrow.Author.Tests.{lt-ltb}
+use Rattle.model.specs.Lists.{filter, from, nodes}
+use Rattle.model.specs.Graph.{whole}
+use Rattle.model.specs.Grouping.{cube, openKey, sumCubes}
+use Rattle.model.specs.Tables.{bitAt, edgeBit}
+use Rattle.model.specs.TestLaws.{decide}
+use Rattle.model.specs.ListLaws.{from-out}
+use Rattle.buffers.specs.StoreLaws.{stored, stored-size}
+use Rattle.rows.specs.BitLaws.{word-bit}
+use Rattle.search.specs.Search.{edgesIn, graphIn}
+use Rattle.rows.specs.KeyLaws.{cube-le, cubes-cong}
+use Rattle.keys.specs.SumLaws.{no-cubes}
+use Rattle.keys.specs.KeySums.{Filled, Widened, eightCubes, fourCubes, rowCubes, wordCubes}
+
+-- a digit chooses a cube
+pub chosen : (v x : ℕ) → v % 2 ≡ 1 → x ≡ v % 2 * x
+chosen v x e = let z : x ≡ 1 * x = omega arith in rw e z
+
+pub unchosen : (v x : ℕ) → (v % 2 ≡ 1 → ⊥) → 0 ≡ v % 2 * x
+unchosen v x d = let e : v % 2 ≡ 0 = omega arith in let z : 0 ≡ 0 * x = omega arith in rw e z
+
+digit-cond : (d x : ℕ) → d < 2 → d * x ≡ cond (eqb d 1) x 0
+digit-cond zero x h = omega arith
+digit-cond (suc zero) x h = omega arith
+digit-cond (suc (suc d)) x h = absurd (omega arith)
+
+digit-bit : (x m y : ℕ) → x / 2 ^ m % 2 * y ≡ cond (bitAt x m) y 0
+unfolding bitAt
+digit-bit x m y = digit-cond (x / 2 ^ m % 2) y (omega arith)
+
+-- four bits of a word more
+four-more : (w x i : ℕ) → wordCubes w x (4 * i) + fourCubes (16 * w + i) (x / 2 ^ (4 * i) % 16) ≡ wordCubes w x (4 * (i + 1))
+unfolding wordCubes
+four-more w x i =
+    let d₀ : x / 2 ^ (4 * i) % 16 % 2 * cube (4 * (16 * w + i)) ≡ cond (bitAt x (4 * i)) (cube (64 * w + 4 * i)) 0 = ap₂ _*_ zeroth (ap cubed (omega arith)) ∙ digit-bit x (4 * i) (cube (64 * w + 4 * i)) in
+    let d₁ : x / 2 ^ (4 * i) % 16 / 2 % 2 * cube (4 * (16 * w + i) + 1) ≡ cond (bitAt x (suc (4 * i))) (cube (64 * w + suc (4 * i))) 0 = ap₂ _*_ one (ap cubed (omega arith)) ∙ digit-bit x (suc (4 * i)) (cube (64 * w + suc (4 * i))) in
+    let d₂ : x / 2 ^ (4 * i) % 16 / 4 % 2 * cube (4 * (16 * w + i) + 2) ≡ cond (bitAt x (suc (suc (4 * i)))) (cube (64 * w + suc (suc (4 * i)))) 0 = ap₂ _*_ two (ap cubed (omega arith)) ∙ digit-bit x (suc (suc (4 * i))) (cube (64 * w + suc (suc (4 * i)))) in
+    let d₃ : x / 2 ^ (4 * i) % 16 / 8 % 2 * cube (4 * (16 * w + i) + 3) ≡ cond (bitAt x (suc (suc (suc (4 * i))))) (cube (64 * w + suc (suc (suc (4 * i))))) 0 = ap₂ _*_ three (ap cubed (omega arith)) ∙ digit-bit x (suc (suc (suc (4 * i)))) (cube (64 * w + suc (suc (suc (4 * i))))) in
+    let e : 4 * (i + 1) ≡ suc (suc (suc (suc (4 * i)))) = omega arith in
+    rw e (omega arith)
+  where
+    cubed : ℕ → ℕ
+    cubed p = cube p
+
+    zeroth : x / 2 ^ (4 * i) % 16 % 2 ≡ x / 2 ^ (4 * i) % 2
+    zeroth = omega arith
+
+    at : (j : ℕ) → x / 2 ^ (4 * i) / 2 ^ j ≡ x / 2 ^ (4 * i + j)
+    at j = shr-shr x (4 * i) j
+
+    one : x / 2 ^ (4 * i) % 16 / 2 % 2 ≡ x / 2 ^ suc (4 * i) % 2
+    one = let s : 4 * i + 1 ≡ suc (4 * i) = omega arith in let z : x / 2 ^ (4 * i) / 2 ≡ x / 2 ^ suc (4 * i) = at 1 ∙ ap (λ (m : ℕ). x / 2 ^ m) s in omega arith
+
+    two : x / 2 ^ (4 * i) % 16 / 4 % 2 ≡ x / 2 ^ suc (suc (4 * i)) % 2
+    two = let s : 4 * i + 2 ≡ suc (suc (4 * i)) = omega arith in let z : x / 2 ^ (4 * i) / 4 ≡ x / 2 ^ suc (suc (4 * i)) = at 2 ∙ ap (λ (m : ℕ). x / 2 ^ m) s in omega arith
+
+    three : x / 2 ^ (4 * i) % 16 / 8 % 2 ≡ x / 2 ^ suc (suc (suc (4 * i))) % 2
+    three = let s : 4 * i + 3 ≡ suc (suc (suc (4 * i))) = omega arith in let z : x / 2 ^ (4 * i) / 8 ≡ x / 2 ^ suc (suc (suc (4 * i))) = at 3 ∙ ap (λ (m : ℕ). x / 2 ^ m) s in omega arith
+
+-- the table of sums
+pub filled-none : (sums : List ℕ) → length sums ≡ 2048 → Filled 0 sums
+filled-none sums e = record { size = e; entries = λ k l. absurd (omega arith) }
+
+pub filled-start : {m k : ℕ} {sums : List ℕ} → Filled m sums → k ≡ m → Filled k sums
+filled-start {m} {k} {sums} h e = subst (λ i. Filled i sums) (sym e) h
+
+pub filled-more : {b v : ℕ} {sums : List ℕ} {x c d e f : ℕ} → Filled (16 * b + v) sums → b < 128 → v < 16 → c ≡ cube (4 * b) → d ≡ cube (4 * b + 1) → e ≡ cube (4 * b + 2) → f ≡ cube (4 * b + 3)
+    → x ≡ v % 2 * c + v / 2 % 2 * d + v / 4 % 2 * e + v / 8 % 2 * f → Filled (16 * b + (v + 1)) (set sums (16 * b + v) x)
+filled-more {b} {v} {sums} {x} {c} {d} {e} {f} h hb hv ec ed ee ef ex =
+    let i : (16 * b + v) / 16 ≡ b = omega arith in
+    let j : (16 * b + v) % 16 ≡ v = omega arith in
+    let s : 16 * b + v + 1 ≡ 16 * b + (v + 1) = omega arith in
+    filled-start
+    (record {
+      size = stored-size sums (16 * b + v) x fits (h .size);
+      entries = stored sums (16 * b + v) x fits (λ k y. y ≡ fourCubes (k / 16) (k % 16)) (h .entries) (rw (i, j) (rw (ec, ed, ee, ef) at ex));
+    })
+    (sym s)
+  where
+    fits : 16 * b + v < length sums
+    fits = omega (arith, h .size)
+
+-- two sums do not pass 32 bits
+digit-le : (d x : ℕ) → d < 2 → d * x ≤ x
+digit-le zero x h = omega arith
+digit-le (suc zero) x h = omega arith
+digit-le (suc (suc d)) x h = absurd (omega arith)
+
+pub four-le : {sums : List ℕ} (e : ℕ) → Filled 2048 sums → e < 2048 → getD sums e 0 ≤ 536870912
+four-le {sums} e h l =
+    let b = e / 16 in
+    let v = e % 16 in
+    omega (arith, h .entries e l, digit-le (v % 2) (cube (4 * b)) (omega arith), digit-le (v / 2 % 2) (cube (4 * b + 1)) (omega arith), digit-le (v / 4 % 2) (cube (4 * b + 2)) (omega arith), digit-le (v / 8 % 2) (cube (4 * b + 3)) (omega arith), cube-le (4 * b + 1) (omega arith), cube-le (4 * b + 1 + 1) (omega arith), cube-le (4 * b + 2 + 1) (omega arith), cube-le (4 * b + 3 + 1) (omega arith))
+
+-- the table of wider sums
+pub widened-none : (sums : List ℕ) → length sums ≡ 16384 → Widened 0 sums
+widened-none sums e = record { size = e; entries = λ k l. absurd (omega arith) }
+
+pub widened-start : {m k : ℕ} {sums : List ℕ} → Widened m sums → k ≡ m → Widened k sums
+widened-start {m} {k} {sums} h e = subst (λ i. Widened i sums) (sym e) h
+
+pub widened-more : {b h l : ℕ} {fours sums : List ℕ} → Widened (256 * b + 16 * h + l) sums → Filled 2048 fours → b < 64 → h < 16 → l < 16
+    → Widened (256 * b + 16 * h + (l + 1)) (set sums (256 * b + 16 * h + l) (getD fours (32 * b + l) 0 + getD fours (32 * b + 16 + h) 0))
+unfolding eightCubes
+widened-more {b} {h} {l} {fours} {sums} w f hb hh hl =
+    let s : 256 * b + 16 * h + l + 1 ≡ 256 * b + 16 * h + (l + 1) = omega arith in
+    widened-start
+    (record {
+      size = stored-size sums (256 * b + 16 * h + l) x fits (w .size);
+      entries = stored sums (256 * b + 16 * h + l) x fits (λ k y. y ≡ fourCubes (2 * (k / 256)) (k % 256 % 16) + fourCubes (2 * (k / 256) + 1) (k % 256 / 16)) (w .entries) here;
+    })
+    (sym s)
+  where
+    x : ℕ
+    x = getD fours (32 * b + l) 0 + getD fours (32 * b + 16 + h) 0
+
+    fits : 256 * b + 16 * h + l < length sums
+    fits = omega (arith, w .size)
+
+    here : x ≡ fourCubes (2 * ((256 * b + 16 * h + l) / 256)) ((256 * b + 16 * h + l) % 256 % 16) + fourCubes (2 * ((256 * b + 16 * h + l) / 256) + 1) ((256 * b + 16 * h + l) % 256 / 16)
+    here =
+        let d : (256 * b + 16 * h + l) / 256 ≡ b = omega arith in
+        let v : (256 * b + 16 * h + l) % 256 % 16 ≡ l = omega arith in
+        let u : (256 * b + 16 * h + l) % 256 / 16 ≡ h = omega arith in
+        let d₀ : (32 * b + l) / 16 ≡ 2 * b = omega arith in
+        let v₀ : (32 * b + l) % 16 ≡ l = omega arith in
+        let d₁ : (32 * b + 16 + h) / 16 ≡ 2 * b + 1 = omega arith in
+        let v₁ : (32 * b + 16 + h) % 16 ≡ h = omega arith in
+        rw (d, v, u) (ap₂ _+_ (rw (d₀, v₀) at (f .entries (32 * b + l) (omega arith))) (rw (d₁, v₁) at (f .entries (32 * b + 16 + h) (omega arith))))
+
+-- an entry is a number of 32 bits
+pub entry-at : {sums : List ℕ} (w i v r : ℕ) → Widened 16384 sums → w < 8 → i < 8 → v < 256 → r ≡ getD sums (256 * (8 * w + i) + v) 0 → r ≡ eightCubes (8 * w + i) v
+entry-at {sums} w i v r h hw hi hv e =
+    let x : (256 * (8 * w + i) + v) / 256 ≡ 8 * w + i = omega arith in
+    let y : (256 * (8 * w + i) + v) % 256 ≡ v = omega arith in
+    e ∙ (rw (x, y) at (h .entries (256 * (8 * w + i) + v) (omega arith)))
+
+-- the words of a row, one after the other
+pub words-none : (w x : ℕ) → 0 ≡ wordCubes w x 0
+unfolding wordCubes
+words-none w x = refl
+
+pub row-none : (edges : List ℕ) (p : ℕ) → 0 ≡ rowCubes edges p 0
+unfolding rowCubes
+row-none edges p = refl
+
+pub row-more : (edges : List ℕ) (p w t r : ℕ) → t ≡ rowCubes edges p w → r ≡ wordCubes w (getD edges (8 * p + w) 0) 64 → t + r ≡ rowCubes edges p (w + 1)
+unfolding rowCubes
+row-more edges p w t r e f = let s : w + 1 ≡ suc w = omega arith in rw (s, e, f)
+
+-- eight bits of a word more
+pub word-more : (w x i t r : ℕ) → t ≡ wordCubes w x (8 * i) → r ≡ eightCubes (8 * w + i) (x / 2 ^ (8 * i) % 256) → t + r ≡ wordCubes w x (8 * (i + 1))
+unfolding eightCubes
+word-more w x i t r e f =
+    let m : 8 * i ≡ 4 * (2 * i) = omega arith in
+    let m′ : 4 * (2 * i + 1 + 1) ≡ 8 * (i + 1) = omega arith in
+    let lower : fourCubes (2 * (8 * w + i)) (v % 16) ≡ fourCubes (16 * w + 2 * i) (x / 2 ^ (4 * (2 * i)) % 16) = ap₂ fours (omega arith) low in
+    let upper : fourCubes (2 * (8 * w + i) + 1) (v / 16) ≡ fourCubes (16 * w + (2 * i + 1)) (x / 2 ^ (4 * (2 * i + 1)) % 16) = ap₂ fours (omega arith) high in
+    let first : t + fourCubes (2 * (8 * w + i)) (v % 16) ≡ wordCubes w x (4 * (2 * i + 1)) = ap₂ _+_ (e ∙ ap (wordCubes w x) m) lower ∙ four-more w x (2 * i) in
+    ap (λ (y : ℕ). t + y) f
+    ∙ sum t (fourCubes (2 * (8 * w + i)) (v % 16)) (fourCubes (2 * (8 * w + i) + 1) (v / 16))
+    ∙ ap₂ _+_ first upper
+    ∙ four-more w x (2 * i + 1)
+    ∙ ap (wordCubes w x) m′
+  where
+    v : ℕ
+    v = x / 2 ^ (8 * i) % 256
+
+    fours : ℕ → ℕ → ℕ
+    fours b y = fourCubes b y
+
+    sum : (a b c : ℕ) → a + (b + c) ≡ a + b + c
+    sum a b c = omega arith
+
+    low : v % 16 ≡ x / 2 ^ (4 * (2 * i)) % 16
+    low = let m : 8 * i ≡ 4 * (2 * i) = omega arith in let z : x / 2 ^ (8 * i) ≡ x / 2 ^ (4 * (2 * i)) = ap (λ (k : ℕ). x / 2 ^ k) m in omega arith
+
+    high : v / 16 ≡ x / 2 ^ (4 * (2 * i + 1)) % 16
+    high = let m : 8 * i + 4 ≡ 4 * (2 * i + 1) = omega arith in let z : x / 2 ^ (8 * i) / 16 ≡ x / 2 ^ (4 * (2 * i + 1)) = shr-shr x (8 * i) 4 ∙ ap (λ (k : ℕ). x / 2 ^ k) m in omega arith
+
+pub word-done : (w x i t : ℕ) → t ≡ wordCubes w x (8 * i) → i ≡ 8 → t ≡ wordCubes w x 64
+word-done w x i t e f = e ∙ ap (λ (k : ℕ). wordCubes w x (8 * k)) f
+
+pub row-done : (edges : List ℕ) (p w t : ℕ) → t ≡ rowCubes edges p w → w ≡ 8 → t ≡ rowCubes edges p 8
+row-done edges p w t e f = e ∙ ap (rowCubes edges p) f
+
+-- sums of cubes over a stretch of nodes
+cubes-split : (f : ℕ → Bool) (a k l : ℕ) → sumCubes (filter f (from a (k + l))) ≡ sumCubes (filter f (from a k)) + sumCubes (filter f (from (a + k) l))
+unfolding filter sumCubes from
+cubes-split f a zero l =
+    let x : 0 + l ≡ l = omega arith in
+    let y : a ≡ a + 0 = omega arith in
+    let e : sumCubes (filter f (from a (0 + l))) ≡ sumCubes (filter f (from (a + 0) l)) = ap₂ (λ (i j : ℕ). sumCubes (filter f (from i j))) y x in
+    omega arith
+cubes-split f a (suc k) l = ap (λ (i : ℕ). sumCubes (filter f (from a i))) (suc-add k l) ∙ step (f a) (cubes-split f (suc a) k l)
+  where
+    suc-add : (k l : ℕ) → suc k + l ≡ suc (k + l)
+    suc-add k l = omega arith
+
+    shift : sumCubes (filter f (from (suc a + k) l)) ≡ sumCubes (filter f (from (a + suc k) l))
+    shift = ap (λ (i : ℕ). sumCubes (filter f (from i l))) (omega arith)
+
+    step : (b : Bool) → sumCubes (filter f (from (suc a) (k + l))) ≡ sumCubes (filter f (from (suc a) k)) + sumCubes (filter f (from (suc a + k) l))
+        → sumCubes (cond b (a ∷ filter f (from (suc a) (k + l))) (filter f (from (suc a) (k + l)))) ≡ sumCubes (cond b (a ∷ filter f (from (suc a) k)) (filter f (from (suc a) k))) + sumCubes (filter f (from (a + suc k) l))
+    step true e = omega (arith, shift)
+    step false e = omega (arith, shift)
+
+cubes-one : (f : ℕ → Bool) (a : ℕ) → sumCubes (filter f (from a 1)) ≡ cond (f a) (cube a) 0
+unfolding filter sumCubes from
+cubes-one f a = step (f a)
+  where
+    step : (b : Bool) → sumCubes (cond b (a ∷ []) []) ≡ cond b (cube a) 0
+    step true = omega arith
+    step false = refl
+
+module _ (edges : List ℕ) (p : ℕ) where
+  word-cubes : (w m : ℕ) → m ≤ 64 → wordCubes w (getD edges (8 * p + w) 0) m ≡ sumCubes (filter (edgeBit edges p) (from (64 * w) m))
+  unfolding wordCubes
+  word-cubes w zero h = nothing
+    where
+      nothing : 0 ≡ sumCubes (filter (edgeBit edges p) (from (64 * w) 0))
+      nothing = unfold filter sumCubes from in refl
+  word-cubes w (suc m) h = step (word-cubes w m (omega arith))
+    where
+      step : wordCubes w (getD edges (8 * p + w) 0) m ≡ sumCubes (filter (edgeBit edges p) (from (64 * w) m))
+          → wordCubes w (getD edges (8 * p + w) 0) m + cond (bitAt (getD edges (8 * p + w) 0) m) (cube (64 * w + m)) 0 ≡ sumCubes (filter (edgeBit edges p) (from (64 * w) (suc m)))
+      step e =
+          let s : m + 1 ≡ suc m = omega arith in
+          let b : cond (bitAt (getD edges (8 * p + w) 0) m) (cube (64 * w + m)) 0 ≡ cond (edgeBit edges p (64 * w + m)) (cube (64 * w + m)) 0 = ap (λ (t : Bool). cond t (cube (64 * w + m)) 0) (sym (word-bit edges p w m (omega arith))) in
+          let j : sumCubes (filter (edgeBit edges p) (from (64 * w) (m + 1))) ≡ sumCubes (filter (edgeBit edges p) (from (64 * w) (suc m))) = ap (λ (i : ℕ). sumCubes (filter (edgeBit edges p) (from (64 * w) i))) s in
+          omega (arith, cubes-split (edgeBit edges p) (64 * w) m 1, cubes-one (edgeBit edges p) (64 * w + m))
+
+  row-cubes : (m : ℕ) → rowCubes edges p m ≡ sumCubes (filter (edgeBit edges p) (from 0 (64 * m)))
+  unfolding rowCubes
+  row-cubes zero = nothing
+    where
+      nothing : 0 ≡ sumCubes (filter (edgeBit edges p) (from 0 (64 * 0)))
+      nothing = unfold filter sumCubes from in refl
+  row-cubes (suc m) = step (row-cubes m)
+    where
+      step : rowCubes edges p m ≡ sumCubes (filter (edgeBit edges p) (from 0 (64 * m))) → rowCubes edges p m + wordCubes m (getD edges (8 * p + m) 0) 64 ≡ sumCubes (filter (edgeBit edges p) (from 0 (64 * suc m)))
+      step e =
+          let j : sumCubes (filter (edgeBit edges p) (from 0 (64 * m + 64))) ≡ sumCubes (filter (edgeBit edges p) (from 0 (64 * suc m))) = ap (λ (i : ℕ). sumCubes (filter (edgeBit edges p) (from 0 i))) (omega arith) in
+          let z : sumCubes (filter (edgeBit edges p) (from (0 + 64 * m) 64)) ≡ sumCubes (filter (edgeBit edges p) (from (64 * m) 64)) = ap (λ (i : ℕ). sumCubes (filter (edgeBit edges p) (from i 64))) (omega arith) in
+          omega (arith, cubes-split (edgeBit edges p) 0 (64 * m) 64, word-cubes m 64 (omega arith))
+
+  -- the key of a row without bits for numbers from n on
+  pub dense-key : (n : ℕ) → n ≤ 512 → p < n → ((q : ℕ) → q < 512 → edgeBit edges p q ≡ true → q < n) → rowCubes edges p 8 % 2 ^ 32 ≡ openKey (whole (graphIn n edges)) p
+  unfolding openKey nodes edgesIn
+  dense-key n l hp inside = ap (λ (s : ℕ). s % 2 ^ 32) (row-cubes 8 ∙ both)
+    where
+      none : sumCubes (filter (edgeBit edges p) (from (0 + n) (512 - n))) ≡ 0
+      none = cubes-cong (from (0 + n) (512 - n)) (edgeBit edges p) (λ q. false) (λ q m. off q (from-out (0 + n) (512 - n) q m) (decide (edgeBit edges p q))) ∙ no-cubes (from (0 + n) (512 - n))
+        where
+          off : (q : ℕ) → (0 + n ≤ q) × (q < 0 + n + (512 - n)) → (edgeBit edges p q ≡ true) ⊎ (edgeBit edges p q ≡ false) → edgeBit edges p q ≡ false
+          off q b (inl t) = absurd (omega (arith, b .0, b .1, inside q (omega (arith, b .1)) t))
+          off q b (inr t) = t
+
+      both : sumCubes (filter (edgeBit edges p) (from 0 (64 * 8))) ≡ sumCubes (filter (λ q. ltb p n && (ltb q n && edgeBit edges p q)) (from 0 n))
+      both =
+          let s : n + (512 - n) ≡ 64 * 8 = omega arith in
+          let j : sumCubes (filter (edgeBit edges p) (from 0 (n + (512 - n)))) ≡ sumCubes (filter (edgeBit edges p) (from 0 (64 * 8))) = ap (λ (i : ℕ). sumCubes (filter (edgeBit edges p) (from 0 i))) s in
+          let k = cubes-cong (from 0 n) (edgeBit edges p) (λ q. ltb p n && (ltb q n && edgeBit edges p q)) (λ q m. rw (lt-ltb p n hp, lt-ltb q n (omega (arith, from-out 0 n q m .1)))) in
+          omega (arith, cubes-split (edgeBit edges p) 0 n (512 - n), none)

@@ -1,0 +1,26 @@
+-- What is masked tells the visible part, so its least members are those of the graph's visible nodes.
+use borrow.Author.Needs.{needs}
+use Rattle.masking.specs.MaskLaws.{masked-apart, masked-truth}
+use Rattle.release.proofs.summarise.Statement.{statement}
+use Rattle.release.proofs.summarise.Tie as tie
+
+mask-edges-requires : tie.Need-mask-edges-requires
+mask-edges-requires c κs = search needs
+
+find-groups-requires : tie.Need-find-groups-requires
+find-groups-requires c κs =
+    let pre = c .before .before .before .before .before .before .before .before .before .before .pre in
+    (masked-apart (pre .0) (c .before .before .before .before .mask-edges .ensures), pre .2)
+
+same-length : tie.Need-same-length
+same-length c = search needs
+
+same-length-2 : tie.Need-same-length-2
+same-length-2 c = search needs
+
+returns : tie.Need-returns
+returns c = masked-truth (c .before .before .before .before .before .before .before .before .before .before .before .before .before .pre .0) (c .before .before .before .before .before .before .before .mask-edges .ensures) (c .before .before .find-groups .ensures)
+
+pub summarise-spec : {M : Type 1} → statement M
+summarise-spec =
+    tie.close (tie.spec mask-edges-requires find-groups-requires same-length same-length-2 returns)

@@ -1,0 +1,4 @@
+pub mod Update
+pub mod UpdateLaws
+pub mod Batch
+pub mod BatchLaws

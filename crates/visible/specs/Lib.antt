@@ -1,9 +1,0 @@
-pub mod Visible
-pub mod Chains
-pub mod MaskLaws
-pub mod KeySumLaws
-pub mod HashLaws
-pub mod TwinKeyLaws
-pub mod ChainLaws
-pub mod LeastLaws
-pub mod ConfirmLaws
