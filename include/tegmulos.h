@@ -70,10 +70,10 @@ uint16_t tegmulos_tied(size_t n, const uint64_t *edges, size_t edges_len, const 
 uint16_t tegmulos_group(size_t n, const uint64_t *edges, size_t edges_len, const uint16_t *nodes, size_t nodes_len,
                         const uint32_t *keys, size_t keys_len, uint16_t p, uint16_t *least, uint16_t *kind, uint16_t *size);
 
-/* The release of the visible part: its m nodes, g groups, s superedges, and its length in bytes. 0, or 11, 12, 18. */
+/* The release of the visible part: its m nodes, g groups, s superedges, and how many bytes it has. 0, or 11, 12, 18. */
 uint16_t tegmulos_release(size_t n, const uint64_t *edges, size_t edges_len, const uint16_t *nodes, size_t nodes_len,
                           const uint32_t *keys, size_t keys_len, uint8_t *out, size_t out_len, uint16_t *m, uint16_t *g, uint32_t *s,
-                          uint32_t *length);
+                          uint32_t *bytes);
 
 /* A release read back into tables for n nodes: nodes that it lacks are hidden and without edges. 0, or 11, 19, 20. */
 uint16_t tegmulos_read(size_t n, uint64_t *edges, size_t edges_len, uint16_t *nodes, size_t nodes_len, uint32_t *keys,

@@ -26,7 +26,7 @@ int main(void) {
     int16_t answers[UPDATES];
     uint8_t file[128];
     uint16_t out[N], count, m, g, least, kind, size, yes;
-    uint32_t s, length;
+    uint32_t s, bytes;
 
     printf("open: %u\n", tegmulos_open(N, edges, 8 * N, nodes, 4 * N, keys, 2 * N));
     printf("apply: %u\n", tegmulos_apply(N, edges, 8 * N, nodes, 4 * N, keys, 2 * N, batch, 3 * UPDATES, answers, UPDATES));
@@ -42,14 +42,14 @@ int main(void) {
     tegmulos_neighbours(N, edges, 8 * N, nodes, 4 * N, keys, 2 * N, 0, out, N, &count);
     print_list("neighbours of 0", out, count);
     printf("release: %u\n",
-           tegmulos_release(N, edges, 8 * N, nodes, 4 * N, keys, 2 * N, file, sizeof file, &m, &g, &s, &length));
-    printf("visible %u groups %u superedges %u bytes %u\n", m, g, s, length);
-    for (uint32_t i = 0; i < length; i++) {
-        printf("%02X%c", file[i], i + 1 == length ? '\n' : ' ');
+           tegmulos_release(N, edges, 8 * N, nodes, 4 * N, keys, 2 * N, file, sizeof file, &m, &g, &s, &bytes));
+    printf("visible %u groups %u superedges %u bytes %u\n", m, g, s, bytes);
+    for (uint32_t i = 0; i < bytes; i++) {
+        printf("%02X%c", file[i], i + 1 == bytes ? '\n' : ' ');
     }
-    printf("read: %u\n", tegmulos_read(N, edges, 8 * N, nodes, 4 * N, keys, 2 * N, file, length));
-    tegmulos_file_neighbours(file, length, 0, out, N, &count);
+    printf("read: %u\n", tegmulos_read(N, edges, 8 * N, nodes, 4 * N, keys, 2 * N, file, bytes));
+    tegmulos_file_neighbours(file, bytes, 0, out, N, &count);
     print_list("neighbours of 0 in the file", out, count);
-    printf("of 3, hidden: %u\n", tegmulos_file_neighbours(file, length, 3, out, N, &count));
+    printf("of 3, hidden: %u\n", tegmulos_file_neighbours(file, bytes, 3, out, N, &count));
     return 0;
 }

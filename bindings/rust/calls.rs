@@ -7,7 +7,7 @@ mod c {
         pub fn tegmulos_neighbours(n: usize, e: *const u64, el: usize, v: *const u16, vl: usize, k: *const u32, kl: usize, p: u16, o: *mut u16, ol: usize, count: *mut u16) -> u16;
         pub fn tegmulos_tied(n: usize, e: *const u64, el: usize, v: *const u16, vl: usize, k: *const u32, kl: usize, p: u16, q: u16, yes: *mut u16) -> u16;
         pub fn tegmulos_group(n: usize, e: *const u64, el: usize, v: *const u16, vl: usize, k: *const u32, kl: usize, p: u16, least: *mut u16, kind: *mut u16, size: *mut u16) -> u16;
-        pub fn tegmulos_release(n: usize, e: *const u64, el: usize, v: *const u16, vl: usize, k: *const u32, kl: usize, o: *mut u8, ol: usize, m: *mut u16, g: *mut u16, s: *mut u32, length: *mut u32) -> u16;
+        pub fn tegmulos_release(n: usize, e: *const u64, el: usize, v: *const u16, vl: usize, k: *const u32, kl: usize, o: *mut u8, ol: usize, m: *mut u16, g: *mut u16, s: *mut u32, bytes: *mut u32) -> u16;
         pub fn tegmulos_read(n: usize, e: *mut u64, el: usize, v: *mut u16, vl: usize, k: *mut u32, kl: usize, f: *const u8, fl: usize) -> u16;
         pub fn tegmulos_file_neighbours(f: *const u8, fl: usize, p: u16, o: *mut u16, ol: usize, count: *mut u16) -> u16;
     }
