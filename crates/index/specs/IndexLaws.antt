@@ -19,9 +19,8 @@ use Rattle.model.specs.TestLaws.{or-none}
 use Rattle.model.specs.TableLaws.{held-tables, held-proper}
 use Rattle.model.specs.RefusalLaws.{first-none, judged-done, judged-refused}
 use Rattle.index.specs.Index.{opened, applied, listed, tiedOf, grouped}
-use Rattle.tables.specs.Lent.{tableReasons}
+use Rattle.tables.specs.Lent.{tableReasons, Held}
 use Rattle.tables.specs.LentLaws.{sized, table-refused, table-rest, table-held}
-use Rattle.tables.specs.Lent.{Held}
 use Rattle.updates.specs.Batch.{Applied as BatchDone}
 use Rattle.updates.specs.BatchLaws.{whole-numbers}
 use Rattle.queries.specs.Query.{ledBy, kindBy}

@@ -17,8 +17,6 @@ use Rattle.model.specs.TestLaws.{decide}
 use Rattle.model.specs.Updates.{updateNumbers, updatesIn}
 use Rattle.buffers.specs.Wrote.{Wrote}
 use Rattle.buffers.specs.WroteLaws.{sets-onto}
-use Rattle.buffers.specs.Wrote.{Wrote}
-use Rattle.buffers.specs.WroteLaws.{sets-onto}
 use Rattle.print.specs.LengthLaws.{program-short}
 use Rattle.print.specs.Lines.{maxText}
 use Rattle.text.specs.Grammar.{Told, inputIn, used}

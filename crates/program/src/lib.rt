@@ -9,7 +9,6 @@ ghost use Rattle.model.specs.Calls.{onto};
 ghost use Rattle.model.specs.Program.{accepted, maxBytes, printed, program};
 ghost use Rattle.model.specs.Updates.{updatesIn};
 ghost use Rattle.buffers.specs.Wrote.{Wrote};
-ghost use Rattle.buffers.specs.Wrote.{Wrote};
 ghost use Rattle.rows.specs.Rows.{lent};
 ghost use Rattle.program.specs.Accepted.{Done, Lent, Small};
 

@@ -8,7 +8,6 @@ use lib.ListN.{length, getD}
 use Rattle.model.specs.Graph.{Graph}
 use Rattle.model.specs.Tables.{edgeBit, nodeNumber}
 use Rattle.buffers.specs.Scan.{scan}
-use Rattle.buffers.specs.Scan.{scan}
 use Rattle.model.specs.Refusals.{firstOf}
 use Rattle.model.specs.Release.{release}
 use Rattle.model.specs.Reading.{decode, isRelease}

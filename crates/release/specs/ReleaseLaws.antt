@@ -22,11 +22,9 @@ use Rattle.reader.specs.declared.Decoded.{Decoded}
 use Rattle.reader.specs.declared.Decoded.the-variants as answer
 use Rattle.reader.specs.Decoding.{accepted, graphIn, HoldsGraph, Decodes, placed, toldGroups}
 use Rattle.reader.specs.HeldLaws.{answer-accepts, decodes-simple, refused-is-none, release-read, release-compared}
-use Rattle.tables.specs.Lent.{tableReasons}
+use Rattle.tables.specs.Lent.{tableReasons, Held}
 use Rattle.index.specs.IndexLaws.{call-refused, call-done}
-use Rattle.tables.specs.LentLaws.{table-refused, table-rest}
-use Rattle.tables.specs.Lent.{Held}
-use Rattle.tables.specs.LentLaws.{held-sized}
+use Rattle.tables.specs.LentLaws.{table-refused, table-rest, held-sized}
 use Rattle.rows.specs.Rows.{Words}
 use Rattle.search.specs.Search.{edgesIn}
 use Rattle.masking.specs.Masking.{Apart, Drawn, markedGraph, shown}

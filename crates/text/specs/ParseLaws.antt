@@ -15,8 +15,6 @@ use Rattle.model.specs.TestLaws.{decide}
 use Rattle.model.specs.Updates.{Update, updateNumbers, updatesIn}
 use Rattle.buffers.specs.Wrote.{Wrote}
 use Rattle.buffers.specs.WroteLaws.{wrote-then}
-use Rattle.buffers.specs.Wrote.{Wrote}
-use Rattle.buffers.specs.WroteLaws.{wrote-then}
 use Rattle.text.specs.declared.Line.{Line}
 use Rattle.text.specs.declared.Line.the-variants.{Change, NoChange}
 use Rattle.text.specs.declared.Number.{Number}

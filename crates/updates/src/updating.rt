@@ -9,9 +9,8 @@ ghost use Rattle.model.specs.Graph.{maxNodes, rowWords, nodeNumbers};
 ghost use Rattle.model.specs.Tables.{edgeBit, nodeNumber, graphOf};
 ghost use Rattle.model.specs.Updates.{refusal};
 ghost use Rattle.rows.specs.Rows.{lent};
-ghost use Rattle.tables.specs.Lent.{Sized};
+ghost use Rattle.tables.specs.Lent.{Sized, Held};
 ghost use Rattle.updates.specs.Update.{Updated, change, edgeRefusal, heldRefusal, markRefusal};
-ghost use Rattle.tables.specs.Lent.{Held};
 use rows::Graph;
 
 // 16 where what is wanted is there already, 17 where what is not wanted is not there, else 0.
