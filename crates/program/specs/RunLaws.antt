@@ -19,12 +19,12 @@ use Rattle.buffers.specs.Wrote.{Wrote}
 use Rattle.buffers.specs.WroteLaws.{sets-onto}
 use Rattle.print.specs.LengthLaws.{program-short}
 use Rattle.print.specs.Lines.{maxText}
-use Rattle.text.specs.Grammar.{Told, inputIn, used}
+use Rattle.text.specs.Grammar.{ParsedAs, inputIn, used}
 use Rattle.text.specs.declared.Parsed.{Parsed}
 use Rattle.text.specs.declared.Parsed.the-variants.{Accepted, Refused}
 use Rattle.program.specs.Accepted.{Small}
 
-module _ (bytes : List ℕ) {before after : List ℕ} {r : Parsed} (h : Told (inputOf bytes) before after r) where
+module _ (bytes : List ℕ) {before after : List ℕ} {r : Parsed} (h : ParsedAs (inputOf bytes) before after r) where
   input-is : {i : Input} → inputIn r after ≡ i → printed i ≡ program bytes
   unfolding program
   input-is e = ap printed (sym e ∙ h .input)

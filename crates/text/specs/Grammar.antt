@@ -58,7 +58,7 @@ used (Refused line) = maxUpdates
 used (Accepted n count) = count
 
 -- the answer is the input, its changes fit the batch, and the numbers beyond them keep their value
-pub record Told (all : Input) (before after : List ℕ) (r : Parsed) : Type 0 where
+pub record ParsedAs (all : Input) (before after : List ℕ) (r : Parsed) : Type 0 where
   pub input : inputIn r after ≡ all
   pub few : used r ≤ maxUpdates
   pub beyond : drop (updateNumbers * used r) after ≡ drop (updateNumbers * used r) before

@@ -21,7 +21,7 @@ use Rattle.text.specs.declared.Number.{Number}
 use Rattle.text.specs.declared.Number.the-variants.{Value, NoNumber}
 use Rattle.text.specs.declared.Parsed.{Parsed}
 use Rattle.text.specs.declared.Parsed.the-variants.{Accepted, Refused}
-use Rattle.text.specs.Grammar.{Told, inputIn, lineIn, numberOf, upTo, used}
+use Rattle.text.specs.Grammar.{ParsedAs, inputIn, lineIn, numberOf, upTo, used}
 use Rattle.text.specs.LineLaws.{part-from}
 use Rattle.text.specs.PieceLaws.{pieces-more, pieces-one, pieces-some, upTo-le}
 
@@ -89,7 +89,7 @@ reading-start input batch n from h r = record {
 
 module _ {input before after : List ℕ} {all : Input} {n at count : ℕ} (x : Reading input before after all n at count) where
   -- refused at the line that is read
-  refused : linesFrom n (count + 2) (pieces 0x0A (drop at input)) ≡ refusedAt (count + 2) → Told all before after (Refused (count + 2))
+  refused : linesFrom n (count + 2) (pieces 0x0A (drop at input)) ≡ refusedAt (count + 2) → ParsedAs all before after (Refused (count + 2))
   unfolding following inputIn used
   refused e = record {
     input = sym (ap (following (x .changes)) e) ∙ x .same;
@@ -101,7 +101,7 @@ module _ {input before after : List ℕ} {all : Input} {n at count : ℕ} (x : R
   rest-length = length-drop at input
 
   -- a last line without a line feed
-  pub reading-open : (u : ℕ) → at < length input → u ≡ upTo 0x0A (take (length input - at) (drop at input)) → at + u ≡ length input → Told all before after (Refused (count + 2))
+  pub reading-open : (u : ℕ) → at < length input → u ≡ upTo 0x0A (take (length input - at) (drop at input)) → at + u ≡ length input → ParsedAs all before after (Refused (count + 2))
   reading-open u h e l = refused (rw (pieces-one 0x0A (drop at input) (omega (arith, rest-length, q, l))) tail)
     where
       q : u ≡ upTo 0x0A (drop at input)
@@ -126,7 +126,7 @@ module _ {input before after : List ℕ} {all : Input} {n at count : ℕ} (x : R
       body = unfold linesFrom in rw (next, pieces-some 0x0A (drop (at + u + 1) input))
 
   -- a 4,097th change, whatever it is
-  pub reading-over : (u : ℕ) → u ≡ upTo 0x0A (take (length input - at) (drop at input)) → (at + u ≡ length input → ⊥) → count ≡ maxUpdates → Told all before after (Refused (count + 2))
+  pub reading-over : (u : ℕ) → u ≡ upTo 0x0A (take (length input - at) (drop at input)) → (at + u ≡ length input → ⊥) → count ≡ maxUpdates → ParsedAs all before after (Refused (count + 2))
   reading-over u e l f = refused (line-first u e l ∙ over (lineOf (take u (drop at input))))
     where
       over : (y : ModelLine) → withLine (count + 2) y (linesFrom n (suc (count + 2)) (pieces 0x0A (drop (at + u + 1) input))) ≡ refusedAt (count + 2)
@@ -138,7 +138,7 @@ module _ {input before after : List ℕ} {all : Input} {n at count : ℕ} (x : R
 
   -- an ill-formed line
   pub reading-ill : {r : Line} (u : ℕ) → u ≡ upTo 0x0A (take (length input - at) (drop at input)) → (at + u ≡ length input → ⊥) → lineIn r ≡ lineOf (take (at + u - at) (drop at input)) → r ≡ NoChange
-      → Told all before after (Refused (count + 2))
+      → ParsedAs all before after (Refused (count + 2))
   reading-ill u e l t c = refused (line-first u e l ∙ rw (← part-line u, ← t, c) (unfold lineIn withLine in refl))
 
   -- a change
@@ -166,7 +166,7 @@ module _ {input before after : List ℕ} {all : Input} {n at count : ℕ} (x : R
           line-first u e l ∙ rw (← part-line u, ← t, y, z) (unfold lineIn withLine in rw (le-ltb (suc maxUpdates) (count + 2) (omega (arith, f, x .few))))
 
   -- no line is left
-  pub reading-done : length input ≤ at → Told all before after (Accepted n count)
+  pub reading-done : length input ≤ at → ParsedAs all before after (Accepted n count)
   unfolding following inputIn used
   reading-done h = record {
     input = ap (accepted n) (ap updatesIn front ∙ numbers-back (x .changes)) ∙ sym (ap (accepted n) (append-nil (x .changes))) ∙ sym (ap (following (x .changes)) none) ∙ x .same;
@@ -222,11 +222,11 @@ unfolding isCount
 count-none ds h = rw (number-none ds h)
 
 -- refused at the first line, or for its length, with the batch as it was
-refused-at : (input batch : List ℕ) (k : ℕ) → inputOf input ≡ refusedAt k → Told (inputOf input) batch batch (Refused k)
+refused-at : (input batch : List ℕ) (k : ℕ) → inputOf input ≡ refusedAt k → ParsedAs (inputOf input) batch batch (Refused k)
 unfolding inputIn used
 refused-at input batch k e = record { input = sym e; few = omega arith; beyond = refl }
 
-pub first-long : (input batch : List ℕ) → maxBytes < length input → Told (inputOf input) batch batch (Refused 0)
+pub first-long : (input batch : List ℕ) → maxBytes < length input → ParsedAs (inputOf input) batch batch (Refused 0)
 first-long input batch h = refused-at input batch 0 (unfold inputOf in rw (lt-ltb maxBytes (length input) h))
 
 module _ (input : List ℕ) (small : length input ≤ maxBytes) where
@@ -234,20 +234,20 @@ module _ (input : List ℕ) (small : length input ≤ maxBytes) where
   unfolding inputOf
   by-lines = rw (le-ltb maxBytes (length input) small)
 
-  pub first-open : (batch : List ℕ) (u : ℕ) → u ≡ upTo 0x0A input → u ≡ length input → Told (inputOf input) batch batch (Refused 1)
+  pub first-open : (batch : List ℕ) (u : ℕ) → u ≡ upTo 0x0A input → u ≡ length input → ParsedAs (inputOf input) batch batch (Refused 1)
   first-open batch u e l = refused-at input batch 1 (by-lines ∙ rw (pieces-one 0x0A input (sym e ∙ l)) (unfold firstLine isNone in refl))
 
   first-line : (u : ℕ) → u ≡ upTo 0x0A input → (u ≡ length input → ⊥) → inputOf input ≡ cond (not (isCount (take u input))) (refusedAt 1) (linesFrom (valueOf 0 (take u input)) 2 (pieces 0x0A (drop (u + 1) input)))
   first-line u e l = by-lines ∙ rw (pieces-more 0x0A input (omega (arith, e, l, upTo-le 0x0A input)), ← e) (unfold firstLine in rw (pieces-some 0x0A (drop (u + 1) input)))
 
-  pub first-ill : {a : Number} (batch : List ℕ) (u : ℕ) → u ≡ upTo 0x0A input → (u ≡ length input → ⊥) → a ≡ numberOf (take u input) → a ≡ NoNumber → Told (inputOf input) batch batch (Refused 1)
+  pub first-ill : {a : Number} (batch : List ℕ) (u : ℕ) → u ≡ upTo 0x0A input → (u ≡ length input → ⊥) → a ≡ numberOf (take u input) → a ≡ NoNumber → ParsedAs (inputOf input) batch batch (Refused 1)
   first-ill batch u e l x y = refused-at input batch 1 (first-line u e l ∙ rw (count-none (take u input) (sym x ∙ y)))
 
-  pub first-large : {a : Number} (batch : List ℕ) (u v : ℕ) → u ≡ upTo 0x0A input → (u ≡ length input → ⊥) → a ≡ numberOf (take u input) → a ≡ Value v → maxNodes < v → Told (inputOf input) batch batch (Refused 1)
+  pub first-large : {a : Number} (batch : List ℕ) (u v : ℕ) → u ≡ upTo 0x0A input → (u ≡ length input → ⊥) → a ≡ numberOf (take u input) → a ≡ Value v → maxNodes < v → ParsedAs (inputOf input) batch batch (Refused 1)
   first-large batch u v e l x y h = refused-at input batch 1 (first-line u e l ∙ rw (count-is (take u input) v (sym x ∙ y), lt-leb v maxNodes h))
 
   pub first-then : {a : Number} {before after : List ℕ} {r : Parsed} (u v : ℕ) → u ≡ upTo 0x0A input → (u ≡ length input → ⊥) → a ≡ numberOf (take u input) → a ≡ Value v → v ≤ maxNodes
-      → Told (linesFrom v 2 (pieces 0x0A (drop (u + 1) input))) before after r → Told (inputOf input) before after r
+      → ParsedAs (linesFrom v 2 (pieces 0x0A (drop (u + 1) input))) before after r → ParsedAs (inputOf input) before after r
   first-then u v e l x y h t = record {
     input = t .input ∙ sym (first-line u e l ∙ rw (count-is (take u input) v (sym x ∙ y), le-leb v maxNodes h, number-value (take u input) v (sym x ∙ y) .1));
     few = t .few;

@@ -8,7 +8,7 @@ ghost use Rattle.model.specs.Graph.{maxUpdates};
 ghost use Rattle.model.specs.Updates.{updateNumbers};
 ghost use Rattle.model.specs.Program.{edgeLine, inputOf, lineOf, linesFrom, markLine, pieces};
 ghost use Rattle.buffers.specs.Wrote.{Wrote};
-ghost use Rattle.text.specs.Grammar.{Told, digitOf, edgeChange, lineIn, markChange, numberOf, shape, upTo};
+ghost use Rattle.text.specs.Grammar.{ParsedAs, digitOf, edgeChange, lineIn, markChange, numberOf, shape, upTo};
 
 // Longer input is refused.
 pub const INPUT_BYTES: usize = 65536;
@@ -172,7 +172,7 @@ fn put_change(batch: &mut [u16], count: usize, kind: u16, u: u16, v: u16)
 // The lines after the first, from the place `from` on.
 fn read_lines(input: &[u8], from: usize, n: usize, batch: &mut [u16]) -> Parsed
     requires { ⌜ (from ≤ length (now input)) × (updateNumbers * maxUpdates ≤ length (now batch)) ⌝ }
-    ensures { λ r. ⌜ Told (linesFrom n 2 (pieces 0x0A (drop from (now (input .entry))))) (now (batch .entry)) (now (batch .exit)) r ⌝ }
+    ensures { λ r. ⌜ ParsedAs (linesFrom n 2 (pieces 0x0A (drop from (now (input .entry))))) (now (batch .entry)) (now (batch .exit)) r ⌝ }
 {
     let mut at = from;
     let mut count = 0;
@@ -198,7 +198,7 @@ fn read_lines(input: &[u8], from: usize, n: usize, batch: &mut [u16]) -> Parsed
 // The program's whole input. Its changes go to the batch, three numbers for each, which has room for 4,096 of them.
 pub fn parse(input: &[u8], batch: &mut [u16]) -> Parsed
     requires { ⌜ updateNumbers * maxUpdates ≤ length (now batch) ⌝ }
-    ensures { λ r. ⌜ Told (inputOf (now (input .entry))) (now (batch .entry)) (now (batch .exit)) r ⌝ }
+    ensures { λ r. ⌜ ParsedAs (inputOf (now (input .entry))) (now (batch .entry)) (now (batch .exit)) r ⌝ }
 {
     if input.len() > INPUT_BYTES {
         return Parsed::Refused { line: 0 };
