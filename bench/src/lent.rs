@@ -70,9 +70,9 @@ fn closed_twins(a: &Row, p: usize, b: &Row, q: usize) -> bool {
     for (x, y) in d.iter_mut().zip(b) {
         *x ^= y;
     }
-    d[p / 64] ^= bit(p);
-    d[q / 64] ^= bit(q);
-    d == [0; 8]
+    d[p / 64 % 8] ^= bit(p);
+    d[q / 64 % 8] ^= bit(q);
+    d.iter().fold(0, |all, x| all | x) == 0
 }
 
 fn below(n: usize) -> Row {
@@ -87,52 +87,43 @@ fn below(n: usize) -> Row {
     r
 }
 
-fn transpose(a: &mut [u64; 64]) {
-    let mut j = 32;
-    let mut m = 0x0000_0000_FFFF_FFFFu64;
-    while j != 0 {
-        let mut k = 0;
-        while k < 64 {
-            for i in k..k + j {
-                let t = ((a[i] >> j) ^ a[i + j]) & m;
-                a[i] ^= t << j;
-                a[i + j] ^= t;
-            }
-            k += 2 * j;
+/// Bits exchanged between rows that are J apart.
+fn exchange<const J: usize>(a: &mut [u64; 64], m: u64) {
+    for k in (0..64).step_by(2 * J) {
+        for i in k..k + J {
+            let t = ((a[i] >> J) ^ a[i + J]) & m;
+            a[i] ^= t << J;
+            a[i + J] ^= t;
         }
-        j >>= 1;
-        m ^= m << j;
     }
 }
 
-fn block(rows: &[u64], n: usize, i: usize, j: usize) -> [u64; 64] {
+fn transpose(a: &mut [u64; 64]) {
+    exchange::<32>(a, 0x0000_0000_FFFF_FFFF);
+    exchange::<16>(a, 0x0000_FFFF_0000_FFFF);
+    exchange::<8>(a, 0x00FF_00FF_00FF_00FF);
+    exchange::<4>(a, 0x0F0F_0F0F_0F0F_0F0F);
+    exchange::<2>(a, 0x3333_3333_3333_3333);
+    exchange::<1>(a, 0x5555_5555_5555_5555);
+}
+
+fn block(rows: &[Row], i: usize, j: usize) -> [u64; 64] {
     let mut a = [0; 64];
-    for (r, x) in a.iter_mut().enumerate().take(n.saturating_sub(64 * i)) {
-        *x = rows[8 * (64 * i + r) + j];
+    for (x, r) in a.iter_mut().zip(&rows[64 * i..]) {
+        *x = r[j % 8];
     }
     a
 }
 
-fn symmetric(edges: &[u64], n: usize) -> bool {
-    let blocks = n.div_ceil(64);
-    for i in 0..blocks {
-        for j in i..blocks {
-            let mut a = block(edges, n, i, j);
+fn symmetric(rows: &[Row]) -> bool {
+    let blocks = rows.len().div_ceil(64);
+    (0..blocks).all(|i| {
+        (i..blocks).all(|j| {
+            let mut a = block(rows, i, j);
             transpose(&mut a);
-            if a != block(edges, n, j, i) {
-                return false;
-            }
-        }
-    }
-    true
-}
-
-/// The lists of two rows' owners by a linear hash of the open and of the closed row.
-struct Slots {
-    open: [u16; 1024],
-    closed: [u16; 1024],
-    open_next: [u16; NODES],
-    closed_next: [u16; NODES],
+            rows[64 * j..].iter().zip(&a).fold(0, |d, (r, x)| d | (r[i % 8] ^ x)) == 0
+        })
+    })
 }
 
 const ODD: Row = [
@@ -140,122 +131,168 @@ const ODD: Row = [
     0xA076_1D64_78BD_642F, 0xE703_7ED1_A0B4_28DB, 0x8EBC_6AF0_9C88_C6E3, 0x5895_65F3_7B2A_4C1D,
 ];
 
-impl Slots {
-    fn new() -> Slots {
-        Slots { open: [NONE; 1024], closed: [NONE; 1024], open_next: [NONE; NODES], closed_next: [NONE; NODES] }
-    }
-
-    fn hashes(row: &Row, p: usize) -> (usize, usize) {
-        let mut h = 0u64;
-        for (x, c) in row.iter().zip(&ODD) {
-            h = h.wrapping_add(x.wrapping_mul(*c));
-        }
-        let c = h.wrapping_add(bit(p).wrapping_mul(ODD[p / 64]));
-        ((h >> 54) as usize, (c >> 54) as usize)
-    }
-
-    /// An owner before p that is p's twin, else p is entered.
-    fn twin_or_enter<'a>(&mut self, r: &Row, p: usize, rows: impl Fn(usize) -> &'a Row, open: bool, closed: bool) -> Option<usize> {
-        let (h, c) = Slots::hashes(r, p);
-        if open {
-            let mut q = self.open[h];
-            while q != NONE {
-                if rows(usize::from(q)) == r {
-                    return Some(usize::from(q));
-                }
-                q = self.open_next[usize::from(q)];
-            }
-        }
-        if closed {
-            let mut q = self.closed[c];
-            while q != NONE {
-                if closed_twins(rows(usize::from(q)), usize::from(q), r, p) {
-                    return Some(usize::from(q));
-                }
-                q = self.closed_next[usize::from(q)];
-            }
-        }
-        if open {
-            self.open_next[p] = self.open[h];
-            self.open[h] = p as u16;
-        }
-        if closed {
-            self.closed_next[p] = self.closed[c];
-            self.closed[c] = p as u16;
-        }
-        None
-    }
-}
-
 fn sized(n: usize, e: &[u64], v: &[u16], k: &[u32]) -> bool {
     n <= NODES && e.len() == 8 * n && v.len() == 4 * n && k.len() == 2 * n
 }
 
-fn rings_hold(nodes: &[u16], n: usize) -> bool {
-    let mut last = [0u16; NODES];
-    for p in 0..n {
-        let (l, prev, mark) = (usize::from(nodes[4 * p]), nodes[4 * p + 2], nodes[4 * p + 3]);
-        if mark > 1 || l > p {
-            return false;
-        }
-        if l != p {
-            if usize::from(nodes[4 * l]) != l || prev != last[l] || usize::from(nodes[4 * usize::from(last[l]) + 1]) != p {
-                return false;
-            }
-        }
-        last[l] = p as u16;
-    }
-    (0..n).all(|l| usize::from(nodes[4 * l]) != l || (usize::from(nodes[4 * usize::from(last[l]) + 1]) == l && nodes[4 * l + 2] == last[l]))
+/// Each member's previous one is of its group, less unless the member is the least, and has it as its next.
+fn rings_hold(nodes: &[[u16; 4]]) -> bool {
+    nodes.iter().enumerate().all(|(p, &[least, _, previous, mark])| {
+        let (l, q) = (usize::from(least), usize::from(previous));
+        let leads = l == p;
+        q < nodes.len() && mark <= 1 && (leads || q < p) && nodes[q][0] == least && usize::from(nodes[q][1]) == p
+    })
 }
 
-fn rows_hold(e: &[u64], n: usize) -> bool {
-    let all = below(n);
-    let mut ones = 0;
-    for p in 0..n {
-        let r = row(e, p);
-        if r.iter().zip(&all).any(|(x, m)| x & !m != 0) || has(r, p) {
-            return false;
+fn equal(a: &Row, b: &Row) -> bool {
+    a.iter().zip(b).fold(0, |d, (x, y)| d | (x ^ y)) == 0
+}
+
+/// Whether a row is another but for one bit.
+fn equal_but(a: &Row, b: &Row, p: usize) -> bool {
+    let own = |w: usize| if w == p / 64 { bit(p) } else { 0 };
+    (0..8).fold(0, |d, w| d | (a[w] ^ b[w] ^ own(w))) == 0
+}
+
+/// The group that l leads: whether the other members' rows and keys follow from l's. All members.
+fn followers_hold(rows: &[Row], nodes: &[[u16; 4]], keys: &[[u32; 2]], l: usize) -> Option<Row> {
+    let mut members = [0; 8];
+    members[l / 64 % 8] |= bit(l);
+    let second = usize::from(nodes[l][1]);
+    let clique = has(&rows[l], second);
+    let mut shared = rows[l];
+    shared[l / 64 % 8] |= if clique { bit(l) } else { 0 };
+    let mut p = second;
+    while p != l {
+        let twins = if clique { equal_but(&rows[p], &shared, p) } else { equal(&rows[p], &shared) && !has(&shared, p) };
+        if !twins || keys[p][usize::from(clique)] != keys[l][usize::from(clique)] {
+            return None;
         }
-        ones += r.iter().map(|x| x.count_ones() as usize).sum::<usize>();
+        members[p / 64 % 8] |= bit(p);
+        p = usize::from(nodes[p][1]);
     }
-    if ones > 16 * n {
-        return symmetric(e, n);
-    }
-    for p in 0..n {
+    Some(members)
+}
+
+/// Few groups: whether each leader's row is made of whole groups, the other way round too, and has the right key.
+fn leaders_hold(rows: &[Row], keys: &[[u32; 2]], leaders: &[u16], groups: &[Row]) -> bool {
+    leaders.iter().zip(groups).all(|(&l, own)| {
+        let l = usize::from(l);
+        let r = &rows[l];
+        let mut whole = *own;
+        let inside = (0..8).any(|w| r[w] & own[w] != 0);
+        whole.iter_mut().for_each(|x| *x &= if inside { u64::MAX } else { 0 });
+        whole[l / 64 % 8] &= !bit(l);
         let mut even = true;
-        each_bit(row(e, p), |q| even &= has(row(e, q), p));
-        if !even {
-            return false;
+        for (&q, group) in leaders.iter().zip(groups) {
+            let q = usize::from(q);
+            let tied = has(r, q);
+            even &= tied == has(&rows[q], l);
+            let all = if tied { u64::MAX } else { 0 };
+            whole.iter_mut().zip(group).for_each(|(x, y)| *x |= y & all);
+        }
+        even && whole == *r && keys[l][0] == key_of(r)
+    })
+}
+
+/// Whether no row has a bit at its own node or beyond all nodes.
+fn rows_fit(rows: &[Row]) -> bool {
+    let all = below(rows.len());
+    rows.iter().enumerate().all(|(p, r)| !has(r, p) && r.iter().zip(&all).fold(0, |d, (x, m)| d | (x & !m)) == 0)
+}
+
+/// Few edges: whether each goes both ways. The open keys.
+fn walk(rows: &[Row], sums: &mut [u32; NODES]) -> bool {
+    for (p, (r, sum)) in rows.iter().zip(sums).enumerate() {
+        let mine = bit(p);
+        for (w, &x) in r.iter().enumerate() {
+            let mut x = x;
+            while x != 0 {
+                let q = 64 * w + x.trailing_zeros() as usize;
+                if rows[q][p / 64 % 8] & mine == 0 {
+                    return false;
+                }
+                *sum = sum.wrapping_add(cube(q));
+                x &= x - 1;
+            }
         }
     }
     true
 }
 
-fn groups_hold(e: &[u64], v: &[u16], k: &[u32], n: usize) -> bool {
-    let mut slots = Slots::new();
-    for p in 0..n {
-        let l = usize::from(v[4 * p]);
-        let r = row(e, p);
-        if k[2 * p + 1] != k[2 * p].wrapping_add(cube(p)) {
-            return false;
-        }
-        if l == p {
-            if k[2 * p] != key_of(r) || slots.twin_or_enter(r, p, |q| row(e, q), true, true).is_some() {
-                return false;
-            }
-        } else if r == row(e, l) {
-            if k[2 * p] != k[2 * l] {
-                return false;
-            }
-        } else if !closed_twins(r, p, row(e, l), l) || k[2 * p + 1] != k[2 * l + 1] {
-            return false;
-        }
+/// Whether some rows, far apart, have few bits.
+fn seem_sparse(rows: &[Row]) -> bool {
+    let some = rows.iter().step_by(1 + rows.len() / 16);
+    let count = some.clone().count();
+    some.flatten().map(|x| x.count_ones() as usize).sum::<usize>() <= 16 * count
+}
+
+/// Many groups: whether all edges go both ways and the leaders' keys are right.
+fn rows_hold(rows: &[Row], keys: &[[u32; 2]], leaders: &[u16]) -> bool {
+    let mut sums = [0; NODES];
+    if !rows_fit(rows) {
+        return false;
     }
-    true
+    if rows.len() > 64 && seem_sparse(rows) {
+        if !walk(rows, &mut sums) {
+            return false;
+        }
+    } else {
+        if !symmetric(rows) {
+            return false;
+        }
+        sum_rows(rows, rows.len().div_ceil(64), &mut sums);
+    }
+    leaders.iter().all(|&l| keys[usize::from(l)][0] == sums[usize::from(l)])
+}
+
+/// Whether no two leaders are twins.
+fn leaders_differ(rows: &[Row], keys: &[[u32; 2]], leaders: &[u16]) -> bool {
+    let (mut open, mut closed) = ([0; NODES], [0; NODES]);
+    for (i, &p) in leaders.iter().enumerate().take(NODES) {
+        [open[i], closed[i]] = keys[usize::from(p)];
+    }
+    let (mut met_open, mut met_closed) = (Met::new(), Met::new());
+    (0..leaders.len()).all(|i| {
+        let p = usize::from(leaders[i]);
+        let leader = |j: usize| usize::from(leaders[j]);
+        let open_twin = |j: usize| equal(&rows[leader(j)], &rows[p]);
+        let closed_twin = |j: usize| closed_twins(&rows[leader(j)], leader(j), &rows[p], p);
+        !(met_open.meets(open[i]) && meets_twin(&open, i, open_twin)) && !(met_closed.meets(closed[i]) && meets_twin(&closed, i, closed_twin))
+    })
+}
+
+/// Whether one before the i-th has its hash and is its twin.
+#[cold]
+fn meets_twin(hashes: &[u32], i: usize, twin: impl Fn(usize) -> bool) -> bool {
+    hashes[..i].contains(&hashes[i]) && (0..i).any(|j| hashes[j] == hashes[i] && twin(j))
 }
 
 pub fn holds(e: &[u64], v: &[u16], k: &[u32], n: usize) -> bool {
-    rings_hold(v, n) && rows_hold(e, n) && groups_hold(e, v, k, n)
+    let (rows, nodes, keys) = (&e.as_chunks().0[..n], &v.as_chunks().0[..n], &k.as_chunks().0[..n]);
+    if !rings_hold(nodes) || (0..n).any(|p| keys[p][1] != keys[p][0].wrapping_add(cube(p))) {
+        return false;
+    }
+    let mut leaders = [0; NODES];
+    let mut g = 0;
+    for (p, node) in nodes.iter().enumerate() {
+        leaders[g] = p as u16;
+        g += usize::from(usize::from(node[0]) == p);
+    }
+    let leaders = &leaders[..g];
+    let few = 8 * g <= n;
+    let mut groups = Vec::with_capacity(if few { g } else { 0 });
+    for &l in leaders {
+        if few || nodes[usize::from(l)][1] != l {
+            let Some(members) = followers_hold(rows, nodes, keys, usize::from(l)) else {
+                return false;
+            };
+            if few {
+                groups.push(members);
+            }
+        }
+    }
+    (if few { leaders_hold(rows, keys, leaders, &groups) } else { rows_hold(rows, keys, leaders) }) && leaders_differ(rows, keys, leaders)
 }
 
 fn refusal(n: usize, e: &[u64], v: &[u16], k: &[u32]) -> u16 {
@@ -493,17 +530,248 @@ pub fn group(n: usize, e: &[u64], v: &[u16], k: &[u32], p: u16, member: &mut Mem
     0
 }
 
-fn put(out: &mut [u8], at: &mut usize, bytes: &[u8]) {
-    out[*at..*at + bytes.len()].copy_from_slice(bytes);
-    *at += bytes.len();
+/// Groups chained by hashes of their open and of their closed rows.
+struct Slots {
+    open: [u16; 1024],
+    closed: [u16; 1024],
+    open_next: [u16; NODES],
+    closed_next: [u16; NODES],
 }
 
-fn put_numbers<const N: usize>(out: &mut [u8], at: &mut usize, mark: [u8; 2], numbers: [usize; N]) {
-    put(out, at, &mark);
-    for x in numbers {
-        put(out, at, &(x as u16).to_le_bytes());
+/// The groups of the visible nodes by position, rows without hidden nodes.
+struct Shown {
+    words: usize,
+    m: usize,
+    visible: Row,
+    /// The position of each node's group.
+    group: [u16; NODES],
+    leaders: Vec<u16>,
+    rows: Vec<Row>,
+    leads: Row,
+    sizes: [u16; NODES],
+    slots: Slots,
+}
+
+impl Shown {
+    fn new(rows: &[Row], nodes: &[[u16; 4]]) -> Shown {
+        let slots = Slots { open: [NONE; 1024], closed: [NONE; 1024], open_next: [NONE; NODES], closed_next: [NONE; NODES] };
+        let room = nodes.len();
+        let mut shown = Shown {
+            words: nodes.len().div_ceil(64),
+            m: 0,
+            visible: [0; 8],
+            group: [NONE; NODES],
+            leaders: Vec::with_capacity(room),
+            rows: Vec::with_capacity(room),
+            leads: [0; 8],
+            sizes: [0; NODES],
+            slots,
+        };
+        for (x, part) in shown.visible.iter_mut().zip(nodes.chunks(64)) {
+            *x = part.iter().rev().fold(0, |x, node| x << 1 | u64::from(node[3] == 0));
+        }
+        let visible = shown.visible;
+        let mut known = [NONE; NODES];
+        each_bit(&visible, |p| {
+            let l = usize::from(nodes[p][0]) % NODES;
+            if known[l] == NONE {
+                known[l] = shown.group_of(&rows[p], p);
+            }
+            shown.group[p] = known[l];
+            shown.sizes[usize::from(known[l]) % NODES] += 1;
+            shown.m += 1;
+        });
+        shown
+    }
+
+    /// The group of a node that has no twin before it in the whole graph: that of another visible twin, or a new one.
+    fn group_of(&mut self, row: &Row, p: usize) -> u16 {
+        let mut r = *row;
+        r.iter_mut().zip(&self.visible).for_each(|(x, v)| *x &= v);
+        let (h, c) = hashes(&r, p);
+        let (h, c) = (h as usize >> 22, c as usize >> 22);
+        let mut i = self.slots.open[h];
+        while i != NONE {
+            if equal(&self.rows[usize::from(i)], &r) {
+                return i;
+            }
+            i = self.slots.open_next[usize::from(i)];
+        }
+        i = self.slots.closed[c];
+        while i != NONE {
+            if closed_twins(&self.rows[usize::from(i)], usize::from(self.leaders[usize::from(i)]), &r, p) {
+                return i;
+            }
+            i = self.slots.closed_next[usize::from(i)];
+        }
+        let g = self.rows.len();
+        self.slots.open_next[g] = self.slots.open[h];
+        self.slots.closed_next[g] = self.slots.closed[c];
+        self.slots.open[h] = g as u16;
+        self.slots.closed[c] = g as u16;
+        self.rows.push(r);
+        self.leaders.push(p as u16);
+        self.leads[p / 64 % 8] |= bit(p);
+        g as u16
+    }
+
+    /// How many superedges there are.
+    fn superedges(&self) -> usize {
+        let ones = |r: &Row| r.iter().zip(&self.leads).map(|(x, l)| (x & l).count_ones() as usize).sum::<usize>();
+        self.rows.iter().map(ones).sum::<usize>() / 2
+    }
+
+    /// The leaders after its own in the row of a group.
+    fn later(&self, i: usize) -> Row {
+        let p = usize::from(self.leaders[i]);
+        let mut r = [0; 8];
+        for w in p / 64..self.words.min(8) {
+            r[w] = self.rows[i][w] & self.leads[w];
+        }
+        r[p / 64 % 8] &= u64::MAX << (p % 64);
+        r
+    }
+
+    /// The groups' records.
+    fn put_groups(&self, out: &mut [u8]) {
+        let mut places = [0; NODES];
+        let mut at = 0;
+        for (i, place) in places.iter_mut().enumerate().take(self.rows.len()) {
+            out[at..at + 4].copy_from_slice(&(u32::from(INDEPENDENT) | u32::from(self.sizes[i]) << 16).to_le_bytes());
+            *place = at + 4;
+            at += 4 + 2 * usize::from(self.sizes[i]);
+        }
+        each_bit(&self.visible, |p| {
+            let place = &mut places[usize::from(self.group[p]) % NODES];
+            out[*place..*place + 2].copy_from_slice(&(p as u16).to_le_bytes());
+            *place += 2;
+        });
+    }
+
+    /// Marks of cliques: groups whose leader is tied to its second member.
+    fn mark_cliques(&self, out: &mut [u8]) {
+        let mut at = 0;
+        for (i, r) in self.rows.iter().enumerate() {
+            let size = usize::from(self.sizes[i]);
+            if size > 1 && has(r, number(out, at + 6)) {
+                out[at..at + 2].copy_from_slice(&CLIQUE.to_le_bytes());
+            }
+            at += 4 + 2 * size;
+        }
+    }
+
+    /// The superedges' records, one by one.
+    fn put_superedges(&self, out: &mut [u8]) {
+        let mut records = out.as_chunks_mut::<6>().0.iter_mut();
+        for i in 0..self.rows.len() {
+            let lead = u32::from(JOIN) | (i as u32) << 16;
+            each_bit(&self.later(i), |q| {
+                if let Some(record) = records.next() {
+                    *record = superedge_bytes(lead, self.group[q]);
+                }
+            });
+        }
+    }
+
+    /// The same, eight nodes at a time: eight records are written, and those too many written over.
+    fn put_many_superedges(&self, out: &mut [u8]) {
+        let leads: [u8; 64] = self.leads.map(u64::to_le_bytes).as_flattened().try_into().unwrap();
+        let mut columns = [(&PACKED[0], [0; 24]); 64];
+        let mut base = 0;
+        for (column, &l) in columns.iter_mut().zip(&leads) {
+            *column = (&PACKED[usize::from(l)], eight([0, 0, base]));
+            base += u16::from(ONES[usize::from(l)]);
+        }
+        let mut at = 0;
+        for i in 0..self.rows.len() {
+            let p = usize::from(self.leaders[i]);
+            let mut bytes = self.rows[i].map(u64::to_le_bytes);
+            let later = &mut bytes.as_flattened_mut()[p / 8..8 * self.words];
+            later[0] &= u8::MAX << (p % 8);
+            at = put_row(out, at, &eight([JOIN, i as u16, 0]), later, &columns[p / 8..8 * self.words]);
+        }
     }
 }
+
+/// The superedges that the bytes of a row tell. The place after them.
+#[inline(never)]
+fn put_row(out: &mut [u8], from: usize, lead: &[u16; 24], bytes: &[u8], columns: &[(&[u8; 256], [u16; 24])]) -> usize {
+    let mut at = from;
+    for (&x, (packed, base)) in bytes.iter().zip(columns) {
+        let x = usize::from(packed[usize::from(x)]);
+        let length = 6 * usize::from(ONES[x]);
+        if let Some(records) = out[at..].first_chunk_mut() {
+            put_sum(records, lead, base, &PLACES[x]);
+        } else {
+            let mut records = [0; 48];
+            put_sum(&mut records, lead, base, &PLACES[x]);
+            out[at..at + length].copy_from_slice(&records[..length]);
+        }
+        at += length;
+    }
+    at
+}
+
+/// The same three numbers in eight records.
+fn eight(numbers: [u16; 3]) -> [u16; 24] {
+    std::array::from_fn(|k| numbers[k % 3])
+}
+
+/// The bytes of eight records, number by number a sum.
+#[inline(always)]
+fn put_sum(bytes: &mut [u8; 48], a: &[u16; 24], b: &[u16; 24], c: &[u16; 24]) {
+    for (k, two) in bytes.as_chunks_mut::<2>().0.iter_mut().enumerate() {
+        *two = (a[k] | b[k]).wrapping_add(c[k]).to_le_bytes();
+    }
+}
+
+fn superedge_bytes(lead: u32, j: u16) -> [u8; 6] {
+    let [a, b, c, d] = lead.to_le_bytes();
+    let [e, f] = j.to_le_bytes();
+    [a, b, c, d, e, f]
+}
+
+/// How many ones a byte has.
+static ONES: [u8; 256] = {
+    let mut ones = [0; 256];
+    let mut x = 0;
+    while x < 256 {
+        ones[x] = x.count_ones() as u8;
+        x += 1;
+    }
+    ones
+};
+
+/// For each mask, the bits of a byte at the mask's ones, moved together.
+static PACKED: [[u8; 256]; 256] = {
+    let mut packed = [[0; 256]; 256];
+    let mut m = 1;
+    while m < 256 {
+        let mut x = 0;
+        while x < 256 {
+            packed[m][x] = packed[m & (m - 1)][x] << 1 | (x >> m.trailing_zeros() & 1) as u8;
+            x += 1;
+        }
+        m += 1;
+    }
+    packed
+};
+
+/// For each byte the places of its ones, as the last number of each of eight records.
+static PLACES: [[u16; 24]; 256] = {
+    let mut places = [[0; 24]; 256];
+    let mut x = 1;
+    while x < 256 {
+        let (mut rest, mut k) = (x, 0);
+        while rest != 0 {
+            places[x][3 * k + 2] = rest.trailing_zeros() as u16;
+            rest &= rest - 1;
+            k += 1;
+        }
+        x += 1;
+    }
+    places
+};
 
 pub fn release(n: usize, e: &[u64], v: &[u16], k: &[u32], out: &mut [u8], counts: &mut Counts) -> u16 {
     *counts = Counts::default();
@@ -511,210 +779,440 @@ pub fn release(n: usize, e: &[u64], v: &[u16], k: &[u32], out: &mut [u8], counts
     if result != 0 {
         return result;
     }
-    let mut visible: Row = [0; 8];
-    for p in 0..n {
-        visible[p / 64] |= u64::from(v[4 * p + 3] == 0) << (p % 64);
-    }
-    let mut rows = [[0; 8]; NODES];
-    let mut slots = Slots::new();
-    let mut leaders = [0u16; NODES];
-    let mut position = [0u16; NODES];
-    let mut leads: Row = [0; 8];
-    let (mut next, mut last) = ([NONE; NODES], [NONE; NODES]);
-    let mut sizes = [0u16; NODES];
-    let (mut m, mut g) = (0, 0);
-    each_bit(&visible, |p| {
-        let r = row(e, p);
-        for w in 0..8 {
-            rows[p][w] = r[w] & visible[w];
-        }
-        let masked = rows[p];
-        let l = match slots.twin_or_enter(&masked, p, |q| &rows[q], true, true) {
-            Some(l) => {
-                next[usize::from(last[l])] = p as u16;
-                l
-            }
-            None => {
-                leaders[g] = p as u16;
-                position[p] = g as u16;
-                leads[p / 64] |= bit(p);
-                g += 1;
-                p
-            }
-        };
-        last[l] = p as u16;
-        sizes[l] += 1;
-        m += 1;
-    });
-    let later = |p: usize| {
-        let mut r = rows[p];
-        let upto = below(p + 1);
-        for w in 0..8 {
-            r[w] &= leads[w] & !upto[w];
-        }
-        r
-    };
-    let s: usize = leaders[..g].iter().map(|&l| later(usize::from(l)).iter().map(|x| x.count_ones() as usize).sum::<usize>()).sum();
-    let length = 10 + 4 * g + 2 * m + 6 * s;
+    let (rows, nodes) = (e.as_chunks().0, v.as_chunks().0);
+    let shown = Shown::new(rows, nodes);
+    let (m, g) = (shown.m, shown.rows.len());
+    let start = 8 + 4 * g + 2 * m;
+    let s = shown.superedges();
+    let length = start + 6 * s + 2;
     if out.len() < length {
         return 18;
     }
-    let mut at = 0;
-    put_numbers(out, &mut at, *b"HD", [n, m, g]);
-    for &l in &leaders[..g] {
-        let l = usize::from(l);
-        let clique = next[l] != NONE && has(&rows[l], usize::from(next[l]));
-        put_numbers(out, &mut at, if clique { *b"GC" } else { *b"GI" }, [usize::from(sizes[l])]);
-        let mut q = l as u16;
-        while q != NONE {
-            put(out, &mut at, &q.to_le_bytes());
-            q = next[usize::from(q)];
-        }
+    out[..2].copy_from_slice(b"HD");
+    for (k, x) in [n, m, g].into_iter().enumerate() {
+        out[2 + 2 * k..4 + 2 * k].copy_from_slice(&(x as u16).to_le_bytes());
     }
-    for (i, &l) in leaders[..g].iter().enumerate() {
-        each_bit(&later(usize::from(l)), |q| {
-            let record = u64::from_le_bytes([b'S', b'E', i as u8, (i >> 8) as u8, position[q] as u8, (position[q] >> 8) as u8, 0, 0]).to_le_bytes();
-            out[at..at + 6].copy_from_slice(&record[..6]);
-            at += 6;
-        });
+    shown.put_groups(&mut out[8..start]);
+    shown.mark_cliques(&mut out[8..start]);
+    if s > 8 * g {
+        shown.put_many_superedges(&mut out[start..length - 2]);
+    } else {
+        shown.put_superedges(&mut out[start..length - 2]);
     }
-    put(out, &mut at, b"EN");
+    out[length - 2..length].copy_from_slice(b"EN");
     *counts = Counts { nodes: m as u16, groups: g as u16, superedges: s as u32, bytes: length as u32 };
     0
 }
 
-/// A release taken apart: its groups, with their members' masks, and which groups are joined.
+/// A release taken apart. Groups have positions; a row has the first members of the groups joined to one.
 struct Parts {
     n: usize,
+    m: usize,
     g: usize,
+    /// The position of each node's group, NONE for a hidden node.
     group: [u16; NODES],
-    first: [u16; NODES],
-    sizes: [u16; NODES],
+    firsts: [u16; NODES],
+    /// The cubes' sum of each group's members.
+    cubes: [u32; NODES],
+    /// Where the members of groups of two or more stand in the file.
+    several: Vec<u16>,
+    /// No bit for those groups.
+    lone: Row,
     cliques: Row,
-    masks: [Row; NODES],
-    joins: [Row; NODES],
+    joined: Vec<Row>,
+    /// The cubes' sum of the groups joined to each. Not kept if superedges are many.
+    sums: [u32; NODES],
+    many: bool,
 }
 
-fn number(file: &[u8], at: usize) -> usize {
-    usize::from(u16::from_le_bytes([file[at], file[at + 1]]))
+const INDEPENDENT: u16 = u16::from_le_bytes(*b"GI");
+const CLIQUE: u16 = u16::from_le_bytes(*b"GC");
+const JOIN: u16 = u16::from_le_bytes(*b"SE");
+
+fn short(bytes: &[u8], at: usize) -> u16 {
+    u16::from_le_bytes([bytes[at], bytes[at + 1]])
 }
 
-/// The parts of a release, or none if the bytes are no graph's release.
-fn judge(file: &[u8]) -> Option<Box<Parts>> {
-    if file.len() < 10 || &file[..2] != b"HD" || &file[file.len() - 2..] != b"EN" {
-        return None;
-    }
-    let (n, m, g) = (number(file, 2), number(file, 4), number(file, 6));
-    if n > NODES || m > n || g > m || file.len() < 10 + 4 * g + 2 * m || (file.len() - 10 - 4 * g - 2 * m) % 6 != 0 {
-        return None;
-    }
-    let mut parts = Box::new(Parts { n, g, group: [NONE; NODES], first: [0; NODES], sizes: [0; NODES], cliques: [0; 8], masks: [[0; 8]; NODES], joins: [[0; 8]; NODES] });
-    let end = 8 + 4 * g + 2 * m;
-    let mut at = 8;
-    for i in 0..g {
-        if at + 4 > end {
-            return None;
+fn number(bytes: &[u8], at: usize) -> usize {
+    usize::from(short(bytes, at))
+}
+
+impl Parts {
+    fn new() -> Parts {
+        Parts {
+            n: 0,
+            m: 0,
+            g: 0,
+            group: [NONE; NODES],
+            firsts: [0; NODES],
+            cubes: [0; NODES],
+            several: Vec::new(),
+            lone: [u64::MAX; 8],
+            cliques: [0; 8],
+            joined: Vec::new(),
+            sums: [0; NODES],
+            many: false,
         }
-        let clique = match &file[at..at + 2] {
-            b"GI" => false,
-            b"GC" => true,
-            _ => return None,
-        };
-        let count = number(file, at + 2);
-        at += 4;
-        if count < 1 + usize::from(clique) || at + 2 * count > end {
-            return None;
+    }
+
+    /// Whether the bytes are a graph's release, whose parts these are then.
+    fn judge(&mut self, file: &[u8]) -> bool {
+        if file.len() < 10 || &file[..2] != b"HD" || &file[file.len() - 2..] != b"EN" {
+            return false;
         }
-        let mut last = if i == 0 { None } else { Some(usize::from(parts.first[i - 1])) };
-        parts.first[i] = number(file, at) as u16;
-        for c in 0..count {
-            let p = number(file, at + 2 * c);
-            if p >= n || parts.group[p] != NONE || last.is_some_and(|q| p <= q) {
-                return None;
+        (self.n, self.m, self.g) = (number(file, 2), number(file, 4), number(file, 6));
+        let end = 8 + 4 * self.g + 2 * self.m;
+        if self.n > NODES || self.m > self.n || self.g > self.m || file.len() < end + 2 || (file.len() - end - 2) % 6 != 0 {
+            return false;
+        }
+        self.several.reserve_exact(self.g.min(self.m - self.g));
+        let (records, _) = file[end..file.len() - 2].as_chunks::<6>();
+        self.many = records.len() > 64 + 4 * self.g * self.n.div_ceil(64);
+        self.take_groups(&file[..end]) && (if self.many { self.join_many(records) } else { self.join_few(records) }) && self.fewest()
+    }
+
+    /// The groups after the head, by first members ascending. They take up all bytes.
+    fn take_groups(&mut self, bytes: &[u8]) -> bool {
+        let (mut at, mut low) = (8, 0);
+        for i in 0..self.g {
+            let Some(head) = bytes.get(at..).and_then(|b| b.first_chunk::<6>()) else {
+                return false;
+            };
+            let (mark, count, first) = (short(head, 0), number(head, 2), number(head, 4));
+            if first < low {
+                return false;
             }
-            last = Some(p);
-            parts.group[p] = i as u16;
-            parts.masks[i][p / 64] |= bit(p);
+            low = first + 1;
+            self.firsts[i] = first as u16;
+            at += 4;
+            if mark == INDEPENDENT && count == 1 {
+                if first >= self.n || self.group[first] != NONE {
+                    return false;
+                }
+                self.group[first] = i as u16;
+                self.cubes[i] = cube(first);
+            } else {
+                if (mark != INDEPENDENT && mark != CLIQUE) || count < 2 || bytes.len() < at + 2 * count {
+                    return false;
+                }
+                if !self.take_members(i, &bytes[at..at + 2 * count]) {
+                    return false;
+                }
+                self.several.push(at as u16);
+                self.lone[i / 64] &= !bit(i);
+                if mark == CLIQUE {
+                    self.cliques[i / 64] |= bit(i);
+                }
+            }
+            at += 2 * count;
         }
-        parts.sizes[i] = count as u16;
-        if clique {
-            parts.cliques[i / 64] |= bit(i);
+        at == bytes.len()
+    }
+
+    /// Members ascending, of no other group.
+    fn take_members(&mut self, i: usize, members: &[u8]) -> bool {
+        let group = &mut self.group[..self.n];
+        let (mut low, mut cubes) = (0, 0u32);
+        for two in members.as_chunks::<2>().0 {
+            let p = usize::from(u16::from_le_bytes(*two));
+            if p < low || p >= group.len() || group[p] != NONE {
+                return false;
+            }
+            group[p] = i as u16;
+            cubes = cubes.wrapping_add(cube(p));
+            low = p + 1;
         }
-        at += 2 * count;
+        self.cubes[i] = cubes;
+        true
     }
-    if at != end {
-        return None;
-    }
-    let mut last = 0;
-    for record in file[end..file.len() - 2].chunks_exact(6) {
-        let (i, j) = (number(record, 2), number(record, 4));
-        if &record[..2] != b"SE" || i >= j || j >= g || last >= 65536 * i + j {
-            return None;
+
+    /// Superedges ascending, each put into both rows and both sums.
+    fn join_few(&mut self, records: &[[u8; 6]]) -> bool {
+        let g = self.g;
+        self.joined = vec![[0; 8]; g];
+        let joined = &mut self.joined[..g];
+        let (firsts, cubes, sums) = (&self.firsts[..g], &self.cubes[..g], &mut self.sums[..g]);
+        let mut last = 0;
+        for record in records {
+            let Some((i, j)) = superedge(record, last, g) else {
+                return false;
+            };
+            last = i << 16 | j;
+            let (p, q) = (usize::from(firsts[i]), usize::from(firsts[j]));
+            joined[i][q / 64 % 8] |= bit(q);
+            joined[j][p / 64 % 8] |= bit(p);
+            sums[i] = sums[i].wrapping_add(cubes[j]);
+            sums[j] = sums[j].wrapping_add(cubes[i]);
         }
-        last = 65536 * i + j;
-        parts.joins[i][j / 64] |= bit(j);
+        true
     }
-    mirror(&mut parts.joins, g);
-    fewest(&parts).then_some(parts)
+
+    /// Superedges ascending: four at a time if they go from one group into one word of its row, else one by one.
+    fn join_many(&mut self, records: &[[u8; 6]]) -> bool {
+        let firsts = &self.firsts[..self.g];
+        let mut joined = vec![[0; 8]; 64 * self.n.div_ceil(64)];
+        let mut bits = [0; NODES];
+        let word_ends = columns(firsts, &mut bits);
+        let bits = &bits[..self.g];
+        let mut window = &bits[..0];
+        let (mut row, mut w) = (0, 0);
+        let (mut lead, mut i, mut last) = (0, 0, 0);
+        let (fours, rest) = records.as_chunks::<4>();
+        let mut fours = fours.iter();
+        loop {
+            let (word, end) = stretch(&mut fours, lead, last, window);
+            joined[row][w] |= word;
+            last = end;
+            let Some(four) = fours.next() else {
+                break;
+            };
+            let js = four.map(|r| number(&r, 4));
+            if leads(four, lead) && rising(last, js) && js[3] < bits.len() {
+                for j in js {
+                    w = usize::from(firsts[j]) / 64 % 8;
+                    joined[row][w] |= bits[j];
+                }
+                last = js[3];
+            } else {
+                for record in four {
+                    let Some((first, second)) = superedge(record, i << 16 | last, firsts.len()) else {
+                        return false;
+                    };
+                    (i, last) = (first, second);
+                    row = usize::from(firsts[i]);
+                    w = usize::from(firsts[last]) / 64 % 8;
+                    joined[row][w] |= bits[last];
+                }
+                lead = u32::from(JOIN) | (i as u32) << 16;
+            }
+            window = &bits[..word_ends[w]];
+        }
+        for record in rest {
+            let Some((first, second)) = superedge(record, i << 16 | last, firsts.len()) else {
+                return false;
+            };
+            (i, last) = (first, second);
+            joined[usize::from(firsts[i])][usize::from(firsts[last]) / 64 % 8] |= bits[last];
+        }
+        mirror(&mut joined);
+        for (i, &p) in firsts.iter().enumerate() {
+            joined[i] = joined[usize::from(p)];
+        }
+        joined.truncate(self.g);
+        self.joined = joined;
+        true
+    }
+
+    /// Hashes of the open and the closed row of each group.
+    fn hashes(&self, open: &mut [u32], closed: &mut [u32]) {
+        for i in 0..self.g.min(open.len()).min(closed.len()) {
+            (open[i], closed[i]) = if self.many {
+                hashes(&self.joined[i], usize::from(self.firsts[i]))
+            } else {
+                (self.sums[i], self.sums[i].wrapping_add(self.cubes[i]))
+            };
+        }
+    }
+
+    /// Whether no two groups could be one.
+    fn fewest(&self) -> bool {
+        let (mut open, mut closed) = ([0; NODES], [0; NODES]);
+        self.hashes(&mut open, &mut closed);
+        let (mut met_open, mut met_closed) = (Met::new(), Met::new());
+        for i in 0..self.g {
+            let clique = has(&self.cliques, i);
+            if !clique && met_open.meets(open[i]) && meets_twin(&open, i, |j| self.open_twins(i, j)) {
+                return false;
+            }
+            if (clique || has(&self.lone, i)) && met_closed.meets(closed[i]) && meets_twin(&closed, i, |j| self.closed_twins(i, j)) {
+                return false;
+            }
+        }
+        true
+    }
+
+    fn open_twins(&self, i: usize, j: usize) -> bool {
+        !has(&self.cliques, j) && equal(&self.joined[i], &self.joined[j])
+    }
+
+    fn closed_twins(&self, i: usize, j: usize) -> bool {
+        let first = |i: usize| usize::from(self.firsts[i]);
+        (has(&self.cliques, j) || has(&self.lone, j)) && closed_twins(&self.joined[i], first(i), &self.joined[j], first(j))
+    }
+
+    /// All nodes joined to group i, with its own if they are a clique.
+    fn neighbourhood(&self, file: &[u8], i: usize) -> Row {
+        let mut r = self.joined[i];
+        for &at in &self.several {
+            let j = usize::from(self.group[number(file, usize::from(at))]);
+            if has(&self.joined[i], usize::from(self.firsts[j])) || (i == j && has(&self.cliques, i)) {
+                enter_members(&mut r, file, at);
+            }
+        }
+        r
+    }
+
+    /// The rows get all members of the groups joined to them, in a clique their own too.
+    fn draw(&mut self, file: &[u8]) {
+        let group = |at: &u16| usize::from(self.group[number(file, usize::from(*at))]);
+        let near: Vec<Row> = self.several.iter().map(|at| self.joined[group(at)]).collect();
+        let mut sets = vec![[0; 8]; near.len()];
+        for (set, at) in sets.iter_mut().zip(&self.several) {
+            enter_members(set, file, *at);
+        }
+        for ((at, near), set) in self.several.iter().zip(&near).zip(&sets) {
+            each_bit(near, |q| unite(&mut self.joined[usize::from(self.group[q])], set));
+            let i = group(at);
+            if has(&self.cliques, i) {
+                unite(&mut self.joined[i], set);
+            }
+        }
+    }
+
+    /// The keys that the members of a group have in common: closed ones in a clique, else open ones.
+    fn share(&mut self) {
+        if self.many {
+            sum_rows(&self.joined, self.n.div_ceil(64), &mut self.sums);
+        } else {
+            each_bit(&self.cliques, |i| self.sums[i] = self.sums[i].wrapping_add(self.cubes[i]));
+        }
+    }
+
+    /// Hidden nodes join the group without edges, or are one.
+    fn adopt(&mut self) {
+        let hidden = self.group[..self.n].iter().position(|&i| i == NONE).unwrap_or(0) as u16;
+        let lonely = (0..self.g).find(|&i| self.sums[i] == 0 && self.joined[i] == [0; 8]);
+        let i = lonely.unwrap_or(self.g);
+        if lonely.is_none() {
+            self.joined.push([0; 8]);
+            self.firsts[i] = hidden;
+        }
+        self.firsts[i] = self.firsts[i].min(hidden);
+        for x in &mut self.group[..self.n] {
+            *x = if *x == NONE { i as u16 } else { *x };
+        }
+    }
+}
+
+/// The members of a group of two or more, which stand at a place, put into a set.
+fn enter_members(set: &mut Row, file: &[u8], at: u16) {
+    let at = usize::from(at);
+    for two in file[at..at + 2 * number(file, at - 2)].as_chunks::<2>().0 {
+        let p = number(two, 0);
+        set[p / 64 % 8] |= bit(p);
+    }
+}
+
+/// The bit of each group's first member. For each word, the position after the last group with its first member in it.
+fn columns(firsts: &[u16], bits: &mut [u64; NODES]) -> [usize; 8] {
+    let mut ends = [0; 8];
+    for (j, (&q, x)) in firsts.iter().zip(bits).enumerate() {
+        *x = bit(usize::from(q));
+        ends[usize::from(q) / 64 % 8] = j + 1;
+    }
+    ends
+}
+
+fn leads(four: &[[u8; 6]; 4], lead: u32) -> bool {
+    four.iter().all(|r| u32::from_le_bytes([r[0], r[1], r[2], r[3]]) == lead)
+}
+
+fn rising(last: usize, [a, b, c, d]: [usize; 4]) -> bool {
+    last < a && a < b && b < c && c < d
+}
+
+/// The bits of the superedges that go from one group into the window, and the last of them.
+#[inline(never)]
+fn stretch(fours: &mut std::slice::Iter<[[u8; 6]; 4]>, lead: u32, from: usize, window: &[u64]) -> (u64, usize) {
+    let (mut word, mut last) = (0, from);
+    while let Some(four) = fours.as_slice().first() {
+        let [a, b, c, d] = four.map(|r| number(&r, 4));
+        if !(leads(four, lead) && rising(last, [a, b, c, d]) && d < window.len()) {
+            break;
+        }
+        word |= window[a] | window[b] | window[c] | window[d];
+        last = d;
+        fours.next();
+    }
+    (word, last)
+}
+
+/// The two groups of a superedge that comes after another.
+fn superedge(record: &[u8; 6], last: usize, g: usize) -> Option<(usize, usize)> {
+    let (i, j) = (number(record, 2), number(record, 4));
+    (short(record, 0) == JOIN && i < j && j < g && last < i << 16 | j).then_some((i, j))
 }
 
 /// The lower half of a matrix from its upper half.
-fn mirror(joins: &mut [Row; NODES], g: usize) {
-    let blocks = g.div_ceil(64);
+fn mirror(rows: &mut [Row]) {
+    let blocks = rows.len() / 64;
     for i in 0..blocks {
         for j in i..blocks {
-            let mut a = [0; 64];
-            for r in 0..64 {
-                a[r] = joins[64 * i + r][j];
-            }
+            let mut a = block(rows, i, j);
             transpose(&mut a);
-            for r in 0..64 {
-                joins[64 * j + r][i] |= a[r];
+            for (x, r) in a.iter().zip(&mut rows[64 * j..64 * j + 64]) {
+                r[i % 8] |= x;
             }
         }
     }
 }
 
-/// Whether no two groups could be one.
-fn fewest(parts: &Parts) -> bool {
-    let mut slots = Slots::new();
-    (0..parts.g).all(|i| {
-        let lone = parts.sizes[i] == 1;
-        let clique = has(&parts.cliques, i);
-        slots.twin_or_enter(&parts.joins[i], i, |q| &parts.joins[q], lone || !clique, lone || clique).is_none()
-    })
+/// Some bits of the hashes met so far: one whose bit is not there is new.
+struct Met([u64; 512]);
+
+impl Met {
+    fn new() -> Met {
+        Met([0; 512])
+    }
+
+    fn meets(&mut self, hash: u32) -> bool {
+        let place = hash.wrapping_mul(0x9E37_79B1) as usize >> 17;
+        let x = &mut self.0[place / 64 % 512];
+        let old = *x;
+        *x |= bit(place);
+        old & bit(place) != 0
+    }
 }
 
-fn neighbourhood(parts: &Parts, i: usize) -> Row {
-    let mut r = [0; 8];
-    each_bit(&parts.joins[i], |j| {
-        if parts.sizes[j] == 1 {
-            let q = usize::from(parts.first[j]);
-            r[q / 64] |= bit(q);
-        } else {
-            for w in 0..8 {
-                r[w] |= parts.masks[j][w];
+/// Hashes of the open and of the closed row.
+fn hashes(row: &Row, p: usize) -> (u32, u32) {
+    let mut h = 0u64;
+    for (x, c) in row.iter().zip(&ODD) {
+        h = h.wrapping_add(x.wrapping_mul(*c));
+    }
+    let c = h.wrapping_add(bit(p).wrapping_mul(ODD[p / 64 % 8]));
+    ((h >> 32) as u32, (c >> 32) as u32)
+}
+
+fn unite(a: &mut Row, b: &Row) {
+    for (x, y) in a.iter_mut().zip(b) {
+        *x |= y;
+    }
+}
+
+/// The cubes' sums of rows, word by word so that the tables stay near.
+fn sum_rows(rows: &[Row], words: usize, sums: &mut [u32; NODES]) {
+    for w in 0..words {
+        let table: &[[u32; 256]; 8] = BYTE_SUMS[8 * w..8 * w + 8].try_into().unwrap();
+        for (r, sum) in rows.iter().zip(&mut *sums) {
+            for (t, b) in table.iter().zip(r[w % 8].to_le_bytes()) {
+                *sum = sum.wrapping_add(t[usize::from(b)]);
             }
         }
-    });
-    if has(&parts.cliques, i) {
-        for w in 0..8 {
-            r[w] |= parts.masks[i][w];
-        }
     }
-    r
 }
 
 pub fn file_neighbours(file: &[u8], p: u16, out: &mut [u16], count: &mut u16) -> u16 {
     *count = 0;
-    let Some(parts) = judge(file) else {
+    let mut parts = Parts::new();
+    if !parts.judge(file) {
         return 19;
-    };
+    }
     let p = usize::from(p);
     if p >= parts.n || parts.group[p] == NONE {
         return 14;
     }
-    let mut r = neighbourhood(&parts, usize::from(parts.group[p]));
+    let mut r = parts.neighbourhood(file, usize::from(parts.group[p]));
     r[p / 64] &= !bit(p);
     list(&r, out, count)
 }
@@ -723,57 +1221,58 @@ pub fn read(n: usize, e: &mut [u64], v: &mut [u16], k: &mut [u32], file: &[u8]) 
     if !sized(n, e, v, k) {
         return 11;
     }
-    let Some(parts) = judge(file) else {
+    let mut parts = Parts::new();
+    if !parts.judge(file) {
         return 19;
-    };
+    }
     if parts.n != n {
         return 20;
     }
-    let whole = parts.g == n;
-    let mut rows = [[0; 8]; NODES];
-    let mut sums = [0; NODES];
-    let mut isolated = NONE;
-    for i in 0..parts.g {
-        rows[i] = if whole { parts.joins[i] } else { neighbourhood(&parts, i) };
-        sums[i] = key_of(&rows[i]);
-        if rows[i] == [0; 8] {
-            isolated = i as u16;
-        }
+    if parts.g < parts.m {
+        parts.draw(file);
     }
-    let mut firsts = parts.first;
-    let first_hidden = (0..n).find(|&p| parts.group[p] == NONE).unwrap_or(n) as u16;
-    let alone = if isolated == NONE { first_hidden } else { first_hidden.min(parts.first[usize::from(isolated)]) };
-    if isolated != NONE {
-        firsts[usize::from(isolated)] = alone;
+    parts.share();
+    let marks = parts.group.map(|i| u16::from(i == NONE));
+    if parts.m < n {
+        parts.adopt();
     }
-    let mut last = [NONE; NODES];
-    for p in 0..n {
-        let i = parts.group[p];
-        let hidden = i == NONE;
-        let least = if hidden { alone } else { firsts[usize::from(i)] };
-        let r: &mut Row = (&mut e[8 * p..8 * p + 8]).try_into().unwrap();
-        let mut sum = 0u32;
-        *r = [0; 8];
-        if !hidden {
-            *r = rows[usize::from(i)];
-            sum = sums[usize::from(i)];
-            if has(&parts.cliques, usize::from(i)) {
-                r[p / 64] &= !bit(p);
-                sum = sum.wrapping_sub(cube(p));
-            }
-        }
-        k[2 * p] = sum;
-        k[2 * p + 1] = sum.wrapping_add(cube(p));
-        let before = last[usize::from(least)];
-        v[4 * p] = least;
-        v[4 * p + 1] = least;
-        v[4 * p + 2] = if before == NONE { p as u16 } else { before };
-        v[4 * p + 3] = u16::from(hidden);
-        if before != NONE {
-            v[4 * usize::from(before) + 1] = p as u16;
-        }
-        v[4 * usize::from(least) + 2] = p as u16;
-        last[usize::from(least)] = p as u16;
-    }
+    put_rows(&parts, e.as_chunks_mut().0);
+    put_keys(&parts, k.as_chunks_mut().0);
+    put_rings(&parts, &marks, v.as_chunks_mut().0);
     0
+}
+
+fn put_rows(parts: &Parts, e: &mut [Row]) {
+    for (r, &i) in e.iter_mut().zip(&parts.group) {
+        *r = parts.joined[usize::from(i)];
+    }
+    if parts.cliques != [0; 8] {
+        for (p, r) in e.iter_mut().enumerate() {
+            r[p / 64 % 8] &= !bit(p);
+        }
+    }
+}
+
+fn put_keys(parts: &Parts, k: &mut [[u32; 2]]) {
+    for (p, (two, &i)) in k.iter_mut().zip(&parts.group).enumerate() {
+        let i = usize::from(i) % NODES;
+        let clique = (parts.cliques[i / 64] >> (i % 64)) as u32 & 1;
+        let open = parts.sums[i].wrapping_sub(clique * cube(p));
+        *two = [open, open.wrapping_add(cube(p))];
+    }
+}
+
+/// Each node is put after the members of its group so far.
+fn put_rings(parts: &Parts, marks: &[u16; NODES], v: &mut [[u16; 4]]) {
+    for p in 0..v.len().min(NODES) {
+        let l = parts.firsts[usize::from(parts.group[p]) % NODES];
+        if usize::from(l) == p {
+            v[p] = [l, l, l, marks[p]];
+        } else {
+            let last = v[usize::from(l)][2];
+            v[p] = [l, l, last, marks[p]];
+            v[usize::from(last)][1] = p as u16;
+            v[usize::from(l)][2] = p as u16;
+        }
+    }
 }

@@ -52,7 +52,7 @@ fn text(file: &[u8], counts: &Counts) -> String {
     let mut out = format!("open {} groups {} joins {}\n", counts.nodes, counts.groups, counts.superedges);
     let mut i = 8;
     while &file[i..i + 2] != b"EN" {
-        if file[i] == b'S' {
+        if &file[i..i + 2] == b"SE" {
             out += &format!("J {} {}\n", at(i + 2), at(i + 4));
             i += 6;
         } else {
