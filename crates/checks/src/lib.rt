@@ -128,7 +128,16 @@ fn is_twin(edges: &[u64], nodes: &[u16], n: usize, p: usize, l: usize) -> bool
     if l == p {
         return true;
     }
-    search::same_row(edges, rows::edge(edges, l, p), p, l)
+    let closed = rows::edge(edges, l, p);
+    let a = Graph::ROW_WORDS * p;
+    let b = Graph::ROW_WORDS * l;
+    search::same_row(
+        &edges[a..a + Graph::ROW_WORDS],
+        &edges[b..b + Graph::ROW_WORDS],
+        closed,
+        p,
+        l,
+    )
 }
 
 // Whether every node is a twin of its leader.

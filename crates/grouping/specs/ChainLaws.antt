@@ -7,24 +7,23 @@ use Prim.Native.Nat.{ℕ, zero, suc, _+_, _*_, _-_, _^_, _≤_, _<_}
 use native.Mathlib.Omega.{arith}
 use lib.Bits.{bitXor, xor-lt}
 use lib.Dec.{eqb, ltb}
-use lib.ListN.{getD, length, length-set, replicate, set}
+use lib.ListN.{drop, getD, length, length-set, replicate, set, take}
 use lib.Pow.{pow-pos}
 use lib.Seq.{getD-set-other, getD-set-same}
 use borrow.Author.Tests.{eqb-false, eqb-true, eq-eqb, ltb-true, ltb-false, ne-eqb}
 use Rattle.model.specs.Tables.{bitAt}
 use Rattle.model.specs.TestLaws.{decide, differ}
-use Rattle.search.specs.Search.{Ready, meets, ownBit, ownBits, rowIn}
+use Rattle.search.specs.Search.{ownBit, ownBits, rowIn}
+use Rattle.rows.specs.Rows.{Words}
 use Rattle.rows.specs.BitLaws.{bit-xor, bit-zero}
-use Rattle.search.specs.TwinRowLaws.{own-bit, own-bit-lt, own-bits, word-small, words-eq, xor-swap}
-use Rattle.search.specs.SearchLaws.{meets-words}
-use Rattle.grouping.specs.Chains.{Chains, Entered, Links, Met, alike, rowWord, slotFor, slotOf, plain, rotated}
+use Rattle.search.specs.TwinRowLaws.{own-bit, own-bit-lt, own-bits, words-eq, xor-swap}
+use Rattle.search.specs.SearchLaws.{meets-all, meets-differ, meets-words, row-length, row-part}
+use Rattle.compressed.specs.Compressed.{alike}
+use Rattle.grouping.specs.Chains.{Chains, Entered, Links, Met, rowWord, slotFor, slotOf, plain, rotated}
 use Rattle.grouping.specs.HashLaws.{hash-same}
 
 -- rows that agree have one slot
-module _ (n : ℕ) (edges keys : List ℕ) (ready : Ready n edges keys) (closed : Bool) (u q : ℕ) where
-  own : ℕ → ℕ → ℕ
-  own p w = cond closed (ownBit p w) 0
-
+module _ (edges : List ℕ) (fit : Words edges) (closed : Bool) (u q : ℕ) where
   own-lt : (p w : ℕ) → cond closed (ownBit p w) 0 < 2 ^ 64
   own-lt p w = step closed
     where
@@ -44,7 +43,7 @@ module _ (n : ℕ) (edges keys : List ℕ) (ready : Ready n edges keys) (closed 
   word-same w h = words-eq _ _ (small q) (small u) (λ j l. bits q j l ∙ sym (rotated j l) ∙ sym (bits u j l))
     where
       small : (p : ℕ) → bitXor (getD edges (8 * p + w) 0) (cond closed (ownBit p w) 0) < 2 ^ 64
-      small p = xor-lt 64 (getD edges (8 * p + w) 0) (cond closed (ownBit p w) 0) (word-small n edges keys ready (8 * p + w)) (own-lt p w)
+      small p = xor-lt 64 (getD edges (8 * p + w) 0) (cond closed (ownBit p w) 0) (fit (8 * p + w)) (own-lt p w)
 
       bits : (p j : ℕ) → j < 64 → bitAt (bitXor (getD edges (8 * p + w) 0) (cond closed (ownBit p w) 0)) j ≡ xor (bitAt (getD edges (8 * p + w) 0) j) (cond closed (eqb p (64 * w + j)) false)
       bits p j l = bit-xor (getD edges (8 * p + w) 0) (cond closed (ownBit p w) 0) j ∙ ap (xor (bitAt (getD edges (8 * p + w) 0) j)) (own-at p w j l)
@@ -65,9 +64,19 @@ module _ (n : ℕ) (edges keys : List ℕ) (ready : Ready n edges keys) (closed 
       words : (w : ℕ) → w < 8 → rowWord edges closed q w ≡ rowWord edges closed u w
       words w l = word-same w (meets-words closed u q edges h w l)
 
-pub alike-told : (edges : List ℕ) (closed : Bool) (u q : ℕ) {b : Bool} → b ≡ meets closed u q (rowIn edges u) (rowIn edges q) 8 → b ≡ alike edges closed u q
-unfolding alike
-alike-told edges closed u q e = e
+-- a row has eight words
+pub row-size : (edges : List ℕ) (u : ℕ) {row : List ℕ} → row ≡ rowIn edges u → 8 * u + 8 ≤ length edges → length row ≡ 8
+row-size edges u e h = ap length (e ∙ sym (row-part edges u)) ∙ row-length edges u h
+
+-- at a row that was lent as a part
+module _ (edges : List ℕ) (closed : Bool) (u q : ℕ) {row : List ℕ} (mine : row ≡ rowIn edges u) where
+  pub alike-differs : (i own : ℕ) → i < 8 → own ≡ ownBits closed u q i → (bitXor (getD row i 0) (getD (take (8 * q + 8 - 8 * q) (drop (8 * q) edges)) i 0) ≡ own → ⊥) → alike edges closed u q ≡ false
+  unfolding alike
+  alike-differs i own l e d = rw (← mine) (meets-differ closed u q row (rowIn edges q) i own l e (λ h. d (rw row-part h)))
+
+  pub alike-agrees : ((k : ℕ) → k < 8 → bitXor (getD row k 0) (getD (take (8 * q + 8 - 8 * q) (drop (8 * q) edges)) k 0) ≡ ownBits closed u q k) → alike edges closed u q ≡ true
+  unfolding alike
+  alike-agrees h = rw (← mine) (meets-all closed u q row (rowIn edges q) 8 (λ k l. rw row-part at (h k l)))
 
 -- a chain goes down
 pub links-less : {u : ℕ} {t : List ℕ} {c c′ : ℕ} → Links u t → (c ≡ 0 → ⊥) → c ≤ 512 → c′ ≡ getD t (1024 + (c - 1)) 0 → c′ < c
@@ -85,11 +94,11 @@ module _ {slot : ℕ → ℕ} {leads : ℕ → Bool} (twin : ℕ → Bool) {u : 
     left = λ q hq hl hs ht. let z : getD t (slot q) 0 ≡ c = ap (λ (x : ℕ). getD t x 0) (hs ∙ es) ∙ sym ec in omega (arith, k .last q hq hl);
   }
 
-  module _ {c : ℕ} (h : Seeking slot leads twin u c) (some : c ≡ 0 → ⊥) (low : c ≤ u) {b : Bool} (e : b ≡ twin (c - 1)) where
+  module _ {c : ℕ} (h : Seeking slot leads twin u c) (some : c ≡ 0 → ⊥) (low : c ≤ u) where
     at : c ≡ suc (c - 1)
     at = omega arith
 
-    pub seeking-on : {c′ : ℕ} → b ≡ false → c′ ≡ getD t (1024 + (c - 1)) 0 → Seeking slot leads twin u c′
+    pub seeking-on : {c′ : ℕ} → twin (c - 1) ≡ false → c′ ≡ getD t (1024 + (c - 1)) 0 → Seeking slot leads twin u c′
     seeking-on {c′} f ec = record {
       on = λ d g. let i = k .earlier-in (c - 1) d (omega arith) (h .on (c - 1) at .0) (here ∙ g) in (i .0, i .1 ∙ h .on (c - 1) at .1);
       left = λ q hq hl hs ht. let m : q < c - 1 = less q (h .left q hq hl hs ht) ht in omega (arith, here, k .earlier (c - 1) q m (omega arith) (h .on (c - 1) at .0) hl (hs ∙ sym (h .on (c - 1) at .1)));
@@ -102,11 +111,11 @@ module _ {slot : ℕ → ℕ} {leads : ℕ → Bool} (twin : ℕ → Bool) {u : 
         less q l ht = step (decide (eqb q (c - 1)))
           where
             step : (eqb q (c - 1) ≡ true) ⊎ (eqb q (c - 1) ≡ false) → q < c - 1
-            step (inl y) = differ ht (ap twin (eqb-true q (c - 1) y) ∙ sym e ∙ f)
+            step (inl y) = differ ht (ap twin (eqb-true q (c - 1) y) ∙ f)
             step (inr y) = let d : q ≡ c - 1 → ⊥ = eqb-false q (c - 1) y in omega arith
 
-    pub met-hit : b ≡ true → Met slot leads twin u (c - 1)
-    met-hit f = record { hit = λ l. (h .on (c - 1) at .0, sym e ∙ f); miss = λ z. absurd (omega arith) }
+    pub met-hit : twin (c - 1) ≡ true → Met slot leads twin u (c - 1)
+    met-hit f = record { hit = λ l. (h .on (c - 1) at .0, f); miss = λ z. absurd (omega arith) }
 
 pub met-miss : {slot : ℕ → ℕ} {leads twin : ℕ → Bool} {u c : ℕ} → Seeking slot leads twin u c → c ≡ 0 → Met slot leads twin u u
 met-miss {slot} {leads} {twin} {u} {c} h e = record { hit = λ l. absurd (omega arith); miss = λ z q hq hl hs. step q hq hl hs (decide (twin q)) }

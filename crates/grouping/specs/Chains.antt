@@ -7,7 +7,7 @@ use lib.Bits.{bitXor}
 use lib.Dec.{eqb}
 use lib.ListN.{length, getD}
 use Rattle.model.specs.Graph.{maxNodes, rowWords}
-use Rattle.search.specs.Search.{meets, ownBit, rowIn}
+use Rattle.search.specs.Search.{ownBit}
 use Rattle.masking.specs.Masking.{markedGraph}
 use Rattle.grouping.specs.Least.{leading}
 
@@ -44,10 +44,6 @@ slotFor h k = slotIn (bitXor (bitXor h (k / 2 ^ 5)) (k / 2 ^ 23))
 -- the slot of a row, by the words rotated and by the words as they stand
 unfoldable pub slotOf : List ℕ → Bool → ℕ → ℕ
 slotOf edges closed p = slotFor (hashOf rotated edges closed p rowWords) (hashOf plain edges closed p rowWords)
-
--- the rows of u and q agree, as open or as closed ones
-unfoldable pub alike : List ℕ → Bool → ℕ → ℕ → Bool
-alike edges closed u q = meets closed u q (rowIn edges u) (rowIn edges q) rowWords
 
 -- a table of chains, of nodes counted from 1: for each slot the last node, and for each node the one before it in its slot
 pub record Links (u : ℕ) (t : List ℕ) : Type 0 where

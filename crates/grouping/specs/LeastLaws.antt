@@ -1,6 +1,6 @@
 -- Each visible node's group is found among the leaders below it.
 use mathlib.Core.Path.{_≡_, refl, sym, ap, _∙_}
-use mathlib.Core.Bool.{Bool, true, false, cond, _&&_, _||_, and-false}
+use mathlib.Core.Bool.{Bool, true, false, cond, _&&_, and-false}
 use mathlib.Core.List.{List}
 use mathlib.Core.Logic.{_⊎_, inl, inr}
 use Prim.Native.Nat.{ℕ, _+_, _≤_, _<_}
@@ -8,26 +8,28 @@ use native.Mathlib.Omega.{arith}
 use lib.Dec.{eqb, ltb}
 use lib.ListN.{getD, length, length-set, set}
 use lib.Seq.{getD-set-other, getD-set-same}
-use borrow.Author.Tests.{eqb-false, eqb-true, eq-eqb, lt-ltb, ltb-false, ltb-true, ne-eqb}
+use borrow.Author.Tests.{eqb-false, eqb-true, eq-eqb, lt-ltb, ltb-false, ltb-true}
 use Rattle.model.specs.Lists.{_∈_, nodes}
 use Rattle.model.specs.Graph.{Graph, View, whole}
 use Rattle.model.specs.Grouping.{closed, falseTwins, least, similar, trueTwins}
 use Rattle.model.specs.Tables.{edgeBit, keysOf}
-use Rattle.model.specs.Release.{isVisible, visible, visibleEdge}
-use Rattle.model.specs.TestLaws.{decide, differ, iff-eq}
-use Rattle.model.specs.ListLaws.{Ascending, filter-elim, filter-intro, nodes-in}
-use Rattle.model.specs.TwinLaws.{Simple, falseTwins-at, falseTwins-by, similar-N, similar-N+, similar-cases, similar-refl, trueTwins-at, trueTwins-by}
+use Rattle.model.specs.Release.{isVisible, visible}
+use Rattle.model.specs.TestLaws.{decide, differ}
+use Rattle.model.specs.ListLaws.{Ascending}
+use Rattle.model.specs.TwinLaws.{similar-N, similar-N+, similar-cases, similar-refl}
 use Rattle.model.specs.ClassLaws.{Equivalence, least-eq, least-in, least-le, least-least, least-rel}
-use Rattle.model.specs.SummaryLaws.{equivalence}
-use Rattle.model.specs.ReleaseLaws.{visible-ascending, visible-simple}
+use Rattle.model.specs.ReleaseLaws.{visible-ascending}
 use Rattle.model.specs.ReadBackLaws.{visible-inside}
+use Rattle.model.specs.HiddenLaws.{edge-seen, seen-equivalence, seen-in, seen-out, similar-seen}
 use Rattle.layout.specs.Truth.{Truth}
+use Rattle.rows.specs.Rows.{Words}
 use Rattle.search.specs.Search.{Ready, edgesIn, graphIn, meets, rowIn}
 use Rattle.search.specs.SearchLaws.{meets-by, meets-words, within-length}
-use Rattle.search.specs.TwinRowLaws.{false-meet, meet-false, meet-true, true-meet}
+use Rattle.search.specs.TwinRowLaws.{false-meet, meet-false, meet-true, true-meet, word-small}
 use Rattle.masking.specs.Masking.{Apart, markedGraph, shown}
 use Rattle.grouping.specs.Least.{leading, leastVisible}
-use Rattle.grouping.specs.Chains.{Entered, Links, Met, Sought, alike, slotOf}
+use Rattle.compressed.specs.Compressed.{alike}
+use Rattle.grouping.specs.Chains.{Entered, Links, Met, Sought, slotOf}
 use Rattle.masking.specs.MaskLaws.{visible-is}
 use Rattle.grouping.specs.HashLaws.{slot-lt}
 use Rattle.grouping.specs.ChainLaws.{alike-slot, chains-none}
@@ -45,83 +47,42 @@ module _ {n : ℕ} {edges marks : List ℕ} (a : Apart n edges marks) where
   abbrev r : ℕ → ℕ → Bool
   r = similar (visible (markedGraph n edges marks))
 
-  simple : Simple (visible (markedGraph n edges marks))
-  simple = visible-simple g (a .proper)
-
   asc : Ascending (visible (markedGraph n edges marks) .nodes)
   asc = visible-ascending g
 
   eq : Equivalence (visible (markedGraph n edges marks) .nodes) (similar (visible (markedGraph n edges marks)))
-  eq = equivalence (visible g) simple asc
+  eq = seen-equivalence g (a .proper)
 
   in-vs : (p : ℕ) → isVisible (markedGraph n edges marks) p ≡ true → p ∈ visible (markedGraph n edges marks) .nodes
-  in-vs p h = filter-intro (isVisible g) (nodes (g .nodeCount)) p (nodes-in (g .nodeCount) p (visible-inside g p h)) h
+  in-vs p h = seen-in g p h
 
   out-vs : (p : ℕ) → p ∈ visible (markedGraph n edges marks) .nodes → isVisible (markedGraph n edges marks) p ≡ true
-  out-vs p m = filter-elim (isVisible g) (nodes (g .nodeCount)) p m .1
+  out-vs p m = seen-out g p m
 
   inside : (p : ℕ) → isVisible (markedGraph n edges marks) p ≡ true → p < n
   unfolding markedGraph
   inside p h = visible-inside g p h
 
-  -- the edges of a visible node
-  edge-is : (p q : ℕ) → isVisible (markedGraph n edges marks) p ≡ true → visible (markedGraph n edges marks) .edge p q ≡ edgesIn n edges p q
-  edge-is p q h = step (decide (isVisible g q))
+  -- hidden nodes have no edges
+  no-edge : (p q : ℕ) → isVisible (markedGraph n edges marks) q ≡ false → markedGraph n edges marks .edge p q ≡ false
+  unfolding markedGraph
+  no-edge p q k = step (decide (ltb q n)) (sym (visible-is n edges marks q) ∙ k)
     where
-      none : (ltb q n ≡ true) ⊎ (ltb q n ≡ false) → (ltb q n && shown marks q) ≡ false → edgesIn n edges p q ≡ false
-      none (inl x) k = a .none p q (rw x at k)
-      none (inr x) k = unfold edgesIn in rw (x, and-false (ltb p n))
+      step : (ltb q n ≡ true) ⊎ (ltb q n ≡ false) → (ltb q n && shown marks q) ≡ false → edgesIn n edges p q ≡ false
+      step (inl x) z = a .none p q (rw x at z)
+      step (inr x) z = unfold edgesIn in rw (x, and-false (ltb p n))
 
-      step : (isVisible g q ≡ true) ⊎ (isVisible g q ≡ false) → visible g .edge p q ≡ edgesIn n edges p q
-      step (inl k) = unfold visibleEdge markedGraph in rw (h, k)
-      step (inr k) = unfold visibleEdge in rw (h, k, none (decide (ltb q n)) (sym (visible-is n edges marks q) ∙ k))
-
-  hidden-edge : (p q : ℕ) → isVisible (markedGraph n edges marks) q ≡ false → visible (markedGraph n edges marks) .edge p q ≡ false
-  unfolding visibleEdge
-  hidden-edge p q k = rw k (and-false (isVisible g p))
+  edge-is : (p q : ℕ) → isVisible (markedGraph n edges marks) p ≡ true → visible (markedGraph n edges marks) .edge p q ≡ edgesIn n edges p q
+  unfolding markedGraph
+  edge-is p q h = edge-seen g no-edge p q h
 
   -- similar among all nodes is similar among the visible
-  module _ (u q : ℕ) (hu : isVisible (markedGraph n edges marks) u ≡ true) (hq : isVisible (markedGraph n edges marks) q ≡ true) where
-    to-false : falseTwins (whole (graphIn n edges)) u q ≡ true → falseTwins (visible g) u q ≡ true
-    to-false t = falseTwins-by (visible g) u q (λ x m. edge-is u x hu ∙ falseTwins-at w u q t x (nodes-in n x (inside x (out-vs x m))) ∙ sym (edge-is q x hq))
-
-    to-true : trueTwins (whole (graphIn n edges)) u q ≡ true → trueTwins (visible g) u q ≡ true
-    unfolding closed
-    to-true t =
-        trueTwins-by (visible g) u q
-        (λ x m. ap (λ (b : Bool). b || eqb u x) (edge-is u x hu) ∙ trueTwins-at w u q t x (nodes-in n x (inside x (out-vs x m))) ∙ ap (λ (b : Bool). b || eqb q x) (sym (edge-is q x hq)))
-
-    of-false : falseTwins (visible g) u q ≡ true → falseTwins (whole (graphIn n edges)) u q ≡ true
-    of-false t = falseTwins-by w u q (λ x m. sym (edge-is u x hu) ∙ at x (decide (isVisible g x)) ∙ edge-is q x hq)
-      where
-        at : (x : ℕ) → (isVisible g x ≡ true) ⊎ (isVisible g x ≡ false) → visible g .edge u x ≡ visible g .edge q x
-        at x (inl v) = falseTwins-at (visible g) u q t x (in-vs x v)
-        at x (inr v) = hidden-edge u x v ∙ sym (hidden-edge q x v)
-
-    of-true : trueTwins (visible g) u q ≡ true → trueTwins (whole (graphIn n edges)) u q ≡ true
-    unfolding closed
-    of-true t = trueTwins-by w u q (λ x m. ap (λ (b : Bool). b || eqb u x) (sym (edge-is u x hu)) ∙ at x (decide (isVisible g x)) ∙ ap (λ (b : Bool). b || eqb q x) (edge-is q x hq))
-      where
-        other : (p x : ℕ) → isVisible g p ≡ true → isVisible g x ≡ false → eqb p x ≡ false
-        other p x hp v = ne-eqb p x (λ z. differ hp (ap (isVisible g) z ∙ v))
-
-        at : (x : ℕ) → (isVisible g x ≡ true) ⊎ (isVisible g x ≡ false) → (visible g .edge u x || eqb u x) ≡ (visible g .edge q x || eqb q x)
-        at x (inl v) = trueTwins-at (visible g) u q t x (in-vs x v)
-        at x (inr v) = rw (hidden-edge u x v, hidden-edge q x v, other u x hu v, other q x hq v)
-
-    pub similar-visible : similar (whole (graphIn n edges)) u q ≡ similar (visible (markedGraph n edges marks)) u q
-    similar-visible = iff-eq (similar w u q) (similar (visible g) u q) (λ h. there (similar-cases w u q h)) (λ h. back (similar-cases (visible g) u q h))
-      where
-        there : (falseTwins w u q ≡ true) ⊎ (trueTwins w u q ≡ true) → similar (visible g) u q ≡ true
-        there (inl t) = similar-N (visible g) u q (to-false t)
-        there (inr t) = similar-N+ (visible g) u q (to-true t)
-
-        back : (falseTwins (visible g) u q ≡ true) ⊎ (trueTwins (visible g) u q ≡ true) → similar w u q ≡ true
-        back (inl t) = similar-N w u q (of-false t)
-        back (inr t) = similar-N+ w u q (of-true t)
+  similar-visible : (u q : ℕ) → isVisible (markedGraph n edges marks) u ≡ true → isVisible (markedGraph n edges marks) q ≡ true → similar (whole (graphIn n edges)) u q ≡ similar (visible (markedGraph n edges marks)) u q
+  unfolding markedGraph
+  similar-visible u q hu hq = similar-seen g no-edge u q hu hq
 
   -- rows that agree are those of similar nodes
-  pub apart-ready : Ready n edges (keysOf (graphIn n edges))
+  apart-ready : Ready n edges (keysOf (graphIn n edges))
   apart-ready = record { small = a .within .small; loops = λ p. unfold markedGraph in a .proper .irreflexive p; edges-of = a .within .edges-of; keys-of = refl }
 
   similar-alike : (closed : Bool) (u q : ℕ) → u < n → q < n → alike edges closed u q ≡ true → similar (whole (graphIn n edges)) u q ≡ true
@@ -152,25 +113,20 @@ module _ {n : ℕ} {edges marks : List ℕ} (a : Apart n edges marks) where
 
   -- the group of a visible u
   module _ (u : ℕ) (v : isVisible (markedGraph n edges marks) u ≡ true) where
-    -- the least member of its group
-    pub leader-is : leastVisible (markedGraph n edges marks) u ≡ least (visible (markedGraph n edges marks) .nodes) (similar (visible (markedGraph n edges marks))) u
-    unfolding leastVisible
-    leader-is = rw v
-
-    pub leader-low : least (visible (markedGraph n edges marks) .nodes) (similar (visible (markedGraph n edges marks))) u ≤ u
+    leader-low : least (visible (markedGraph n edges marks) .nodes) (similar (visible (markedGraph n edges marks))) u ≤ u
     leader-low = least-le vs r eq asc u u (in-vs u v) (similar-refl (visible g) u)
 
     leader-visible : isVisible (markedGraph n edges marks) (least (visible (markedGraph n edges marks) .nodes) (similar (visible (markedGraph n edges marks))) u) ≡ true
     leader-visible = out-vs (least vs r u) (least-in vs r eq asc u (in-vs u v))
 
-    pub leader-leads : leading (markedGraph n edges marks) (least (visible (markedGraph n edges marks) .nodes) (similar (visible (markedGraph n edges marks))) u) ≡ true
+    leader-leads : leading (markedGraph n edges marks) (least (visible (markedGraph n edges marks) .nodes) (similar (visible (markedGraph n edges marks))) u) ≡ true
     leader-leads = leads-in (least vs r u) leader-visible (least-least vs r eq asc u (in-vs u v))
 
-    pub leader-similar : similar (whole (graphIn n edges)) u (least (visible (markedGraph n edges marks) .nodes) (similar (visible (markedGraph n edges marks))) u) ≡ true
+    leader-similar : similar (whole (graphIn n edges)) u (least (visible (markedGraph n edges marks) .nodes) (similar (visible (markedGraph n edges marks))) u) ≡ true
     leader-similar = similar-visible u (least vs r u) v leader-visible ∙ least-rel vs r eq asc u (in-vs u v)
 
     -- a leader below u whose row agrees with u's
-    pub least-met : (closed : Bool) (q : ℕ) → q < u → leading (markedGraph n edges marks) q ≡ true → alike edges closed u q ≡ true → q ≡ leastVisible (markedGraph n edges marks) u
+    least-met : (closed : Bool) (q : ℕ) → q < u → leading (markedGraph n edges marks) q ≡ true → alike edges closed u q ≡ true → q ≡ leastVisible (markedGraph n edges marks) u
     unfolding leastVisible
     least-met closed q l h t =
         let hu = inside u v in
@@ -202,7 +158,7 @@ module _ {n : ℕ} {edges marks : List ℕ} (a : Apart n edges marks) {u : ℕ} 
   abbrev L : ℕ → Bool
   L = leading (markedGraph n edges marks)
 
-  pub seen : isVisible (markedGraph n edges marks) u ≡ b
+  seen : isVisible (markedGraph n edges marks) u ≡ b
   seen = visible-is n edges marks u ∙ ap (λ (x : Bool). x && shown marks u) (lt-ltb u n hu) ∙ sym e
 
   pub least-hidden : b ≡ false → 65535 ≡ leastVisible (markedGraph n edges marks) u
@@ -216,14 +172,14 @@ module _ {n : ℕ} {edges marks : List ℕ} (a : Apart n edges marks) {u : ℕ} 
     pub least-closed : {r : ℕ} → q ≡ u → r ≤ u → Met (slotOf edges true) (leading (markedGraph n edges marks)) (alike edges true u) u r → r ≡ leastVisible (markedGraph n edges marks) u
     least-closed {r} z low k = step (decide (ltb r u))
       where
-        ready : Ready n edges (keysOf (graphIn n edges))
-        ready = apart-ready a
+        fit : Words edges
+        fit = word-small n edges (keysOf (graphIn n edges)) (apart-ready a)
 
         miss : (c : Bool) → {x : ℕ} → Met (slotOf edges c) L (alike edges c u) u x → x ≡ u → (p : ℕ) → p < u → L p ≡ true → alike edges c u p ≡ false
         miss c {x} i y p l h = at (decide (alike edges c u p))
           where
             at : (alike edges c u p ≡ true) ⊎ (alike edges c u p ≡ false) → alike edges c u p ≡ false
-            at (inl w) = i .miss y p l h (alike-slot n edges (keysOf (graphIn n edges)) ready c u p w)
+            at (inl w) = i .miss y p l h (alike-slot edges fit c u p w)
             at (inr w) = w
 
         step : (ltb r u ≡ true) ⊎ (ltb r u ≡ false) → r ≡ leastVisible g₁ u

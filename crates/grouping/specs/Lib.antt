@@ -3,4 +3,5 @@ pub mod Chains
 pub mod HashLaws
 pub mod ChainLaws
 pub mod LeastLaws
-pub mod ConfirmLaws
+pub mod Parted
+pub mod PartedLaws

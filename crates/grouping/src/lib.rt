@@ -1,18 +1,19 @@
-// The groups of the visible nodes, where hidden ones have no edges: found, or confirmed, by chains of leaders whose rows have one hash.
+// The groups of the visible nodes, where hidden ones have no edges, and whether groups are apart: by chains of leaders whose rows have one hash.
 ghost use mathlib.Core.Path.{_≡_};
 ghost use mathlib.Core.Bool.{Bool, true, false};
 ghost use Prim.Native.Nat.{ℕ, _+_, _*_, _≤_, _<_};
-ghost use lib.Dec.{eqb};
 ghost use lib.ListN.{length};
 ghost use Rattle.model.specs.Graph.{maxNodes, rowWords};
 ghost use Rattle.layout.specs.Truth.{Truth};
 ghost use Rattle.masking.specs.Masking.{Apart, markedGraph};
-ghost use Rattle.grouping.specs.Least.{LeastBelow, areLeast, isLeast, leastVisible};
-ghost use Rattle.grouping.specs.Chains.{Chains, Entered, Links, Met, Sought, alike, hashOf, ownRotated, plain, rotated, slotFor, slotIn, slotOf, slots};
+ghost use Rattle.search.specs.Search.{rowIn};
+ghost use Rattle.compressed.specs.Compressed.{alike, apart};
+ghost use Rattle.grouping.specs.Least.{leastVisible};
+ghost use Rattle.grouping.specs.Chains.{Chains, Entered, Links, Met, Sought, hashOf, ownRotated, plain, rotated, slotFor, slotIn, slotOf, slots};
+ghost use Rattle.grouping.specs.Parted.{New, Parted, apartAt};
+use compressed::CLIQUE;
+use compressed::INDEPENDENT;
 use rows::Graph;
-
-// Stands for no node, at hidden nodes.
-const NONE: usize = 65535;
 
 // Rows are hashed into so many slots.
 const SLOTS: usize = 1024;
@@ -84,17 +85,24 @@ fn slot_of(edges: &[u64], closed: bool, p: usize) -> usize
 }
 
 // The leader below u, in the chain of slot s, whose row agrees with u's; u if there is none.
-fn find_alike(edges: &[u64], chains: &[u16], closed: bool, u: usize, s: usize) -> usize
-    requires { ⌜ (u < maxNodes) × (rowWords * u + rowWords ≤ length (now edges)) × (s < slots) × Links u (now chains) ⌝ }
+fn find_alike(edges: &[u64], chains: &[u16], closed: bool, u: usize, s: usize, row: &[u64]) -> usize
+    requires { ⌜ (u < maxNodes) × (rowWords * u + rowWords ≤ length (now edges)) × (s < slots) × Links u (now chains) × (now row ≡ rowIn (now edges) u) ⌝ }
     ensures { λ r. ⌜ (r ≤ u) × ((slot : ℕ → ℕ) (leads : ℕ → Bool) → slot u ≡ s → Chains slot leads u (now (chains .entry)) → Met slot leads (alike (now (edges .entry)) closed u) u r) ⌝ }
 {
     let mut c = rows::wide(chains[s]);
-    while c != 0 {
+    'groups: while c != 0 {
         let q = c - 1;
-        if search::same_row(edges, closed, u, q) {
-            return q;
-        }
         c = rows::wide(chains[SLOTS + q]);
+        let a = Graph::ROW_WORDS * q;
+        let other = &edges[a..a + Graph::ROW_WORDS];
+        let mut i = 0;
+        while i < Graph::ROW_WORDS {
+            if row[i] ^ other[i] != search::own_bits(closed, u, q, i) {
+                continue 'groups;
+            }
+            i += 1;
+        }
+        return q;
     }
     u
 }
@@ -126,13 +134,15 @@ fn least_of(
     ensures { λ r. ⌜ r ≡ leastVisible (markedGraph n (now (edges .entry)) (now (hidden .entry))) u ⌝ }
 {
     if !masking::is_visible(hidden, u) {
-        return NONE;
+        return rows::wide(Graph::NONE);
     }
-    let q = find_alike(edges, opens, false, u, a);
-    if q < u {
-        return q;
+    let r = Graph::ROW_WORDS * u;
+    let row = &edges[r..r + Graph::ROW_WORDS];
+    let l = find_alike(edges, opens, false, u, a, row);
+    if l < u {
+        return l;
     }
-    find_alike(edges, closeds, true, u, b)
+    find_alike(edges, closeds, true, u, b, row)
 }
 
 // The least members of the groups of the visible nodes, which alone have edges. Chains of leaders are kept on the way.
@@ -167,77 +177,81 @@ pub fn find_groups(edges: &[u64], hidden: &[u16], n: usize, least: &mut [u16])
     group_visible(edges, hidden, n, &mut opens, &mut closeds, least);
 }
 
-// Whether l, not u itself, is the least member of u's group: NONE for a hidden node, else a leader below u whose row agrees.
-// The edge between the two says whether the open or the closed rows must agree.
-fn is_led(edges: &[u64], hidden: &[u16], n: usize, least: &[u16], u: usize, l: usize) -> bool
-    requires { ⌜ Apart n (now edges) (now hidden) × LeastBelow (markedGraph n (now edges) (now hidden)) u (now least) × (n ≤ length (now least)) × (u < n) × (l ≡ u → ⊥) ⌝ }
-    ensures { λ r. ⌜ r ≡ eqb l (leastVisible (markedGraph n (now (edges .entry)) (now (hidden .entry))) u) ⌝ }
-{
-    if !masking::is_visible(hidden, u) {
-        return l == NONE;
-    }
-    if l > u {
-        return false;
-    }
-    if rows::wide(least[l]) != l {
-        return false;
-    }
-    search::same_row(edges, rows::edge(edges, l, u), u, l)
-}
-
-// Whether `least` is right at u, as it is below u. Only a leader is looked for in the chains, and put into them.
-fn confirm(
-    edges: &[u64],
-    hidden: &[u16],
-    n: usize,
-    opens: &mut [u16],
-    closeds: &mut [u16],
-    least: &[u16],
+// Whether a candidate u agrees with none in the chain of slot s, which it then enters. Who is no candidate is passed over.
+fn is_new(
+    joined: &[u64],
+    chains: &mut [u16],
+    closed: bool,
+    candidate: bool,
     u: usize,
+    s: usize,
 ) -> bool
-    requires { ⌜ Apart n (now edges) (now hidden) × Sought n (now edges) (now hidden) u (now opens) (now closeds) ⌝ }
-    requires { ⌜ LeastBelow (markedGraph n (now edges) (now hidden)) u (now least) × (n ≤ length (now least)) × (u < n) ⌝ }
-    ensures { λ r. ⌜ (r ≡ isLeast (markedGraph n (now (edges .entry)) (now (hidden .entry))) (now (least .entry)) u) × (r ≡ true → Sought n (now (edges .entry)) (now (hidden .entry)) (u + 1) (now (opens .exit)) (now (closeds .exit))) ⌝ }
+    requires { ⌜ (u < maxNodes) × (rowWords * u + rowWords ≤ length (now joined)) × (s < slots) × Links u (now chains) ⌝ }
+    ensures { λ r. ⌜ New (alike (now (joined .entry)) closed u) candidate u s (now (chains .entry)) (now (chains .exit)) r ⌝ }
 {
-    let l = rows::wide(least[u]);
-    if l != u {
-        return is_led(edges, hidden, n, least, u, l);
+    if !candidate {
+        return true;
     }
-    let a = slot_of(edges, false, u);
-    let b = slot_of(edges, true, u);
-    if least_of(edges, hidden, n, opens, closeds, u, a, b) != u {
+    let a = Graph::ROW_WORDS * u;
+    let row = &joined[a..a + Graph::ROW_WORDS];
+    if find_alike(joined, chains, closed, u, s, row) != u {
         return false;
     }
-    enter(opens, a, u, u);
-    enter(closeds, b, u, u);
+    enter(chains, s, u, u);
     true
 }
 
-fn confirm_all(
-    edges: &[u64],
-    hidden: &[u16],
+// Whether the group that u leads, if it leads one, could be one with none before it.
+// A clique is no candidate by open rows, an independent group none by closed ones.
+fn is_apart(
+    joined: &[u64],
+    least: &[u16],
+    kinds: &[u16],
+    opens: &mut [u16],
+    closeds: &mut [u16],
+    u: usize,
+) -> bool
+    requires { ⌜ (u < maxNodes) × (length (now joined) ≡ rowWords * maxNodes) × (u < length (now least)) × (u < length (now kinds)) × Parted (now least) (now kinds) (now joined) u (now opens) (now closeds) ⌝ }
+    ensures { λ r. ⌜ (r ≡ apartAt (now (least .entry)) (now (kinds .entry)) (now (joined .entry)) u) × (r ≡ true → Parted (now (least .entry)) (now (kinds .entry)) (now (joined .entry)) (u + 1) (now (opens .exit)) (now (closeds .exit))) ⌝ }
+{
+    if rows::wide(least[u]) != u {
+        return true;
+    }
+    let kind = kinds[u];
+    let a = slot_of(joined, false, u);
+    let b = slot_of(joined, true, u);
+    if !is_new(joined, opens, false, kind != CLIQUE, u, a) {
+        return false;
+    }
+    is_new(joined, closeds, true, kind != INDEPENDENT, u, b)
+}
+
+// Whether no two of the groups could be one. Chains of leaders are kept on the way.
+fn are_all_apart(
+    joined: &[u64],
+    least: &[u16],
+    kinds: &[u16],
     n: usize,
     opens: &mut [u16],
     closeds: &mut [u16],
-    least: &[u16],
 ) -> bool
-    requires { ⌜ Apart n (now edges) (now hidden) × Links 0 (now opens) × Links 0 (now closeds) × (n ≤ length (now least)) ⌝ }
-    ensures { λ r. ⌜ r ≡ areLeast n (markedGraph n (now (edges .entry)) (now (hidden .entry))) (now (least .entry)) ⌝ }
+    requires { ⌜ (n ≤ maxNodes) × (length (now joined) ≡ rowWords * maxNodes) × (n ≤ length (now least)) × (n ≤ length (now kinds)) × Links 0 (now opens) × Links 0 (now closeds) ⌝ }
+    ensures { λ r. ⌜ r ≡ apart n (now (least .entry)) (now (kinds .entry)) (now (joined .entry)) ⌝ }
 {
     for u in 0..n {
-        if !confirm(edges, hidden, n, opens, closeds, least, u) {
+        if !is_apart(joined, least, kinds, opens, closeds, u) {
             return false;
         }
     }
     true
 }
 
-// Whether `least` has the least member of each visible node's group and NONE for each hidden node, where hidden nodes have no edges.
-pub fn are_groups(edges: &[u64], hidden: &[u16], n: usize, least: &[u16]) -> bool
-    requires { ⌜ Apart n (now edges) (now hidden) × (n ≤ length (now least)) ⌝ }
-    ensures { λ r. ⌜ r ≡ areLeast n (markedGraph n (now (edges .entry)) (now (hidden .entry))) (now (least .entry)) ⌝ }
+// Whether no two groups of a compressed graph could be one.
+pub fn are_apart(joined: &[u64], least: &[u16], kinds: &[u16], n: usize) -> bool
+    requires { ⌜ (n ≤ maxNodes) × (length (now joined) ≡ rowWords * maxNodes) × (n ≤ length (now least)) × (n ≤ length (now kinds)) ⌝ }
+    ensures { λ r. ⌜ r ≡ apart n (now (least .entry)) (now (kinds .entry)) (now (joined .entry)) ⌝ }
 {
     let mut opens = [0u16; SLOTS + Graph::NODES];
     let mut closeds = [0u16; SLOTS + Graph::NODES];
-    confirm_all(edges, hidden, n, &mut opens, &mut closeds, least)
+    are_all_apart(joined, least, kinds, n, &mut opens, &mut closeds)
 }

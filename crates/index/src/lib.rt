@@ -103,14 +103,16 @@ pub fn neighbours(
             count: 0,
         };
     }
-    let count = queries::count_neighbours(edges, n, node);
+    let a = Graph::ROW_WORDS * node;
+    let row = &edges[a..a + Graph::ROW_WORDS];
+    let count = queries::count_neighbours(row, n);
     if out.len() < count {
         return Listed {
             result: 18,
             count: 0,
         };
     }
-    queries::write_neighbours(edges, n, node, out);
+    queries::write_neighbours(row, n, out);
     Listed {
         result: 0,
         count: count as u16,

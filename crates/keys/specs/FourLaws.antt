@@ -1,7 +1,7 @@
 -- Laws of sums of cubes over the bits of a row, four and eight bits at a time.
 use mathlib.Core.Path.{_≡_, refl, sym, ap, ap₂, _∙_, subst}
 use mathlib.Core.Bool.{Bool, true, false, cond, _&&_}
-use mathlib.Core.List.{List, [], _∷_}
+use mathlib.Core.List.{List}
 use mathlib.Core.Logic.{_⊎_, inl, inr}
 use Prim.Native.Nat.{ℕ, zero, suc, _+_, _*_, _-_, _/_, _%_, _^_, _≤_, _<_}
 use native.Mathlib.Omega.{arith}
@@ -19,6 +19,7 @@ use Rattle.buffers.specs.StoreLaws.{stored, stored-size}
 use Rattle.rows.specs.BitLaws.{word-bit}
 use Rattle.search.specs.Search.{edgesIn, graphIn}
 use Rattle.rows.specs.KeyLaws.{cube-le, cubes-cong}
+use Rattle.keys.specs.TotalLaws.{cubes-one, cubes-split}
 use Rattle.keys.specs.SumLaws.{no-cubes}
 use Rattle.keys.specs.KeySums.{Filled, Widened, eightCubes, fourCubes, rowCubes, wordCubes}
 
@@ -193,35 +194,6 @@ word-done w x i t e f = e ∙ ap (λ (k : ℕ). wordCubes w x (8 * k)) f
 
 pub row-done : (edges : List ℕ) (p w t : ℕ) → t ≡ rowCubes edges p w → w ≡ 8 → t ≡ rowCubes edges p 8
 row-done edges p w t e f = e ∙ ap (rowCubes edges p) f
-
--- sums of cubes over a stretch of nodes
-cubes-split : (f : ℕ → Bool) (a k l : ℕ) → sumCubes (filter f (from a (k + l))) ≡ sumCubes (filter f (from a k)) + sumCubes (filter f (from (a + k) l))
-unfolding filter sumCubes from
-cubes-split f a zero l =
-    let x : 0 + l ≡ l = omega arith in
-    let y : a ≡ a + 0 = omega arith in
-    let e : sumCubes (filter f (from a (0 + l))) ≡ sumCubes (filter f (from (a + 0) l)) = ap₂ (λ (i j : ℕ). sumCubes (filter f (from i j))) y x in
-    omega arith
-cubes-split f a (suc k) l = ap (λ (i : ℕ). sumCubes (filter f (from a i))) (suc-add k l) ∙ step (f a) (cubes-split f (suc a) k l)
-  where
-    suc-add : (k l : ℕ) → suc k + l ≡ suc (k + l)
-    suc-add k l = omega arith
-
-    shift : sumCubes (filter f (from (suc a + k) l)) ≡ sumCubes (filter f (from (a + suc k) l))
-    shift = ap (λ (i : ℕ). sumCubes (filter f (from i l))) (omega arith)
-
-    step : (b : Bool) → sumCubes (filter f (from (suc a) (k + l))) ≡ sumCubes (filter f (from (suc a) k)) + sumCubes (filter f (from (suc a + k) l))
-        → sumCubes (cond b (a ∷ filter f (from (suc a) (k + l))) (filter f (from (suc a) (k + l)))) ≡ sumCubes (cond b (a ∷ filter f (from (suc a) k)) (filter f (from (suc a) k))) + sumCubes (filter f (from (a + suc k) l))
-    step true e = omega (arith, shift)
-    step false e = omega (arith, shift)
-
-cubes-one : (f : ℕ → Bool) (a : ℕ) → sumCubes (filter f (from a 1)) ≡ cond (f a) (cube a) 0
-unfolding filter sumCubes from
-cubes-one f a = step (f a)
-  where
-    step : (b : Bool) → sumCubes (cond b (a ∷ []) []) ≡ cond b (cube a) 0
-    step true = omega arith
-    step false = refl
 
 module _ (edges : List ℕ) (p : ℕ) where
   word-cubes : (w m : ℕ) → m ≤ 64 → wordCubes w (getD edges (8 * p + w) 0) m ≡ sumCubes (filter (edgeBit edges p) (from (64 * w) m))

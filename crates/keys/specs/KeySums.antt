@@ -5,7 +5,7 @@ use mathlib.Core.List.{List}
 use Prim.Native.Nat.{ℕ, zero, suc, _+_, _*_, _/_, _%_, _^_, _≤_, _<_}
 use lib.ListN.{length, getD, set}
 use Rattle.model.specs.Lists.{nodes}
-use Rattle.model.specs.Graph.{maxNodes, rowWords, whole}
+use Rattle.model.specs.Graph.{Graph, maxNodes, rowWords, whole}
 use Rattle.model.specs.Grouping.{cube, least, openKey, similar}
 use Rattle.model.specs.Tables.{bitAt, edgeBit}
 use Rattle.rows.specs.Rows.{keyOf, movedKey}
@@ -60,7 +60,7 @@ pub record LeastTold (n : ℕ) (edges lst : List ℕ) : Type 0 where
 pub record KeysPut (p sum : ℕ) (t after : List ℕ) : Type 0 where
   pub put : after ≡ set (set t (2 * p) sum) (2 * p + 1) ((sum + cube p) % 2 ^ 32)
 
--- the keys of the first i nodes are summed
-pub record Summed (n : ℕ) (edges : List ℕ) (i : ℕ) (t after : List ℕ) : Type 0 where
+-- the keys of the first i nodes of a graph are summed
+pub record Summed (g : Graph) (i : ℕ) (t after : List ℕ) : Type 0 where
   pub size : length after ≡ length t
-  pub keys : (p k : ℕ) → p < i → k < 2 → getD after (2 * p + k) 0 ≡ keyOf (graphIn n edges) p k
+  pub keys : (p k : ℕ) → p < i → k < 2 → getD after (2 * p + k) 0 ≡ keyOf g p k

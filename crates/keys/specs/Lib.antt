@@ -1,3 +1,5 @@
+pub mod Totals
+pub mod TotalLaws
 pub mod Walk
 pub mod WalkLaws
 pub mod SumLaws

@@ -34,7 +34,7 @@ module _ (keys : List ℕ) (c : Bool) (l p : ℕ) where
   twin-open t = rw t
 
 -- and its key as an equation of sums
-moved-back : (s x k : ℕ) → k ≡ (s + 1 * x) % 2 ^ 32 → (k + (2 ^ 32 - x % 2 ^ 32)) % 2 ^ 32 ≡ s % 2 ^ 32
+pub moved-back : (s x k : ℕ) → k ≡ (s + 1 * x) % 2 ^ 32 → (k + (2 ^ 32 - x % 2 ^ 32)) % 2 ^ 32 ≡ s % 2 ^ 32
 moved-back s x k e = omega arith
 
 module _ {n : ℕ} {edges lst : List ℕ} (w : Within n edges) (pr : Proper (graphIn n edges)) (t : LeastTold n edges lst) {p l : ℕ} (hp : p < n) (el : l ≡ getD lst p 0) where
@@ -70,7 +70,7 @@ module _ {n : ℕ} {edges lst : List ℕ} (w : Within n edges) (pr : Proper (gra
   unfolding keyAgrees
   agree k hk h = sym (keys-at (graphIn n edges) p k hp hk) ∙ eqb-true _ _ h ∙ keys-at (graphIn n edges) l k hl hk
 
-  pub key-by-twin : {keys : List ℕ} {c : Bool} {x : ℕ} → l ≢ p → Summed n edges p keys keys → c ≡ edgeBit edges l p → x ≡ twinKey keys c l p → x ≡ openKey (whole (graphIn n edges)) p
+  pub key-by-twin : {keys : List ℕ} {c : Bool} {x : ℕ} → l ≢ p → Summed (graphIn n edges) p keys keys → c ≡ edgeBit edges l p → x ≡ twinKey keys c l p → x ≡ openKey (whole (graphIn n edges)) p
   unfolding twinKey movedKey openKey
   key-by-twin {keys} {c} {x} d s ec ex = step c refl (similar-cases v p l alike)
     where

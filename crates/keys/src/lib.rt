@@ -209,7 +209,7 @@ pub fn has_many_bits(edges: &[u64]) -> bool
 }
 
 // The open key of p, and with p's own cube the closed one.
-fn put_keys(keys: &mut [u32], p: usize, sum: u32)
+pub fn put_keys(keys: &mut [u32], p: usize, sum: u32)
     requires { ⌜ (p < maxNodes) × (2 * p + 2 ≤ length (now keys)) ⌝ }
     ensures { λ _. ⌜ KeysPut p sum (now (keys .entry)) (now (keys .exit)) ⌝ }
 {
@@ -218,19 +218,10 @@ fn put_keys(keys: &mut [u32], p: usize, sum: u32)
     keys[a + 1] = std::num::wrapping_add_u32(sum, rows::cube_of(p));
 }
 
-fn sum_sparse(edges: &[u64], keys: &mut [u32], n: usize)
-    requires { ⌜ Within n (now edges) × (length (now keys) ≡ 2 * n) ⌝ }
-    ensures { λ _. ⌜ now (keys .exit) ≡ keysOf (graphIn n (now (edges .entry))) ⌝ }
-{
-    for p in 0..n {
-        put_keys(keys, p, sum_row(edges, n, p));
-    }
-}
-
 // The open key of p: by the keys of its least member, or eight bits at a time by a table.
 fn open_key(edges: &[u64], least: &[u16], keys: &[u32], sums: &[u32], n: usize, p: usize) -> u32
     requires { ⌜ Within n (now edges) × Proper (graphIn n (now edges)) × LeastTold n (now edges) (now least) × Widened 16384 (now sums) ⌝ }
-    requires { ⌜ (p < n) × (2 * n ≤ length (now keys)) × Summed n (now edges) p (now keys) (now keys) ⌝ }
+    requires { ⌜ (p < n) × (2 * n ≤ length (now keys)) × Summed (graphIn n (now edges)) p (now keys) (now keys) ⌝ }
     ensures { λ r. ⌜ r ≡ openKey (whole (graphIn n (now (edges .entry)))) p ⌝ }
 {
     let l = rows::wide(least[p]);
@@ -240,7 +231,8 @@ fn open_key(edges: &[u64], least: &[u16], keys: &[u32], sums: &[u32], n: usize, 
     low_half(row_sum(edges, sums, p))
 }
 
-fn sum_dense(edges: &[u64], least: &[u16], keys: &mut [u32], n: usize)
+// The keys that an edge table demands, with the least members known: for rows with many bits.
+pub fn sum_dense(edges: &[u64], least: &[u16], keys: &mut [u32], n: usize)
     requires { ⌜ Within n (now edges) × Proper (graphIn n (now edges)) × LeastTold n (now edges) (now least) × (length (now keys) ≡ 2 * n) ⌝ }
     ensures { λ _. ⌜ now (keys .exit) ≡ keysOf (graphIn n (now (edges .entry))) ⌝ }
 {
@@ -250,16 +242,4 @@ fn sum_dense(edges: &[u64], least: &[u16], keys: &mut [u32], n: usize)
         let sum = open_key(edges, least, keys, &sums, n, p);
         put_keys(keys, p, sum);
     }
-}
-
-// The keys that an edge table demands, with the least members known.
-pub fn sum_keys(edges: &[u64], least: &[u16], keys: &mut [u32], n: usize)
-    requires { ⌜ Within n (now edges) × Proper (graphIn n (now edges)) × LeastTold n (now edges) (now least) × (length (now keys) ≡ 2 * n) ⌝ }
-    ensures { λ _. ⌜ now (keys .exit) ≡ keysOf (graphIn n (now (edges .entry))) ⌝ }
-{
-    if has_many_bits(edges) {
-        sum_dense(edges, least, keys, n);
-        return;
-    }
-    sum_sparse(edges, keys, n);
 }

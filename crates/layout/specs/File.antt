@@ -6,6 +6,7 @@ use mathlib.Core.List.{List, [], _∷_, _++_, map}
 use Prim.Native.Nat.{ℕ, suc, zero, _+_, _*_, _≤_, _<_}
 use lib.Dec.{eqb, ltb}
 use lib.ListN.{length, getD}
+use Rattle.rows.specs.Rows.{noNode}
 use Rattle.model.specs.Lists.{concat, headOr}
 use Rattle.model.specs.Tables.{edgeBit}
 use Rattle.model.specs.Release.{endRecord, headRecord, superedgeRecord, u16}
@@ -22,13 +23,9 @@ belongs least l q = eqb (getD least q 0) l
 unfoldable pub inGroup : List ℕ → ℕ → ℕ → Bool
 inGroup least n p = ltb (getD least p 0) n
 
--- stands where there is no next member
-abbrev pub none : ℕ
-none = 65535
-
 -- the next greater member of q's group, none if there is none or q is in no group
 unfoldable pub nextOf : List ℕ → ℕ → ℕ → ℕ
-nextOf least n q = cond (inGroup least n q) (headOr none (scan (belongs least (getD least q 0)) n (q + 1))) none
+nextOf least n q = cond (inGroup least n q) (headOr noNode (scan (belongs least (getD least q 0)) n (q + 1))) noNode
 
 -- the nodes met on the way from q by the table of next members, until a number n or above
 unfoldable pub chain : ℕ → List ℕ → ℕ → ℕ → List ℕ

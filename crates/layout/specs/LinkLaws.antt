@@ -13,14 +13,15 @@ use Rattle.model.specs.Lists.{headOr}
 use Rattle.model.specs.TestLaws.{decide}
 use Rattle.buffers.specs.Scan.{scan}
 use Rattle.buffers.specs.ScanLaws.{scan-end, scan-no, scan-yes, upward}
-use Rattle.layout.specs.File.{Ahead, Linked, belongs, chain, inGroup, nextOf, none}
+use Rattle.rows.specs.Rows.{noNode}
+use Rattle.layout.specs.File.{Ahead, Linked, belongs, chain, inGroup, nextOf}
 
 -- while the table is made, from the end: the nodes from p on are linked, and head has the first of each group among them
 pub record Linking (n : ℕ) (least head next : List ℕ) (p : ℕ) : Type 0 where
   pub heads : length head ≡ 512
   pub size : n ≤ length next
   pub low : p ≤ n
-  pub head-is : (l : ℕ) → l < n → getD head l 0 ≡ headOr none (scan (belongs least l) n p)
+  pub head-is : (l : ℕ) → l < n → getD head l 0 ≡ headOr noNode (scan (belongs least l) n p)
   pub next-is : (q : ℕ) → p ≤ q → q < n → getD next q 0 ≡ nextOf least n q
 
 belongs-yes : (least : List ℕ) (l p : ℕ) → getD least p 0 ≡ l → belongs least l p ≡ true
@@ -38,21 +39,21 @@ eq-or-not a b = step (decide (eqb a b))
     step (inl t) = inl (eqb-true a b t)
     step (inr t) = inr (eqb-false a b t)
 
-pub link-start : (n : ℕ) (least head next : List ℕ) → length head ≡ 512 → ((l : ℕ) → l < n → getD head l 0 ≡ none) → n ≤ length next → Linking n least head next n
+pub link-start : (n : ℕ) (least head next : List ℕ) → length head ≡ 512 → ((l : ℕ) → l < n → getD head l 0 ≡ noNode) → n ≤ length next → Linking n least head next n
 link-start n least head next h f k = record {
   heads = h;
   size = k;
   low = omega arith;
-  head-is = λ l b. f l b ∙ sym (ap (headOr none) (scan-end (belongs least l) n n (omega arith)));
+  head-is = λ l b. f l b ∙ sym (ap (headOr noNode) (scan-end (belongs least l) n n (omega arith)));
   next-is = λ q a b. absurd (omega arith);
 }
 
 module _ (n : ℕ) (least : List ℕ) (p : ℕ) (h : p < n) where
-  next-grouped : inGroup least n p ≡ true → nextOf least n p ≡ headOr none (scan (belongs least (getD least p 0)) n (p + 1))
+  next-grouped : inGroup least n p ≡ true → nextOf least n p ≡ headOr noNode (scan (belongs least (getD least p 0)) n (p + 1))
   unfolding nextOf
   next-grouped t = rw t
 
-  next-hidden : inGroup least n p ≡ false → nextOf least n p ≡ none
+  next-hidden : inGroup least n p ≡ false → nextOf least n p ≡ noNode
   unfolding nextOf
   next-hidden t = rw t
 
@@ -67,29 +68,29 @@ link-on n least head next p l small e hl hp k = record {
   next-is = λ q a b. next-of q a b (eq-or-not q p);
 }
   where
-    first : (x : ℕ) → x < n → (x ≡ l) ⊎ (x ≡ l → ⊥) → getD (set head l p) x 0 ≡ headOr none (scan (belongs least x) n p)
+    first : (x : ℕ) → x < n → (x ≡ l) ⊎ (x ≡ l → ⊥) → getD (set head l p) x 0 ≡ headOr noNode (scan (belongs least x) n p)
     first x hx (inl q) = rw (q, getD-set-same head l p 0 (omega (arith, k .heads)), scan-yes (belongs least l) n p hp (belongs-yes least l p (sym e))) refl
-    first x hx (inr q) = getD-set-other head l x p 0 q ∙ k .head-is x hx ∙ sym (ap (headOr none) (scan-no (belongs least x) n p hp (belongs-no least x p (λ z. q (sym z ∙ sym e)))))
+    first x hx (inr q) = getD-set-other head l x p 0 q ∙ k .head-is x hx ∙ sym (ap (headOr noNode) (scan-no (belongs least x) n p hp (belongs-no least x p (λ z. q (sym z ∙ sym e)))))
 
     next-of : (q : ℕ) → p ≤ q → q < n → (q ≡ p) ⊎ (q ≡ p → ⊥) → getD (set next p (getD head l 0)) q 0 ≡ nextOf least n q
     next-of q a b (inl z) =
-        rw z (getD-set-same next p (getD head l 0) 0 (omega (arith, k .size)) ∙ k .head-is l hl ∙ ap (λ (x : ℕ). headOr none (scan (belongs least x) n (p + 1))) e ∙ sym (next-grouped n least p hp (lt-ltb (getD least p 0) n (omega arith))))
+        rw z (getD-set-same next p (getD head l 0) 0 (omega (arith, k .size)) ∙ k .head-is l hl ∙ ap (λ (x : ℕ). headOr noNode (scan (belongs least x) n (p + 1))) e ∙ sym (next-grouped n least p hp (lt-ltb (getD least p 0) n (omega arith))))
     next-of q a b (inr z) = getD-set-other next p q (getD head l 0) 0 z ∙ k .next-is q (omega arith) b
 
 -- a hidden node is passed over
-link-off : (n : ℕ) (least head next : List ℕ) (p l : ℕ) → l ≡ getD least p 0 → n ≤ l → p < n → Linking n least head next (p + 1) → Linking n least head (set next p none) p
+link-off : (n : ℕ) (least head next : List ℕ) (p l : ℕ) → l ≡ getD least p 0 → n ≤ l → p < n → Linking n least head next (p + 1) → Linking n least head (set next p noNode) p
 unfolding inGroup
 link-off n least head next p l e hl hp k = record {
   heads = k .heads;
-  size = omega (arith, k .size, length-set next p none);
+  size = omega (arith, k .size, length-set next p noNode);
   low = omega arith;
-  head-is = λ x hx. k .head-is x hx ∙ sym (ap (headOr none) (scan-no (belongs least x) n p hp (belongs-no least x p (λ z. omega arith))));
+  head-is = λ x hx. k .head-is x hx ∙ sym (ap (headOr noNode) (scan-no (belongs least x) n p hp (belongs-no least x p (λ z. omega arith))));
   next-is = λ q a b. next-of q a b (eq-or-not q p);
 }
   where
-    next-of : (q : ℕ) → p ≤ q → q < n → (q ≡ p) ⊎ (q ≡ p → ⊥) → getD (set next p none) q 0 ≡ nextOf least n q
-    next-of q a b (inl z) = rw z (getD-set-same next p none 0 (omega (arith, k .size)) ∙ sym (next-hidden n least p hp (le-ltb (getD least p 0) n (omega arith))))
-    next-of q a b (inr z) = getD-set-other next p q none 0 z ∙ k .next-is q (omega arith) b
+    next-of : (q : ℕ) → p ≤ q → q < n → (q ≡ p) ⊎ (q ≡ p → ⊥) → getD (set next p noNode) q 0 ≡ nextOf least n q
+    next-of q a b (inl z) = rw z (getD-set-same next p noNode 0 (omega (arith, k .size)) ∙ sym (next-hidden n least p hp (le-ltb (getD least p 0) n (omega arith))))
+    next-of q a b (inr z) = getD-set-other next p q noNode 0 z ∙ k .next-is q (omega arith) b
 
 -- the same as the code counts: p is lessened first
 down : {n : ℕ} {least head next : List ℕ} {p : ℕ} → 0 < p → Linking n least head next p → Linking n least head next (p - 1 + 1)
@@ -98,7 +99,7 @@ down {n} {least} {head} {next} {p} h k = let e : p - 1 + 1 ≡ p = omega arith i
 pub link-yes : (n : ℕ) (least head next : List ℕ) (p l : ℕ) → n ≤ 512 → l ≡ getD least (p - 1) 0 → l < n → 0 < p → Linking n least head next p → Linking n least (set head l (p - 1)) (set next (p - 1) (getD head l 0)) (p - 1)
 link-yes n least head next p l small e hl h k = link-on n least head next (p - 1) l small e hl (omega (arith, k .low)) (down h k)
 
-pub link-no : (n : ℕ) (least head next : List ℕ) (p l : ℕ) → l ≡ getD least (p - 1) 0 → n ≤ l → 0 < p → Linking n least head next p → Linking n least head (set next (p - 1) none) (p - 1)
+pub link-no : (n : ℕ) (least head next : List ℕ) (p l : ℕ) → l ≡ getD least (p - 1) 0 → n ≤ l → 0 < p → Linking n least head next p → Linking n least head (set next (p - 1) noNode) (p - 1)
 link-no n least head next p l e hl h k = link-off n least head next (p - 1) l e hl (omega (arith, k .low)) (down h k)
 
 pub link-done : {n : ℕ} {least head next : List ℕ} {p : ℕ} → Linking n least head next p → p ≤ 0 → Linked n least next
@@ -127,7 +128,7 @@ begins P n p x xs = upward (λ p. scan P n p ≡ x ∷ xs → Begins P n p x xs)
     step p h below e (inl t) = let d : p ∷ scan P n (p + 1) ≡ x ∷ xs = sym (scan-yes P n p h t) ∙ e in here p h t e (cc)
     step p h below e (inr t) = more p (below (sym (scan-no P n p h t) ∙ e))
 
-head-above : (P : ℕ → Bool) (n p : ℕ) (l : List ℕ) → n ≤ 512 → p ≤ n → scan P n p ≡ l → p ≤ headOr none l
+head-above : (P : ℕ → Bool) (n p : ℕ) (l : List ℕ) → n ≤ 512 → p ≤ n → scan P n p ≡ l → p ≤ headOr noNode l
 head-above P n p [] s h e = omega arith
 head-above P n p (x ∷ xs) s h e = begins P n p x xs e .above
 
@@ -135,7 +136,7 @@ pub linked-ahead : (n : ℕ) (least next : List ℕ) → n ≤ 512 → Linked n 
 unfolding nextOf
 linked-ahead n least next small k = record { small = small; size = k .size; ahead = λ q h. rw (k .next-is q h) (step q h (inGroup least n q)) }
   where
-    step : (q : ℕ) → q < n → (b : Bool) → q < cond b (headOr none (scan (belongs least (getD least q 0)) n (q + 1))) none
+    step : (q : ℕ) → q < n → (b : Bool) → q < cond b (headOr noNode (scan (belongs least (getD least q 0)) n (q + 1))) noNode
     step q h true = omega (arith, head-above (belongs least (getD least q 0)) n (q + 1) (scan (belongs least (getD least q 0)) n (q + 1)) small (omega arith) refl)
     step q h false = omega arith
 
@@ -149,17 +150,17 @@ module _ (n : ℕ) (least next : List ℕ) (small : n ≤ 512) (k : Linked n lea
       mine : getD least q 0 ≡ l
       mine = eqb-true (getD least q 0) l t
 
-      at-q : getD next q 0 ≡ headOr none (scan (belongs least l) n (q + 1))
-      at-q = k .next-is q h ∙ next-grouped n least q h (lt-ltb (getD least q 0) n (omega (arith, mine))) ∙ ap (λ (x : ℕ). headOr none (scan (belongs least x) n (q + 1))) mine
+      at-q : getD next q 0 ≡ headOr noNode (scan (belongs least l) n (q + 1))
+      at-q = k .next-is q h ∙ next-grouped n least q h (lt-ltb (getD least q 0) n (omega (arith, mine))) ∙ ap (λ (x : ℕ). headOr noNode (scan (belongs least x) n (q + 1))) mine
 
-      off : (g : ℕ) → chain g next n none ≡ []
+      off : (g : ℕ) → chain g next n noNode ≡ []
       off zero = refl
-      off (suc g) = rw (le-ltb none n (omega arith))
+      off (suc g) = rw (le-ltb noNode n (omega arith))
 
       Below : Type 0
       Below = (x : ℕ) → n ≤ x + f → x < n → belongs least l x ≡ true → chain f next n x ≡ scan (belongs least l) n x
 
-      go : Below → (xs : List ℕ) → scan (belongs least l) n (q + 1) ≡ xs → chain f next n (headOr none xs) ≡ xs
+      go : Below → (xs : List ℕ) → scan (belongs least l) n (q + 1) ≡ xs → chain f next n (headOr noNode xs) ≡ xs
       go below [] z = off f
       go below (x ∷ xs) z = let b = begins (belongs least l) n (q + 1) x xs z in below x (omega (arith, b .above)) (b .below) (b .passes) ∙ b .on
 

@@ -23,7 +23,7 @@ use Rattle.buffers.specs.Wrote.{Left, Wrote}
 use Rattle.buffers.specs.WroteLaws.{left-room, left-step}
 use Rattle.buffers.specs.Scan.{Counting, scan}
 use Rattle.buffers.specs.ScanLaws.{filter-and, scan-ascends, scan-cong, scan-cut, scan-end, scan-no, scan-skip, scan-yes, upward}
-use Rattle.layout.specs.File.{Partition, Rows, later, leadersOf, leads, meets, none, superedgesTo}
+use Rattle.layout.specs.File.{Partition, Rows, later, leadersOf, leads, meets, superedgesTo}
 use Rattle.layout.specs.FileLaws.{length-superedge}
 use Rattle.layout.specs.WholeLaws.{rows-of}
 use Rattle.layout.specs.Words.{Leading, Marked, Marking, Placed, Rowed, bitsOf, laterRecords, laterWord, marked, positionsOf}

@@ -7,11 +7,11 @@ use lib.Bits.{bitAnd}
 use lib.Dec.{eqb, ltb}
 use lib.ListN.{length, getD}
 use Rattle.model.specs.Graph.{Graph, Proper, maxNodes, rowWords}
-use Rattle.search.specs.Search.{Within, edgesIn}
+use Rattle.search.specs.Search.{Within, edgesIn, graphWith}
 
 -- the graph of n nodes that an edge table and a list of marks tell (1: hidden)
 unfoldable pub markedGraph : ℕ → List ℕ → List ℕ → Graph
-markedGraph n edges marks = record { nodeCount = n; edge = edgesIn n edges; hidden = λ p. ltb p n && eqb (getD marks p 0) 1 }
+markedGraph n edges marks = graphWith n edges (λ p. ltb p n && eqb (getD marks p 0) 1)
 
 -- it is a graph: edges without direction, none from a node to itself
 pub record Drawn (n : ℕ) (edges marks : List ℕ) : Type 0 where

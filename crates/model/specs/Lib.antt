@@ -9,6 +9,7 @@ pub mod Updates
 pub mod Queries
 pub mod Release
 pub mod Reading
+pub mod InOrder
 pub mod Calls
 pub mod History
 pub mod Program
@@ -27,6 +28,11 @@ pub mod UpdateLaws
 pub mod HistoryLaws
 pub mod ReadingLaws
 pub mod ReadBackLaws
+pub mod HiddenLaws
+pub mod InOrderLaws
+pub mod ReleaseOrderLaws
+pub mod ToldGraphLaws
+pub mod MergeLaws
 pub mod EdgeLaws
 pub mod ProgramLaws
 pub mod Demands

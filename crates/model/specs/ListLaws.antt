@@ -107,6 +107,9 @@ pub headOr-in : (d : ℕ) (l : List ℕ) (p : ℕ) → p ∈ l → headOr d l �
 headOr-in d [] p m = absurd (List·Memᴰ·not-nil m)
 headOr-in d (x ∷ xs) p m = List·Memᴰ·head refl
 
+pub headOr-any : (d e : ℕ) (l : List ℕ) (p : ℕ) → p ∈ l → headOr d l ≡ headOr e l
+headOr-any d e (x ∷ xs) p m = refl
+
 pub headOr-le : (d : ℕ) (l : List ℕ) (p : ℕ) → Ascending l → p ∈ l → headOr d l ≤ p
 headOr-le d [] p a m = absurd (List·Memᴰ·not-nil m)
 headOr-le d (x ∷ xs) p a m = step (List·Memᴰ·cases-cons m)
@@ -114,6 +117,22 @@ headOr-le d (x ∷ xs) p a m = step (List·Memᴰ·cases-cons m)
     step : (p ≡ x) ⊎ (p ∈ xs) → x ≤ p
     step (inl q) = omega arith
     step (inr h) = omega (arith, a .0 p h)
+
+-- ascending lists of the same numbers are the same
+pub same-ascending : (a b : List ℕ) → Ascending a → Ascending b → ((p : ℕ) → p ∈ a → p ∈ b) → ((p : ℕ) → p ∈ b → p ∈ a) → a ≡ b
+same-ascending [] [] ha hb f h = refl
+same-ascending [] (y ∷ ys) ha hb f h = absurd (List·Memᴰ·not-nil (h y (List·Memᴰ·head refl)))
+same-ascending (x ∷ xs) [] ha hb f h = absurd (List·Memᴰ·not-nil (f x (List·Memᴰ·head refl)))
+same-ascending (x ∷ xs) (y ∷ ys) ha hb f h =
+    let e : x ≡ y = omega (arith, headOr-le 0 (y ∷ ys) x hb (f x (List·Memᴰ·head refl)), headOr-le 0 (x ∷ xs) y ha (h y (List·Memᴰ·head refl))) in
+    ap₂ _∷_ e
+    (same-ascending xs ys (ha .1) (hb .1)
+    (λ p m. behind y ys p (omega (arith, ha .0 p m)) (List·Memᴰ·cases-cons (f p (List·Memᴰ·tail m))))
+    (λ p m. behind x xs p (omega (arith, hb .0 p m)) (List·Memᴰ·cases-cons (h p (List·Memᴰ·tail m)))))
+  where
+    behind : (z : ℕ) (zs : List ℕ) (p : ℕ) → z < p → (p ≡ z) ⊎ (p ∈ zs) → p ∈ zs
+    behind z zs p l (inl q) = absurd (omega arith)
+    behind z zs p l (inr m) = m
 
 -- the nodes 0 to n - 1, ascending
 pub from-in : (a k p : ℕ) → a ≤ p → p < a + k → p ∈ from a k

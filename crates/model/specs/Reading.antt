@@ -28,10 +28,14 @@ unfoldable pub afterGroups : ℕ → List ℕ → List ℕ
 afterGroups zero s = s
 afterGroups (suc k) s = afterGroups k (drop (2 * u16At s 2) (drop 4 s))
 
+-- the bytes begin with a mark
+unfoldable pub isMark : List ℕ → ℕ → ℕ → Bool
+isMark s a b = eqb (getD s 0 0) a && eqb (getD s 1 0) b
+
 -- superedge records, at most k
 unfoldable pub superedgesAt : ℕ → List ℕ → List (ℕ × ℕ)
 superedgesAt zero s = []
-superedgesAt (suc k) s = elim (eqb (getD s 0 0) 0x53) [ true ↦ (u16At s 2, u16At s 4) ∷ superedgesAt k (drop 6 s) | false ↦ [] ]
+superedgesAt (suc k) s = elim (isMark s 0x53 0x45) [ true ↦ (u16At s 2, u16At s 4) ∷ superedgesAt k (drop 6 s) | false ↦ [] ]
 
 unfoldable pub hasPair : List (ℕ × ℕ) → ℕ → ℕ → Bool
 hasPair [] i j = false

@@ -14,7 +14,7 @@ use Rattle.model.specs.Graph.{View}
 use Rattle.model.specs.Grouping.{Kind, adjacent, algorithm1, clique, group, independent, isClique, kindOf, leaders, similar, singleton}
 use Rattle.model.specs.Summary.{Summarises, Summary, position, reconstruct, summaryOf}
 use Rattle.model.specs.Release.{encode, endRecord, groupRecord, headRecord, kindByte, superedgeRecord, superedges, superedgesFrom, u16}
-use Rattle.model.specs.Reading.{afterGroups, groupsAt, hasPair, summaryBy, summaryIn, superedgesAt, u16At, u16s}
+use Rattle.model.specs.Reading.{afterGroups, groupsAt, hasPair, isMark, summaryBy, summaryIn, superedgesAt, u16At, u16s}
 use Rattle.model.specs.TestLaws.{and-one, decide, differ, iff-eq}
 use Rattle.model.specs.ListLaws.{Ascending, map-out, member-elim, member-intro}
 use Rattle.model.specs.TwinLaws.{Simple, similar-sym}
@@ -32,7 +32,7 @@ unfolding u16s concat u16At u16
 u16s-back [] r = refl
 u16s-back (x ∷ xs) r = ap₂ _∷_ (omega arith) (u16s-back xs r)
 
-u16s-rest : (l r : List ℕ) → drop (2 * length l) (concat (map u16 l) ++ r) ≡ r
+pub u16s-rest : (l r : List ℕ) → drop (2 * length l) (concat (map u16 l) ++ r) ≡ r
 u16s-rest l r = drop-at (concat (map u16 l)) r (2 * length l) (length-u16s l)
 
 module _ (v : View) where
@@ -81,7 +81,7 @@ module _ (v : View) where
       (ap (afterGroups (length gs)) (next g (concat (map (groupRecord v) gs) ++ r)) ∙ groups-after gs r)
 
 pub superedges-back : (js : List (ℕ × ℕ)) (k : ℕ) → length js ≤ k → superedgesAt k (concat (map superedgeRecord js) ++ endRecord) ≡ js
-unfolding superedgesAt concat superedgeRecord endRecord u16At u16
+unfolding superedgesAt isMark concat superedgeRecord endRecord u16At u16
 superedges-back [] zero h = refl
 superedges-back [] (suc k) h = refl
 superedges-back (j ∷ js) zero h = absurd (omega arith)
@@ -140,7 +140,7 @@ module _ (e : ℕ → ℕ → Bool) where
       one (inl t) = of-below a g gs (suc a) i b (omega (arith, eqb-true a i t))
       one (inr t) = of-other a g gs (suc a) i b (eqb-false a i t)
 
-  all-at : (gs : List (List ℕ)) (a i j x y : ℕ) → x ≡ a + i → y ≡ a + j → i < j → j < length gs → hasPair (superedges e a gs) x y ≡ adjacent e (getD gs i []) (getD gs j [])
+  pub all-at : (gs : List (List ℕ)) (a i j x y : ℕ) → x ≡ a + i → y ≡ a + j → i < j → j < length gs → hasPair (superedges e a gs) x y ≡ adjacent e (getD gs i []) (getD gs j [])
   unfolding superedges
   all-at [] a i j x y ex ey l h = absurd (omega arith)
   all-at (g ∷ gs) a i zero x y ex ey l h = absurd (omega arith)
@@ -189,7 +189,7 @@ module _ (v : View) (g : Simple v) (asc : Ascending (v .nodes)) where
   abbrev told : Summary
   told = summaryBy (map (marked v) gs) (superedges (v .edge) 0 gs)
 
-  members-back : (l : List (List ℕ)) → map (λ (g : Bool × List ℕ). g .1) (map (marked v) l) ≡ l
+  pub members-back : (l : List (List ℕ)) → map (λ (g : Bool × List ℕ). g .1) (map (marked v) l) ≡ l
   members-back [] = refl
   members-back (x ∷ xs) = ap (λ (l : List (List ℕ)). x ∷ l) (members-back xs)
 
@@ -236,7 +236,7 @@ module _ (v : View) (g : Simple v) (asc : Ascending (v .nodes)) where
       step (inl h) (inr x) = rw (h, x) (and-one (isClique (kindOf (v .edge) (group (v .nodes) r p))) ∙ clique-law v g asc p q mp mq (eqb-false p q x) h)
       step (inr h) x = rw h (superedge-at p q mp mq h)
 
-  length-marked : (l : List (List ℕ)) → length (map (marked v) l) ≡ length l
+  pub length-marked : (l : List (List ℕ)) → length (map (marked v) l) ≡ length l
   length-marked [] = refl
   length-marked (x ∷ xs) = ap suc (length-marked xs)
 

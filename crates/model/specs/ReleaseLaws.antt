@@ -105,7 +105,7 @@ unfolding filter
 none-of x [] h = refl
 none-of x (y ∷ ys) h = rw (ne-eqb x y (λ q. h (List·Memᴰ·head q))) (none-of x ys (λ m. h (List·Memᴰ·tail m)))
 
-one-of : (x : ℕ) (l : List ℕ) → Ascending l → x ∈ l → length (filter (eqb x) l) ≡ 1
+pub one-of : (x : ℕ) (l : List ℕ) → Ascending l → x ∈ l → length (filter (eqb x) l) ≡ 1
 unfolding filter
 one-of x (y ∷ ys) a (List·Memᴰ·head q) = rw (eq-eqb x y q) (ap suc (none-of x ys (λ m. omega (arith, a .0 x m))))
 one-of x (y ∷ ys) a (List·Memᴰ·tail m) = rw (ne-eqb x y (λ q. omega (arith, a .0 x m))) (one-of x ys (a .1) m)

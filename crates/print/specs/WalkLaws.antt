@@ -6,14 +6,14 @@ use mathlib.Core.Logic.{_⊎_, inl, inr}
 use Prim.Native.Nat.{ℕ, suc, zero, _+_, _*_, _-_, _≤_, _<_}
 use native.Mathlib.Numerals.{add-one}
 use native.Mathlib.Omega.{arith}
-use lib.Dec.{ltb}
+use lib.Dec.{eqb, ltb}
 use lib.ListN.{length, getD, drop, List·getD-eq-default}
 use lib.Seq.{drop-drop, getD-drop}
-use borrow.Author.Tests.{eq-eqb, ltb-false, ltb-true, ne-eqb}
+use borrow.Author.Tests.{eq-eqb, eqb-true, ltb-false, ltb-true, ne-eqb}
 use Rattle.model.specs.Lists.{concat}
 use Rattle.model.specs.Program.{openLine, spaced, superedgeLine, text}
-use Rattle.model.specs.Reading.{afterGroups, superedgesAt, u16At, u16s}
-use Rattle.model.specs.TestLaws.{decide}
+use Rattle.model.specs.Reading.{afterGroups, isMark, superedgesAt, u16At, u16s}
+use Rattle.model.specs.TestLaws.{and-fst, decide}
 use Rattle.buffers.specs.Wrote.{Left, Wrote}
 use Rattle.buffers.specs.WroteLaws.{left-done, left-room, left-start, left-step}
 use Rattle.print.specs.Lines.{fileText, groupText, groupTexts, memberTexts, nextGroup, superedgePart, superedgeTexts, superedgeTotal}
@@ -83,9 +83,9 @@ pub group-done : {s₀ : List ℕ} {at₀ : ℕ} {all s : List ℕ} {at : ℕ} (
 unfolding groupTexts
 group-done x k h l = let z : k ≡ 0 = omega arith in left-done l (rw z)
 
--- superedge records from p on: with fuel for them all, the first is there exactly if its mark is
-pub mark-below : (file : List ℕ) (p : ℕ) → getD file p 0 ≡ 0x53 → p < length file
-mark-below file p e = go (decide (ltb p (length file)))
+-- a superedge's mark at p: its first byte tells that p is inside the file
+pub letter-below : (file : List ℕ) (p : ℕ) → getD file p 0 ≡ 0x53 → p < length file
+letter-below file p e = go (decide (ltb p (length file)))
   where
     go : (ltb p (length file) ≡ true) ⊎ (ltb p (length file) ≡ false) → p < length file
     go (inl t) = ltb-true p (length file) t
@@ -94,19 +94,31 @@ mark-below file p e = go (decide (ltb p (length file)))
 front : (file : List ℕ) (p : ℕ) → getD (drop p file) 0 0 ≡ getD file p 0
 front file p = let e : p + 0 ≡ p = omega arith in getD-drop p file 0 0 ∙ ap (λ i. getD file i 0) e
 
-superedges-yes : (j : ℕ) (s : List ℕ) → getD s 0 0 ≡ 0x53 → superedgesAt (suc j) s ≡ (u16At s 2, u16At s 4) ∷ superedgesAt j (drop 6 s)
+pub mark-below : (file : List ℕ) (p : ℕ) → isMark (drop p file) 0x53 0x45 ≡ true → p < length file
+unfolding isMark
+mark-below file p t = letter-below file p (sym (front file p) ∙ eqb-true (getD (drop p file) 0 0) 0x53 (and-fst (eqb (getD (drop p file) 0 0) 0x53) (eqb (getD (drop p file) 1 0) 0x45) t))
+
+-- its bytes, tested one after the other
+pub no-mark : (file : List ℕ) (p a : ℕ) → a ≡ getD file p 0 → (a ≡ 0x53 → ⊥) → false ≡ isMark (drop p file) 0x53 0x45
+unfolding isMark
+no-mark file p a e h = rw (front file p, ← e, ne-eqb a 0x53 h)
+
+pub by-second : (file : List ℕ) (p a b : ℕ) → a ≡ getD file p 0 → a ≡ 0x53 → b ≡ getD file (p + 1) 0 → eqb b 0x45 ≡ isMark (drop p file) 0x53 0x45
+unfolding isMark
+by-second file p a b e h f = rw (front file p, ← e, eq-eqb a 0x53 h, getD-drop p file 1 0, ← f)
+
+-- superedge records from p on: with fuel for them all, the first is there exactly if its mark is
+superedges-yes : (j : ℕ) (s : List ℕ) → isMark s 0x53 0x45 ≡ true → superedgesAt (suc j) s ≡ (u16At s 2, u16At s 4) ∷ superedgesAt j (drop 6 s)
 unfolding superedgesAt
-superedges-yes j s e = rw (eq-eqb (getD s 0 0) 0x53 e, superedgesAt)
+superedges-yes j s e = rw (e, superedgesAt)
 
-superedges-more : (j p : ℕ) (file : List ℕ) → getD file p 0 ≡ 0x53 → superedgesAt (suc j) (drop p file) ≡ (u16At file (p + 2), u16At file (p + 4)) ∷ superedgesAt j (drop (p + 6) file)
-superedges-more j p file e = rw (← u16At-drop p 2 file, ← u16At-drop p 4 file, ← drop-drop 6 p file) (superedges-yes j (drop p file) (front file p ∙ e))
+superedges-more : (j p : ℕ) (file : List ℕ) → isMark (drop p file) 0x53 0x45 ≡ true → superedgesAt (suc j) (drop p file) ≡ (u16At file (p + 2), u16At file (p + 4)) ∷ superedgesAt j (drop (p + 6) file)
+superedges-more j p file e = rw (← u16At-drop p 2 file, ← u16At-drop p 4 file, ← drop-drop 6 p file) (superedges-yes j (drop p file) e)
 
-superedges-none : (k p : ℕ) (file : List ℕ) → (getD file p 0 ≡ 0x53 → ⊥) → superedgesAt k (drop p file) ≡ []
-superedges-none k p file n = go k (drop p file) (λ e. n (sym (front file p) ∙ e))
-  where
-    go : (i : ℕ) (s : List ℕ) → (getD s 0 0 ≡ 0x53 → ⊥) → superedgesAt i s ≡ []
-    go zero s m = unfold superedgesAt in refl
-    go (suc i) s m = unfold superedgesAt in rw (ne-eqb (getD s 0 0) 0x53 m, superedgesAt)
+superedges-none : (k p : ℕ) (file : List ℕ) → isMark (drop p file) 0x53 0x45 ≡ false → superedgesAt k (drop p file) ≡ []
+unfolding superedgesAt
+superedges-none zero p file n = refl
+superedges-none (suc k) p file n = rw (n, superedgesAt)
 
 -- as many superedges are still to be counted
 pub record ToCount (file : List ℕ) (total c p : ℕ) : Type 0 where
@@ -118,14 +130,14 @@ pub record ToCount (file : List ℕ) (total c p : ℕ) : Type 0 where
 pub count-start : (file : List ℕ) (p : ℕ) → ToCount file (length (superedgesAt (length file) (drop p file))) 0 p
 count-start file p = record { fuel = length file; enough = omega arith; sum = omega arith; few = omega arith }
 
-pub count-step : {total c p : ℕ} (file : List ℕ) → ToCount file total c p → getD file p 0 ≡ 0x53 → ToCount file total (c + 1) (p + 6)
+pub count-step : {total c p : ℕ} (file : List ℕ) → ToCount file total c p → isMark (drop p file) 0x53 0x45 ≡ true → ToCount file total (c + 1) (p + 6)
 count-step {total} {c} {p} file t e = go (t .fuel) (t .enough) (t .sum)
   where
     go : (k : ℕ) → length file ≤ p + k → c + length (superedgesAt k (drop p file)) ≡ total → ToCount file total (c + 1) (p + 6)
     go zero h s = absurd (omega (arith, mark-below file p e))
     go (suc j) h s = record { fuel = j; enough = omega arith; sum = omega (arith, s, ap length (superedges-more j p file e)); few = omega (arith, t .few) }
 
-pub count-done : {total c p : ℕ} (file : List ℕ) → ToCount file total c p → (getD file p 0 ≡ 0x53 → ⊥) → c ≡ total
+pub count-done : {total c p : ℕ} (file : List ℕ) → ToCount file total c p → isMark (drop p file) 0x53 0x45 ≡ false → c ≡ total
 count-done {total} {c} {p} file t n = omega (arith, t .sum, ap length (superedges-none (t .fuel) p file n))
 
 -- the lines of the superedges from p on are still to be written
@@ -137,12 +149,12 @@ pub record ToWrite (file s₀ : List ℕ) (at₀ : ℕ) (all s : List ℕ) (at p
 pub line-start : (file s : List ℕ) (at p : ℕ) → ToWrite file s at (superedgeTexts (length file) (drop p file)) s at p
 line-start file s at p = record { fuel = length file; enough = omega arith; left = left-start s at (superedgeTexts (length file) (drop p file)) }
 
-texts-more : (j p i k : ℕ) (file : List ℕ) → getD file p 0 ≡ 0x53 → i ≡ u16At file (p + 2) → k ≡ u16At file (p + 4)
+texts-more : (j p i k : ℕ) (file : List ℕ) → isMark (drop p file) 0x53 0x45 ≡ true → i ≡ u16At file (p + 2) → k ≡ u16At file (p + 4)
     → superedgeTexts (suc j) (drop p file) ≡ superedgeLine (i, k) ++ superedgeTexts j (drop (p + 6) file)
 unfolding superedgeTexts concat
 texts-more j p i k file e a b = rw (superedges-more j p file e, a, b)
 
-pub line-room : {s₀ : List ℕ} {at₀ : ℕ} {all s : List ℕ} {at p : ℕ} (file : List ℕ) (i k : ℕ) → ToWrite file s₀ at₀ all s at p → getD file p 0 ≡ 0x53 → i ≡ u16At file (p + 2) → k ≡ u16At file (p + 4)
+pub line-room : {s₀ : List ℕ} {at₀ : ℕ} {all s : List ℕ} {at p : ℕ} (file : List ℕ) (i k : ℕ) → ToWrite file s₀ at₀ all s at p → isMark (drop p file) 0x53 0x45 ≡ true → i ≡ u16At file (p + 2) → k ≡ u16At file (p + 4)
     → at₀ + length all ≤ length s₀ → at + length (superedgeLine (i, k)) ≤ length s
 line-room {s₀} {at₀} {all} {s} {at} {p} file i k w e a b r = go (w .fuel) (w .enough) (w .left)
   where
@@ -150,7 +162,7 @@ line-room {s₀} {at₀} {all} {s} {at} {p} file i k w e a b r = go (w .fuel) (w
     go zero h l = absurd (omega (arith, mark-below file p e))
     go (suc j) h l = left-room l r (superedgeLine (i, k)) (superedgeTexts j (drop (p + 6) file)) (texts-more j p i k file e a b)
 
-pub line-step : {s₀ : List ℕ} {at₀ : ℕ} {all s : List ℕ} {at p : ℕ} {t : List ℕ} {next : ℕ} (file : List ℕ) (i k : ℕ) → ToWrite file s₀ at₀ all s at p → getD file p 0 ≡ 0x53 → i ≡ u16At file (p + 2) → k ≡ u16At file (p + 4)
+pub line-step : {s₀ : List ℕ} {at₀ : ℕ} {all s : List ℕ} {at p : ℕ} {t : List ℕ} {next : ℕ} (file : List ℕ) (i k : ℕ) → ToWrite file s₀ at₀ all s at p → isMark (drop p file) 0x53 0x45 ≡ true → i ≡ u16At file (p + 2) → k ≡ u16At file (p + 4)
     → Wrote s at (superedgeLine (i, k)) t next → ToWrite file s₀ at₀ all t next (p + 6)
 line-step {s₀} {at₀} {all} {s} {at} {p} {t} {next} file i k w e a b x = go (w .fuel) (w .enough) (w .left)
   where
@@ -158,7 +170,7 @@ line-step {s₀} {at₀} {all} {s} {at} {p} {t} {next} file i k w e a b x = go (
     go zero h l = absurd (omega (arith, mark-below file p e))
     go (suc j) h l = record { fuel = j; enough = omega arith; left = left-step l x (texts-more j p i k file e a b) }
 
-pub line-done : {s₀ : List ℕ} {at₀ : ℕ} {all s : List ℕ} {at p : ℕ} (file : List ℕ) → ToWrite file s₀ at₀ all s at p → (getD file p 0 ≡ 0x53 → ⊥) → Wrote s₀ at₀ all s at
+pub line-done : {s₀ : List ℕ} {at₀ : ℕ} {all s : List ℕ} {at p : ℕ} (file : List ℕ) → ToWrite file s₀ at₀ all s at p → isMark (drop p file) 0x53 0x45 ≡ false → Wrote s₀ at₀ all s at
 unfolding superedgeTexts concat
 line-done {s₀} {at₀} {all} {s} {at} {p} file w n = left-done (w .left) (rw (superedges-none (w .fuel) p file n))
 

@@ -4,7 +4,7 @@ ghost use mathlib.Core.List.{[], _∷_, _++_};
 ghost use Prim.Native.Nat.{_+_, _≤_, _<_};
 ghost use lib.IntN.{natAbs};
 ghost use lib.ListN.{length, getD, drop};
-ghost use Rattle.model.specs.Reading.{afterGroups, superedgesAt, u16At};
+ghost use Rattle.model.specs.Reading.{afterGroups, isMark, superedgesAt, u16At};
 ghost use Rattle.model.specs.Program.{changeLine, changeLines, decimal, openLine, refusedLine, signed, spaced, superedgeLine};
 ghost use Rattle.buffers.specs.Wrote.{Wrote};
 ghost use Rattle.print.specs.Lines.{fileText, groupText, groupTexts, memberTexts, nextGroup, superedgeTexts};
@@ -176,6 +176,17 @@ fn groups_end(file: &[u8], from: usize, k: usize) -> usize
     p
 }
 
+// Whether a superedge's mark stands at p.
+fn is_superedge(file: &[u8], p: usize) -> bool
+    ensures { λ r. ⌜ r ≡ isMark (drop p (now (file .entry))) 0x53 0x45 ⌝ }
+{
+    let mark = b"SE";
+    if byte_at(file, p) != mark[0] {
+        return false;
+    }
+    byte_at(file, p + 1) == mark[1]
+}
+
 // How many superedge records stand from the place `from` on.
 fn count_superedges(file: &[u8], from: usize) -> usize
     requires { ⌜ from < 17179869184 ⌝ }
@@ -183,7 +194,7 @@ fn count_superedges(file: &[u8], from: usize) -> usize
 {
     let mut p = from;
     let mut count = 0;
-    while byte_at(file, p) == b'S' {
+    while is_superedge(file, p) {
         p += 6;
         count += 1;
     }
@@ -254,7 +265,7 @@ fn superedge_lines(out: &mut [u8], at: usize, file: &[u8], from: usize) -> usize
 {
     let mut to = at;
     let mut p = from;
-    while byte_at(file, p) == b'S' {
+    while is_superedge(file, p) {
         to = superedge_line(out, to, number_at(file, p + 2), number_at(file, p + 4));
         p += 6;
     }

@@ -3,14 +3,15 @@ use mathlib.Core.Path.{_≡_, refl, sym, ap, _∙_}
 use mathlib.Core.Bool.{Bool, true, false}
 use mathlib.Core.List.{List, [], _∷_}
 use mathlib.Core.Logic.{_≢_}
-use Prim.Native.Nat.{ℕ, suc, _+_, _-_, _≤_, _<_}
+use Prim.Native.Nat.{ℕ, suc, _+_, _*_, _-_, _≤_, _<_}
 use native.Mathlib.Omega.{arith}
-use lib.ListN.{length, set}
+use lib.ListN.{drop, length, set, take}
 use borrow.Author.Tests.{eq-eqb, ne-eqb}
 use Rattle.model.specs.Lists.{filter, from, nodes}
 use Rattle.model.specs.Tables.{edgeBit, nodeNumber}
+use Rattle.rows.specs.BitLaws.{row-bit}
 use Rattle.buffers.specs.Scan.{scan}
-use Rattle.buffers.specs.ScanLaws.{scan-length, scan-yes}
+use Rattle.buffers.specs.ScanLaws.{scan-cong, scan-length, scan-yes}
 use Rattle.buffers.specs.Wrote.{Left}
 use Rattle.buffers.specs.WroteLaws.{left-step}
 use Rattle.queries.specs.Query.{ledBy, kindBy}
@@ -56,3 +57,7 @@ scan-nodes P n = let e : n - 0 ≡ n = omega arith in ap (λ (k : ℕ). filter P
 -- counts of nodes are small
 pub scan-small : (P : ℕ → Bool) (n k : ℕ) → k ≡ length (scan P n 0) → k ≤ n
 scan-small P n k e = omega (arith, scan-length P n 0)
+
+-- a scan of a row that is lent as a part of the table
+pub scan-row : (edges : List ℕ) (p n : ℕ) → n ≤ 512 → scan (edgeBit (take (8 * p + 8 - 8 * p) (drop (8 * p) edges)) 0) n 0 ≡ scan (edgeBit edges p) n 0
+scan-row edges p n l = scan-cong (edgeBit (take (8 * p + 8 - 8 * p) (drop (8 * p) edges)) 0) (edgeBit edges p) n 0 (λ q a b. row-bit edges p q (omega arith))

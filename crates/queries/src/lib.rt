@@ -11,28 +11,28 @@ use groups::LEAST;
 use groups::NEXT;
 use groups::number;
 
-// How many neighbours p has.
-pub fn count_neighbours(edges: &[u64], n: usize, p: usize) -> usize
-    requires { ⌜ (n ≤ maxNodes) × (length (now edges) ≡ rowWords * n) × (p < n) ⌝ }
-    ensures { λ r. ⌜ r ≡ length (scan (edgeBit (now (edges .entry)) p) n 0) ⌝ }
+// How many neighbours a row has.
+pub fn count_neighbours(row: &[u64], n: usize) -> usize
+    requires { ⌜ (n ≤ maxNodes) × (length (now row) ≡ rowWords) ⌝ }
+    ensures { λ r. ⌜ r ≡ length (scan (edgeBit (now (row .entry)) 0) n 0) ⌝ }
 {
     let mut count = 0;
     for q in 0..n {
-        if rows::edge(edges, p, q) {
+        if rows::edge(row, 0, q) {
             count += 1;
         }
     }
     count
 }
 
-// The neighbours of p, ascending, from the start of the buffer on.
-pub fn write_neighbours(edges: &[u64], n: usize, p: usize, out: &mut [u16])
-    requires { ⌜ (n ≤ maxNodes) × (length (now edges) ≡ rowWords * n) × (p < n) × (length (scan (edgeBit (now edges) p) n 0) ≤ length (now out)) ⌝ }
-    ensures { λ _. ⌜ now (out .exit) ≡ sets (now (out .entry)) 0 (scan (edgeBit (now (edges .entry)) p) n 0) ⌝ }
+// The neighbours that a row has, ascending, from the start of the buffer on.
+pub fn write_neighbours(row: &[u64], n: usize, out: &mut [u16])
+    requires { ⌜ (n ≤ maxNodes) × (length (now row) ≡ rowWords) × (length (scan (edgeBit (now row) 0) n 0) ≤ length (now out)) ⌝ }
+    ensures { λ _. ⌜ now (out .exit) ≡ sets (now (out .entry)) 0 (scan (edgeBit (now (row .entry)) 0) n 0) ⌝ }
 {
     let mut to = 0;
     for q in 0..n {
-        if rows::edge(edges, p, q) {
+        if rows::edge(row, 0, q) {
             out[to] = q as u16;
             to += 1;
         }

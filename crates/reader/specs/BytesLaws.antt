@@ -1,36 +1,35 @@
--- An accepted file has the bytes of what it tells, and no others.
+-- An accepted file has the bytes of what it tells, in order, and no others.
 use mathlib.Core.Path.{_≡_, refl, sym, ap, ap₂, subst, _∙_}
-use mathlib.Core.Bool.{Bool, true, false, _&&_, cond}
+use mathlib.Core.Bool.{Bool, true, false, not, _&&_, _||_, cond}
 use mathlib.Core.List.{List, [], _∷_, _++_, map, append-assoc}
 use mathlib.Core.Logic.{_⊎_, inl, inr}
-use Prim.Native.Nat.{ℕ, zero, suc, _+_, _*_, _-_, _≤_, _<_}
+use Prim.Native.Nat.{ℕ, zero, suc, _+_, _*_, _-_, _≤_}
 use native.Mathlib.Omega.{arith}
 use lib.Dec.{eqb, ltb, leb}
 use lib.ListN.{length, getD, drop, length-append, length-drop, drop-of-length-le}
 use lib.Seq.{drop-drop, getD-drop}
-use borrow.Author.Tests.{eqb-true, eqb-false, ltb-false, leb-true}
-use Rattle.model.specs.Lists.{_∈_, concat}
+use borrow.Author.Tests.{eqb-true, eqb-false, ltb-false, leb-true, le-leb}
+use Rattle.model.specs.Lists.{concat, headOr, member}
+use Rattle.model.specs.Graph.{maxNodes}
 use Rattle.model.specs.Release.{endRecord, headRecord, superedgeRecord, u16}
-use Rattle.model.specs.Reading.{groupsAt, superedgesAt, u16At, u16s}
-use Rattle.model.specs.TestLaws.{and-fst, and-snd, decide, differ}
-use Rattle.model.specs.ListLaws.{member-intro}
-use Rattle.reader.specs.declared.Counts.{Counts}
-use Rattle.reader.specs.declared.Lessened.{Lessened}
-use Rattle.reader.specs.declared.Lessened.the-variants.{Left, Over}
-use Rattle.reader.specs.declared.Record.{Record}
-use Rattle.reader.specs.declared.Record.the-variants.{Head, Group, Superedge, End, Malformed}
+use Rattle.model.specs.Reading.{isMark, u16At, u16s}
+use Rattle.model.specs.InOrder.{fileBy, follows, groupFits, groupsFit, inOrder, markedRecord, membersFit, membersIn, pairKey, superedgesFit, toldGroups, toldSuperedges}
+use Rattle.model.specs.TestLaws.{and-fst, and-snd, and-true, decide, differ}
+use Rattle.model.specs.InOrderLaws.{file-count, file-told-groups, file-told-superedges}
+use Rattle.records.specs.declared.Counts.{Counts}
+use Rattle.records.specs.declared.Lessened.{Lessened}
+use Rattle.records.specs.declared.Lessened.the-variants.{Left, Over}
+use Rattle.records.specs.declared.Record.{Record}
+use Rattle.records.specs.declared.Record.the-variants.{Head, Group, Superedge, End, Malformed}
+use Rattle.records.specs.Records.{groupItem, headItem, itemIn, lessGroup, lessMember, spent, superedgeItem, whole}
+use Rattle.records.specs.RecordLaws.{u16-drop}
+use Rattle.compressed.specs.Compressed.{kindBy}
 use Rattle.reader.specs.declared.Grouped.{Grouped}
 use Rattle.reader.specs.declared.Grouped.the-variants.{Taken, Missing}
-use Rattle.reader.specs.declared.Groups.the-variants.{Whole}
-use Rattle.reader.specs.Records.{groupItem, headItem, isMark, itemIn, lessGroup, lessMember, spent, superedgeItem, whole}
-use Rattle.reader.specs.Drawing.{countAt, membersAt}
-use Rattle.reader.specs.Decoding.{accepted, follows, groupBy, groupTaken, groupsFrom, groupsRead, keyOf, membersOf, membersRead, numbersAt, onLess, onSuperedge, onTaken, pairsFrom, restFrom, superedgesFit, toldGroups, toldPairs}
-use Rattle.reader.specs.RecordLaws.{u16-drop}
-use Rattle.reader.specs.DecodingLaws.{Fits, item-fits, numbers-members}
-use Rattle.reader.specs.GroupLaws.{Told, groups-step, rest-none, rest-step, taken-told}
-use Rattle.reader.specs.SuperedgeLaws.{pairs-end, pairs-step}
-use Rattle.reader.specs.ToldLaws.{Accepted, Ordered, accepted-out, placed-at, placed-small}
-use Rattle.reader.specs.Bytes.{Bytes, BytesTold, GroupsHere, membersIn, recordOf}
+use Rattle.reader.specs.declared.Groups.{Groups}
+use Rattle.reader.specs.declared.Groups.the-variants.{Whole, Broken}
+use Rattle.reader.specs.Decoding.{accepted, bodyFits, countAt, endsAt, groupBy, groupTaken, groupsRead, leastCount, listedAt, membersRead, numbersAt, onEnd, onHead, onLess, onSuperedge, onTaken, onWhole, sized, stopAt}
+use Rattle.reader.specs.Bytes.{Bytes}
 
 bytes-after : (s : List ℕ) (at : ℕ) → Bytes s → Bytes (drop at s)
 bytes-after s at b i = rw (getD-drop at s i 0) (b (at + i))
@@ -107,87 +106,121 @@ module _ (r : List ℕ) (b : Bytes r) where
       cond-written r (isMark r 0x48 0x44) (headItem r) _ (λ t. whole-written r 8 (Head (u16At r 2) (u16At r 4) (u16At r 6)) (head-written t)) (λ _.
       cond-written r (isMark r 0x45 0x4E) End Malformed (λ t. end-written t (ltb-false (length r) 2 room)) (λ _. tt))))))
 
-pub head-room : (s : List ℕ) → accepted s ≡ true → 8 ≤ length s
-head-room s ok = subst (Fits s) (accepted-out s ok .head) (item-fits s) .0
-
--- members that were taken are counted
-members-counted : (n : ℕ) (ms : List ℕ) (c d : Counts) → membersRead n c ms ≡ Left d → c .members ≡ length ms + d .members
-unfolding membersRead
-members-counted n [] c d e = let f : c ≡ d = cc in omega (arith, ap (λ (x : Counts). x .members) f)
-members-counted n (x ∷ xs) c d e = small (members-counted n xs) (decide (ltb x n)) e
+-- members that were taken fit, and are counted
+members-counted : (n : ℕ) (f : ℕ → Bool) (ms : List ℕ) (low : ℕ) (c d : Counts) → membersRead n f low c ms ≡ Left d → (membersFit n f low ms ≡ true) × (c .members ≡ length ms + d .members)
+unfolding membersRead membersFit
+members-counted n f [] low c d e = let g : c ≡ d = cc in (refl, omega (arith, ap (λ (x : Counts). x .members) g))
+members-counted n f (x ∷ xs) low c d e = fits (members-counted n f xs (suc x)) (decide (leb low x && (ltb x n && not (f x)))) e
   where
     Below : Type 0
-    Below = (y z : Counts) → membersRead n y xs ≡ Left z → y .members ≡ length xs + z .members
+    Below = (y z : Counts) → membersRead n f (suc x) y xs ≡ Left z → (membersFit n f (suc x) xs ≡ true) × (y .members ≡ length xs + z .members)
+
+    Goal : Type 0
+    Goal = ((leb low x && (ltb x n && (not (f x) && membersFit n f (suc x) xs))) ≡ true) × (c .members ≡ suc (length xs) + d .members)
 
     none : {X : Type 0} → Over ≡ Left d → X
-    none f = let z : _≡_ {A = ℕ} 0 1 = cc in absurd (omega arith)
+    none g = let z : _≡_ {A = ℕ} 0 1 = cc in absurd (omega arith)
 
-    one : Below → (eqb (c .members) 0 ≡ true) ⊎ (eqb (c .members) 0 ≡ false) → onLess (cond (eqb (c .members) 0) Over (Left (record { members = c .members - 1; groups = c .groups }))) (λ y. membersRead n y xs) Over ≡ Left d → c .members ≡ suc (length xs) + d .members
-    one below (inl t) f = none (rw t at f)
-    one below (inr t) f = omega (arith, eqb-false (c .members) 0 t, below (record { members = c .members - 1; groups = c .groups }) d (rw t at f))
+    one : Below → (leb low x && (ltb x n && not (f x))) ≡ true → (eqb (c .members) 0 ≡ true) ⊎ (eqb (c .members) 0 ≡ false) → onLess (cond (eqb (c .members) 0) Over (Left (record { members = c .members - 1; groups = c .groups }))) (λ y. membersRead n f (suc x) y xs) Over ≡ Left d → Goal
+    one below t (inl u) g = none (rw u at g)
+    one below t (inr u) g =
+        let more = below (record { members = c .members - 1; groups = c .groups }) d (rw u at g) in
+        let v : (ltb x n && not (f x)) ≡ true = and-snd (leb low x) _ t in
+        (and-true (and-fst (leb low x) _ t) (and-true (and-fst (ltb x n) _ v) (and-true (and-snd (ltb x n) _ v) (more .0))), omega (arith, eqb-false (c .members) 0 u, more .1))
 
-    small : Below → (ltb x n ≡ true) ⊎ (ltb x n ≡ false) → cond (ltb x n) (onLess (lessMember c) (λ y. membersRead n y xs) Over) Over ≡ Left d → c .members ≡ suc (length xs) + d .members
-    small below (inl t) f = one below (decide (eqb (c .members) 0)) (unfold lessMember in rw t at f)
-    small below (inr t) f = none (rw t at f)
+    fits : Below → ((leb low x && (ltb x n && not (f x))) ≡ true) ⊎ ((leb low x && (ltb x n && not (f x))) ≡ false) → cond (leb low x && (ltb x n && not (f x))) (onLess (lessMember c) (λ y. membersRead n f (suc x) y xs) Over) Over ≡ Left d → Goal
+    fits below (inl t) g = one below t (decide (eqb (c .members) 0)) (unfold lessMember in rw t at g)
+    fits below (inr t) g = none (rw t at g)
 
--- a group that was taken: the record at its place, and what it used up
-record Used (c : Counts) (s : List ℕ) (at : ℕ) (q : Bool) (d : Counts) : Type 0 where
-  item : itemIn (drop at s) ≡ Group q (countAt s at)
-  members : c .members ≡ length (membersAt s at) + d .members
+-- the count in a group record, and its first number
+group-count : (r : List ℕ) (q : Bool) (count : ℕ) → Written r (Group q count) → count ≡ u16At r 2
+group-count r q count w = sym (ap (λ (x : List ℕ). u16At x 2) w ∙ back)
+  where
+    back : u16At (0x47 ∷ cond q 0x43 0x49 ∷ (u16 count ++ drop 4 r)) 2 ≡ count
+    back = unfold u16At u16 in omega arith
 
-module _ (n : ℕ) (c : Counts) (s : List ℕ) (at : ℕ) (q : Bool) (next : ℕ) (d : Counts) where
-  taken-used : groupTaken n c s at ≡ Taken q next d → Used c s at q d
+length-numbers : (k : ℕ) (r : List ℕ) → length (u16s k r) ≡ k
+unfolding u16s
+length-numbers zero r = refl
+length-numbers (suc k) r = ap suc (length-numbers k (drop 2 r))
+
+length-listed : (s : List ℕ) (at : ℕ) → length (listedAt s at) ≡ countAt s at
+unfolding listedAt numbersAt
+length-listed s at = length-numbers (countAt s at) (drop (at + 4) s)
+
+first-number : (s : List ℕ) (at k : ℕ) → 1 ≤ k → u16At s at ≡ headOr 0 (numbersAt s at k)
+unfolding numbersAt u16s
+first-number s at zero h = absurd (omega arith)
+first-number s at (suc k) h = let e : at + 0 ≡ at = omega arith in sym (u16-drop s at 0 ∙ ap (u16At s) e)
+
+some-members : (q : Bool) (k : ℕ) → leb (leastCount q) k ≡ true → 1 ≤ k
+unfolding leastCount
+some-members true k t = omega (arith, leb-true 2 k t)
+some-members false k t = leb-true 1 k t
+
+-- a group that was taken: its record fits, and stands at its place
+record GroupIn (n : ℕ) (f : ℕ → Bool) (low : ℕ) (c : Counts) (s : List ℕ) (at first next : ℕ) (d : Counts) : Type 0 where
+  mark : Bool
+  item : itemIn (drop at s) ≡ Group mark (countAt s at)
+  room : at + 4 + 2 * countAt s at ≤ length s
+  after : next ≡ at + 4 + 2 * countAt s at
+  lead : first ≡ headOr 0 (listedAt s at)
+  fits : groupFits n f low (mark, listedAt s at) ≡ true
+  members : c .members ≡ length (listedAt s at) + d .members
+
+module _ (n : ℕ) (f : ℕ → Bool) (low : ℕ) (c : Counts) (s : List ℕ) (b : Bytes s) (at kind first next : ℕ) (d : Counts) where
+  abbrev many : ℕ
+  many = countAt s at
+
+  taken-in : groupTaken n f low c s at ≡ Taken kind first next d → GroupIn n f low c s at first next d
   unfolding groupTaken
-  taken-used e = by-kind (itemIn (drop at s)) refl (item-fits (drop at s)) e
+  taken-in e = by-kind (itemIn (drop at s)) refl (item-written (drop at s) (bytes-after s at b)) e
     where
-      none : {X : Type 0} → Missing ≡ Taken q next d → X
-      none f = let z : _≡_ {A = ℕ} 0 1 = cc in absurd (omega arith)
+      none : {X : Type 0} → Missing ≡ Taken kind first next d → X
+      none g = let z : _≡_ {A = ℕ} 0 1 = cc in absurd (omega arith)
 
-      by-members : (x : Bool) (count : ℕ) (y : Counts) (o : Lessened) → membersRead n y (numbersAt s (at + 4) count) ≡ o → y .members ≡ c .members → itemIn (drop at s) ≡ Group x count → count ≡ countAt s at
-          → onLess o (λ z. Taken x (at + 4 + 2 * count) z) Missing ≡ Taken q next d → Used c s at q d
-      by-members x count y (Left z) h m i f k =
-          let j : x ≡ q = cc in
-          let l : z ≡ d = cc in
+      enough : (q : Bool) → leb (leastCount q) many ≡ true → leb (cond q 2 1) (length (listedAt s at)) ≡ true
+      enough q l = unfold leastCount in rw (length-listed s at) l
+
+      by-members : (q : Bool) (y : Counts) (o : Lessened) → membersRead n f low y (listedAt s at) ≡ o → y .members ≡ c .members → itemIn (drop at s) ≡ Group q many → leb (leastCount q) many ≡ true → at + 4 + 2 * many ≤ length s
+          → onLess o (λ z. Taken (kindBy q many) (u16At s (at + 4)) (at + 4 + 2 * many) z) Missing ≡ Taken kind first next d → GroupIn n f low c s at first next d
+      by-members q y (Left z) h m i l r k =
+          let told = members-counted n f (listedAt s at) low y z h in
+          let led : first ≡ u16At s (at + 4) = cc in
+          let left : z ≡ d = cc in
           record {
-            item = i ∙ ap₂ Group j f;
-            members = sym m ∙ members-counted n (numbersAt s (at + 4) count) y z h ∙ ap₂ (λ (u : List ℕ) (v : Counts). length u + v .members) (numbers-members s at count f) l;
+            mark = q;
+            item = i;
+            room = r;
+            after = cc;
+            lead = led ∙ (unfold listedAt in first-number s (at + 4) many (some-members q many l));
+            fits = unfold groupFits in and-true (enough q l) (told .0);
+            members = sym m ∙ told .1 ∙ ap (λ (x : Counts). length (listedAt s at) + x .members) left;
           }
-      by-members x count y Over h m i f k = none k
+      by-members q y Over h m i l r k = none k
 
-      by-count : (x : Bool) (count : ℕ) → itemIn (drop at s) ≡ Group x count → count ≡ countAt s at → (eqb (c .groups) 0 ≡ true) ⊎ (eqb (c .groups) 0 ≡ false)
-          → onLess (cond (eqb (c .groups) 0) Over (Left (record { members = c .members; groups = c .groups - 1 }))) (λ y. onLess (membersRead n y (numbersAt s (at + 4) count)) (λ z. Taken x (at + 4 + 2 * count) z) Missing) Missing ≡ Taken q next d → Used c s at q d
-      by-count x count i f (inl t) k = none (rw t at k)
-      by-count x count i f (inr t) k = by-members x count (record { members = c .members; groups = c .groups - 1 }) (membersRead n (record { members = c .members; groups = c .groups - 1 }) (numbersAt s (at + 4) count)) refl refl i f (rw t at k)
+      by-less : (q : Bool) → itemIn (drop at s) ≡ Group q many → leb (leastCount q) many ≡ true → at + 4 + 2 * many ≤ length s → (eqb (c .groups) 0 ≡ true) ⊎ (eqb (c .groups) 0 ≡ false)
+          → onLess (cond (eqb (c .groups) 0) Over (Left (record { members = c .members; groups = c .groups - 1 }))) (λ y. onLess (membersRead n f low y (numbersAt s (at + 4) many)) (λ z. Taken (kindBy q many) (u16At s (at + 4)) (at + 4 + 2 * many) z) Missing) Missing ≡ Taken kind first next d → GroupIn n f low c s at first next d
+      by-less q i l r (inl t) k = none (rw t at k)
+      by-less q i l r (inr t) k = by-members q (record { members = c .members; groups = c .groups - 1 }) (membersRead n f low (record { members = c .members; groups = c .groups - 1 }) (listedAt s at)) refl refl i l r (unfold listedAt in rw t at k)
 
-      by-room : (x : Bool) (count : ℕ) → (leb (at + 4 + 2 * count) (length s) ≡ true) ⊎ (leb (at + 4 + 2 * count) (length s) ≡ false) → itemIn (drop at s) ≡ Group x count → count ≡ countAt s at → groupBy n c s at (Group x count) ≡ Taken q next d → Used c s at q d
-      by-room x count (inl t) i f k = by-count x count i f (decide (eqb (c .groups) 0)) (unfold lessGroup in rw t at k)
-      by-room x count (inr t) i f k = none (rw t at k)
+      by-room : (q : Bool) → itemIn (drop at s) ≡ Group q many → ((leb (leastCount q) many && leb (at + 4 + 2 * many) (length s)) ≡ true) ⊎ ((leb (leastCount q) many && leb (at + 4 + 2 * many) (length s)) ≡ false) → groupBy n f low c s at (Group q many) ≡ Taken kind first next d → GroupIn n f low c s at first next d
+      by-room q i (inl t) k = by-less q i (and-fst (leb (leastCount q) many) _ t) (leb-true (at + 4 + 2 * many) (length s) (and-snd (leb (leastCount q) many) _ t)) (decide (eqb (c .groups) 0)) (unfold lessGroup in rw t at k)
+      by-room q i (inr t) k = none (rw t at k)
 
-      by-kind : (i : Record) → itemIn (drop at s) ≡ i → Fits (drop at s) i → groupBy n c s at i ≡ Taken q next d → Used c s at q d
-      by-kind (Group x count) i f k = by-room x count (decide (leb (at + 4 + 2 * count) (length s))) i (unfold countAt in (f .1 ∙ u16-drop s at 2)) k
-      by-kind (Head x y z) i f k = none k
-      by-kind (Superedge x y) i f k = none k
-      by-kind End i f k = none k
-      by-kind Malformed i f k = none k
+      by-kind : (i : Record) → itemIn (drop at s) ≡ i → Written (drop at s) i → groupBy n f low c s at i ≡ Taken kind first next d → GroupIn n f low c s at first next d
+      by-kind (Group q m) i w k =
+          let g : m ≡ many = unfold countAt in (group-count (drop at s) q m w ∙ u16-drop s at 2) in
+          by-room q (i ∙ ap (Group q) g) (decide (leb (leastCount q) many && leb (at + 4 + 2 * many) (length s))) (rw g at k)
+      by-kind (Head x y z) i w k = none k
+      by-kind (Superedge x y) i w k = none k
+      by-kind End i w k = none k
+      by-kind Malformed i w k = none k
 
--- the groups of a file, from a place on to the next
-record GroupsTold (n k : ℕ) (c : Counts) (s : List ℕ) (at next : ℕ) (left : Counts) : Type 0 where
-  here : GroupsHere n s at k
-  bytes : drop at s ≡ concat (map recordOf (groupsFrom s at k)) ++ drop next s
-  members : c .members ≡ length (membersIn (groupsFrom s at k)) + left .members
-  rest : restFrom s at k ≡ drop next s
-
-no-bytes : (s : List ℕ) (at : ℕ) (r : List ℕ) → r ≡ concat (map recordOf (groupsFrom s at 0)) ++ r
-unfolding groupsFrom groupsAt concat
-no-bytes s at r = refl
-
-no-members : (s : List ℕ) (at : ℕ) → length (membersIn (groupsFrom s at 0)) ≡ 0
-unfolding membersIn groupsFrom groupsAt concat
-no-members s at = refl
-
-more-bytes : (g : Bool × List ℕ) (gs : List (Bool × List ℕ)) (r : List ℕ) → concat (map recordOf (g ∷ gs)) ++ r ≡ recordOf g ++ (concat (map recordOf gs) ++ r)
+-- records one after the other
+more-bytes : (g : Bool × List ℕ) (gs : List (Bool × List ℕ)) (r : List ℕ) → concat (map markedRecord (g ∷ gs)) ++ r ≡ markedRecord g ++ (concat (map markedRecord gs) ++ r)
 unfolding concat
-more-bytes g gs r = append-assoc (recordOf g) (concat (map recordOf gs)) r
+more-bytes g gs r = append-assoc (markedRecord g) (concat (map markedRecord gs)) r
 
 more-members : (g : Bool × List ℕ) (gs : List (Bool × List ℕ)) → length (membersIn (g ∷ gs)) ≡ length (g .1) + length (membersIn gs)
 unfolding membersIn concat
@@ -197,20 +230,33 @@ more-superedges : (j : ℕ × ℕ) (js : List (ℕ × ℕ)) (r : List ℕ) → c
 unfolding concat
 more-superedges j js r = append-assoc (superedgeRecord j) (concat (map superedgeRecord js)) r
 
-end-alone : (r : List ℕ) → r ≡ [] → endRecord ++ r ≡ concat (map superedgeRecord []) ++ endRecord
-unfolding endRecord concat
-end-alone r e = rw e
+-- groups that were read: they fit, and stand from a place on to the next
+record GroupsIn (n k : ℕ) (f : ℕ → Bool) (low : ℕ) (c : Counts) (s : List ℕ) (at next : ℕ) (left : Counts) : Type 0 where
+  groups : List (Bool × List ℕ)
+  count : length groups ≡ k
+  fits : groupsFit n f low groups ≡ true
+  bytes : drop at s ≡ concat (map markedRecord groups) ++ drop next s
+  members : c .members ≡ length (membersIn groups) + left .members
 
-pub length-numbers : (k : ℕ) (r : List ℕ) → length (u16s k r) ≡ k
-unfolding u16s
-length-numbers zero r = refl
-length-numbers (suc k) r = ap suc (length-numbers k (drop 2 r))
+-- superedges that were read: they stand in order
+record SuperedgesIn (g last : ℕ) (s : List ℕ) (at next : ℕ) : Type 0 where
+  pairs : List (ℕ × ℕ)
+  fits : superedgesFit g last pairs ≡ true
+  bytes : drop at s ≡ concat (map superedgeRecord pairs) ++ drop next s
+
+no-groups : (n : ℕ) (f : ℕ → Bool) (low : ℕ) (c : Counts) (s : List ℕ) (at : ℕ) → GroupsIn n 0 f low c s at at c
+unfolding groupsFit concat membersIn
+no-groups n f low c s at = record { groups = []; count = refl; fits = refl; bytes = refl; members = omega arith }
+
+no-superedges : (g last : ℕ) (s : List ℕ) (at : ℕ) → SuperedgesIn g last s at at
+unfolding superedgesFit concat
+no-superedges g last s at = record { pairs = []; fits = refl; bytes = refl }
 
 module _ (s : List ℕ) (b : Bytes s) where
   -- one group
-  record-here : (at : ℕ) (q : Bool) → itemIn (drop at s) ≡ Group q (countAt s at) → at + 4 + 2 * countAt s at ≤ length s → drop at s ≡ recordOf (q, membersAt s at) ++ drop (at + 4 + 2 * countAt s at) s
-  unfolding recordOf membersAt
-  record-here at q i room =
+  group-here : (at : ℕ) (q : Bool) → itemIn (drop at s) ≡ Group q (countAt s at) → at + 4 + 2 * countAt s at ≤ length s → drop at s ≡ markedRecord (q, listedAt s at) ++ drop (at + 4 + 2 * countAt s at) s
+  unfolding markedRecord listedAt numbersAt
+  group-here at q i room =
       let w : Written (drop at s) (Group q (countAt s at)) = subst (Written (drop at s)) i (item-written (drop at s) (bytes-after s at b)) in
       let f : drop (at + 4) s ≡ concat (map u16 (u16s (countAt s at) (drop (at + 4) s))) ++ drop (at + 4 + 2 * countAt s at) s =
       numbers (countAt s at) (drop (at + 4) s) (bytes-after s (at + 4) b) (omega (arith, length-drop (at + 4) s)) ∙ ap (λ (x : List ℕ). concat (map u16 (u16s (countAt s at) (drop (at + 4) s))) ++ x) (drop-drop (2 * countAt s at) (at + 4) s) in
@@ -220,109 +266,121 @@ module _ (s : List ℕ) (b : Bytes s) where
       (sym (append-assoc (u16 (countAt s at)) (concat (map u16 (u16s (countAt s at) (drop (at + 4) s)))) (drop (at + 4 + 2 * countAt s at) s))
       ∙ ap (λ (x : ℕ). (u16 x ++ concat (map u16 (u16s (countAt s at) (drop (at + 4) s)))) ++ drop (at + 4 + 2 * countAt s at) s) (sym (length-numbers (countAt s at) (drop (at + 4) s))))
 
-  groups-told : (n k : ℕ) (c : Counts) (at next : ℕ) (left : Counts) → groupsRead n k c s at ≡ Whole next left → GroupsTold n k c s at next left
-  groups-told n zero c at next left e =
-      let f : at ≡ next = unfold groupsRead in cc in
-      let g : c ≡ left = unfold groupsRead in cc in
-      record {
-        here = tt;
-        bytes = no-bytes s at (drop at s) ∙ ap (λ (x : ℕ). concat (map recordOf (groupsFrom s at 0)) ++ drop x s) f;
-        members = omega (arith, no-members s at, ap (λ (x : Counts). x .members) g);
-        rest = rest-none s at 0 refl ∙ ap (λ (x : ℕ). drop x s) f;
-      }
-  groups-told n (suc k) c at next left e = by-group (groupTaken n c s at) refl (λ d x f. groups-told n k d x next left f) (unfold groupsRead in e)
+  groups-in : (n k : ℕ) (f : ℕ → Bool) (low : ℕ) (c : Counts) (at next : ℕ) (left : Counts) → groupsRead n k f low c s at ≡ Whole next left → GroupsIn n k f low c s at next left
+  groups-in n zero f low c at next left e =
+      let g : at ≡ next = unfold groupsRead in cc in
+      let h : c ≡ left = unfold groupsRead in cc in
+      subst (λ (x : ℕ). GroupsIn n 0 f low c s at x left) g (subst (λ (x : Counts). GroupsIn n 0 f low c s at at x) h (no-groups n f low c s at))
+  groups-in n (suc k) f low c at next left e = by-group (groupTaken n f low c s at) refl (λ g x d y. groups-in n k g x d y next left) (unfold groupsRead in e)
     where
       Below : Type 0
-      Below = (d : Counts) (x : ℕ) → groupsRead n k d s x ≡ Whole next left → GroupsTold n k d s x next left
+      Below = (g : ℕ → Bool) (x : ℕ) (d : Counts) (y : ℕ) → groupsRead n k g x d s y ≡ Whole next left → GroupsIn n k g x d s y next left
 
-      by-group : (g : Grouped) → groupTaken n c s at ≡ g → Below → onTaken g (λ x d. groupsRead n k d s x) ≡ Whole next left → GroupsTold n (suc k) c s at next left
-      by-group Missing f below u = let z : _≡_ {A = ℕ} 0 1 = cc in absurd (omega arith)
-      by-group (Taken q x d) f below u =
-          let t : Told n s at q x = taken-told n c s at q x d f in
-          let v : Used c s at q d = taken-used n c s at q x d f in
-          let more : GroupsTold n k d s x next left = below d x u in
-          let cons : groupsFrom s at (suc k) ≡ (q, membersAt s at) ∷ groupsFrom s x k = groups-step s at k q x (t .after) (t .kind) in
+      by-group : (g : Grouped) → groupTaken n f low c s at ≡ g → Below → onTaken g (λ first x d. groupsRead n k (λ p. member p (listedAt s at) || f p) (suc first) d s x) ≡ Whole next left → GroupsIn n (suc k) f low c s at next left
+      by-group Missing h below u = let z : _≡_ {A = ℕ} 0 1 = cc in absurd (omega arith)
+      by-group (Taken kind first x d) h below u =
+          let one : GroupIn n f low c s at first x d = taken-in n f low c s b at kind first x d h in
+          let more : GroupsIn n k (λ p. member p (listedAt s at) || f p) (suc first) d s x next left = below (λ p. member p (listedAt s at) || f p) (suc first) d x u in
+          let g : Bool × List ℕ = (one .mark, listedAt s at) in
           record {
-            here = (t .here, subst (λ (y : ℕ). GroupsHere n s y k) (t .after) (more .here));
+            groups = g ∷ more .groups;
+            count = ap suc (more .count);
+            fits = unfold groupsFit in and-true (one .fits) (ap (λ (y : ℕ). groupsFit n (λ p. member p (listedAt s at) || f p) (suc y) (more .groups)) (sym (one .lead)) ∙ more .fits);
             bytes =
-                record-here at q (v .item) (t .here .room)
-                ∙ ap (λ (y : List ℕ). recordOf (q, membersAt s at) ++ y) (ap (λ (y : ℕ). drop y s) (sym (t .after)) ∙ more .bytes)
-                ∙ sym (more-bytes (q, membersAt s at) (groupsFrom s x k) (drop next s))
-                ∙ ap (λ (l : List (Bool × List ℕ)). concat (map recordOf l) ++ drop next s) (sym cons);
-            members = omega (arith, v .members, more .members, more-members (q, membersAt s at) (groupsFrom s x k), ap (λ (l : List (Bool × List ℕ)). length (membersIn l)) cons);
-            rest = rest-step s at k x (t .after) ∙ more .rest;
+                group-here at (one .mark) (one .item) (one .room)
+                ∙ ap (λ (y : List ℕ). markedRecord g ++ y) (ap (λ (y : ℕ). drop y s) (sym (one .after)) ∙ more .bytes)
+                ∙ sym (more-bytes g (more .groups) (drop next s));
+            members = omega (arith, one .members, more .members, more-members g (more .groups));
           }
 
-  -- the superedges of a file, and its end
-  superedges-told : (g : ℕ) (c : Counts) (k last at : ℕ) → superedgesFit g c s last k at ≡ true → (drop at s ≡ concat (map superedgeRecord (pairsFrom s at k)) ++ endRecord) × Ordered g last (pairsFrom s at k) × (spent c ≡ true)
-  superedges-told g c zero last at e = differ e (unfold superedgesFit in refl)
-  superedges-told g c (suc k) last at e = by-kind (itemIn (drop at s)) refl (item-fits (drop at s)) (item-written (drop at s) (bytes-after s at b)) (superedges-told g c k) (unfold superedgesFit in e)
+  superedges-in : (g k last at : ℕ) → SuperedgesIn g last s at (stopAt g s last k at)
+  unfolding stopAt
+  superedges-in g zero last at = no-superedges g last s at
+  superedges-in g (suc k) last at = by-kind (itemIn (drop at s)) (item-written (drop at s) (bytes-after s at b)) (superedges-in g k)
     where
       Below : Type 0
-      Below = (last at : ℕ) → superedgesFit g c s last k at ≡ true → (drop at s ≡ concat (map superedgeRecord (pairsFrom s at k)) ++ endRecord) × Ordered g last (pairsFrom s at k) × (spent c ≡ true)
+      Below = (last at : ℕ) → SuperedgesIn g last s at (stopAt g s last k at)
 
-      Goal : Type 0
-      Goal = (drop at s ≡ concat (map superedgeRecord (pairsFrom s at (suc k))) ++ endRecord) × Ordered g last (pairsFrom s at (suc k)) × (spent c ≡ true)
+      by-order : (i j : ℕ) → Written (drop at s) (Superedge i j) → Below → (follows g last i j ≡ true) ⊎ (follows g last i j ≡ false) → SuperedgesIn g last s at (cond (follows g last i j) (stopAt g s (pairKey i j) k (at + 6)) at)
+      by-order i j w below (inl t) =
+          let more : SuperedgesIn g (pairKey i j) s (at + 6) (stopAt g s (pairKey i j) k (at + 6)) = below (pairKey i j) (at + 6) in
+          rw t
+          (record {
+            pairs = (i, j) ∷ more .pairs;
+            fits = unfold superedgesFit in and-true t (more .fits);
+            bytes = w ∙ ap (λ (y : List ℕ). superedgeRecord (i, j) ++ y) (drop-drop 6 at s ∙ more .bytes) ∙ sym (more-superedges (i, j) (more .pairs) (drop (stopAt g s (pairKey i j) k (at + 6)) s));
+          })
+      by-order i j w below (inr t) = rw t (no-superedges g last s at)
 
-      by-kind : (i : Record) → itemIn (drop at s) ≡ i → Fits (drop at s) i → Written (drop at s) i → Below → onSuperedge i (λ i j. follows g last i j && superedgesFit g c s (keyOf i j) k (at + 6)) (spent c && eqb (at + 2) (length s)) ≡ true → Goal
-      by-kind (Superedge i j) h f w below u =
-          let more = below (keyOf i j) (at + 6) (and-snd (follows g last i j) (superedgesFit g c s (keyOf i j) k (at + 6)) u) in
-          let cons : pairsFrom s at (suc k) ≡ (i, j) ∷ pairsFrom s (at + 6) k = pairs-step s at k i j (f .3) (f .1) (f .2) in (
-            w ∙ ap (λ (y : List ℕ). superedgeRecord (i, j) ++ y) (drop-drop 6 at s ∙ more .0) ∙ sym (more-superedges (i, j) (pairsFrom s (at + 6) k) endRecord) ∙ ap (λ (l : List (ℕ × ℕ)). concat (map superedgeRecord l) ++ endRecord) (sym cons),
-            subst (Ordered g last) (sym cons) (sym (and-fst (follows g last i j) (superedgesFit g c s (keyOf i j) k (at + 6)) u), more .1),
-            more .2,
-          )
-      by-kind End h f w below u =
-          let none : pairsFrom s at (suc k) ≡ [] = pairs-end s at k (f .1) in
-          let last-byte : at + 2 ≡ length s = eqb-true (at + 2) (length s) (and-snd (spent c) (eqb (at + 2) (length s)) u) in (
-            w ∙ end-alone (drop 2 (drop at s)) (drop-drop 2 at s ∙ drop-of-length-le s {i = at + 2} (omega arith)) ∙ ap (λ (l : List (ℕ × ℕ)). concat (map superedgeRecord l) ++ endRecord) (sym none),
-            subst (Ordered g last) (sym none) tt,
-            and-fst (spent c) (eqb (at + 2) (length s)) u,
-          )
-      by-kind (Head x y z) h f w below u = differ u refl
-      by-kind (Group x y) h f w below u = differ u refl
-      by-kind Malformed h f w below u = differ u refl
+      by-kind : (i : Record) → Written (drop at s) i → Below → SuperedgesIn g last s at (onSuperedge i (λ i j. cond (follows g last i j) (stopAt g s (pairKey i j) k (at + 6)) at) at)
+      by-kind (Superedge i j) w below = by-order i j w below (decide (follows g last i j))
+      by-kind End w below = no-superedges g last s at
+      by-kind (Head x y z) w below = no-superedges g last s at
+      by-kind (Group x y) w below = no-superedges g last s at
+      by-kind Malformed w below = no-superedges g last s at
+
+  -- the end of the file
+  end-here : (c : Counts) (at : ℕ) → endsAt c s at ≡ true → (c .members ≡ 0) × (drop at s ≡ endRecord)
+  unfolding endsAt
+  end-here c at t = by-kind (itemIn (drop at s)) (item-written (drop at s) (bytes-after s at b)) t
+    where
+      alone : (r : List ℕ) → r ≡ [] → endRecord ++ r ≡ endRecord
+      alone r e = unfold endRecord in rw e
+
+      by-kind : (i : Record) → Written (drop at s) i → onEnd i (spent c && eqb (at + 2) (length s)) ≡ true → (c .members ≡ 0) × (drop at s ≡ endRecord)
+      by-kind End w u =
+          let none : (eqb (c .members) 0 && eqb (c .groups) 0) ≡ true = unfold spent in and-fst (spent c) _ u in
+          let last : at + 2 ≡ length s = eqb-true (at + 2) (length s) (and-snd (spent c) _ u) in
+          (eqb-true (c .members) 0 (and-fst (eqb (c .members) 0) _ none), w ∙ alone (drop 2 (drop at s)) (drop-drop 2 at s ∙ drop-of-length-le s {i = at + 2} (omega arith)))
+      by-kind (Superedge x y) w u = differ u refl
+      by-kind (Head x y z) w u = differ u refl
+      by-kind (Group x y) w u = differ u refl
+      by-kind Malformed w u = differ u refl
 
   -- the whole file
-  module _ (ok : accepted s ≡ true) where
-    known : Accepted s
-    known = accepted-out s ok
+  abbrev FileIn : Type 0
+  FileIn = (n : ℕ) × (gs : List (Bool × List ℕ)) × (js : List (ℕ × ℕ)) × (inOrder n gs js ≡ true) × (s ≡ fileBy n gs js)
 
-    abbrev counts : Counts
-    counts = record { members = u16At s 4; groups = u16At s 6 }
+  file-in : accepted s ≡ true → FileIn
+  unfolding accepted
+  file-in t = by-kind (itemIn s) (item-written s b) t
+    where
+      by-parts : (n m g next : ℕ) (left : Counts) → Written s (Head n m g) → n ≤ maxNodes → GroupsIn n g (λ p. false) 0 (record { members = m; groups = g }) s 8 next left → SuperedgesIn g 0 s next (stopAt g s 0 (length s) next) → (left .members ≡ 0) × (drop (stopAt g s 0 (length s) next) s ≡ endRecord) → FileIn
+      by-parts n m g next left w small gs js end = (
+        n,
+        gs .groups,
+        js .pairs,
+        unfold inOrder in and-true (le-leb n maxNodes small) (and-true (gs .fits) (ap (λ (x : ℕ). superedgesFit x 0 (js .pairs)) (gs .count) ∙ js .fits)),
+        unfold fileBy in
+            (w
+            ∙ ap₂ (λ (x y : ℕ). headRecord n x y ++ drop 8 s) total (sym (gs .count))
+            ∙ ap (λ (x : List ℕ). headRecord n (length (membersIn (gs .groups))) (length (gs .groups)) ++ x)
+            (gs .bytes ∙ ap (λ (x : List ℕ). concat (map markedRecord (gs .groups)) ++ x) (js .bytes ∙ ap (λ (x : List ℕ). concat (map superedgeRecord (js .pairs)) ++ x) (end .1)))),
+      )
+        where
+          total : m ≡ length (membersIn (gs .groups))
+          total = omega (arith, gs .members, end .0)
 
-    groups : GroupsTold (u16At s 2) (u16At s 6) counts s 8 (known .next) (known .left)
-    groups = groups-told (u16At s 2) (u16At s 6) counts 8 (known .next) (known .left) (known .groups)
+      by-groups : (n m g : ℕ) (r : Groups) → groupsRead n g (λ p. false) 0 (record { members = m; groups = g }) s 8 ≡ r → Written s (Head n m g) → n ≤ maxNodes → onWhole r (λ next left. endsAt left s (stopAt g s 0 (length s) next)) ≡ true → FileIn
+      by-groups n m g (Whole next left) e w small u = by-parts n m g next left w small (groups-in n g (λ p. false) 0 (record { members = m; groups = g }) 8 next left e) (superedges-in g (length s) 0 next) (end-here left (stopAt g s 0 (length s) next) u)
+      by-groups n m g Broken e w small u = differ u refl
 
-    pub groups-here : GroupsHere (u16At s 2) s 8 (u16At s 6)
-    groups-here = groups .here
+      by-kind : (i : Record) → Written s i → onHead i (λ n m g. sized n m g && bodyFits s n m g) false ≡ true → FileIn
+      by-kind (Head n m g) w u =
+          by-groups n m g (groupsRead n g (λ p. false) 0 (record { members = m; groups = g }) s 8) refl w
+          (leb-true n maxNodes (and-fst (leb n maxNodes) (leb m n && leb g m) (unfold sized in and-fst (sized n m g) (bodyFits s n m g) u)))
+          (unfold bodyFits in and-snd (sized n m g) (bodyFits s n m g) u)
+      by-kind (Group x y) w u = differ u refl
+      by-kind (Superedge x y) w u = differ u refl
+      by-kind End w u = differ u refl
+      by-kind Malformed w u = differ u refl
 
-    -- every member is a node
-    pub told-node : (i p : ℕ) → p ∈ membersOf (toldGroups s) i → p < u16At s 2
-    unfolding toldGroups
-    told-node i p m = placed-small (u16At s 2) (u16At s 6) counts s 8 (known .next) (known .left) (known .groups) p (placed-at (groupsFrom s 8 (u16At s 6)) i p (member-intro p (membersOf (groupsFrom s 8 (u16At s 6)) i) m))
-
-    pub bytes-told : BytesTold s
-    bytes-told = record { bytes = bytes; ordered = subst (Ordered (u16At s 6) 0) pairs (superedges .1) }
-      where
-        superedges : (drop (known .next) s ≡ concat (map superedgeRecord (pairsFrom s (known .next) (length s))) ++ endRecord) × Ordered (u16At s 6) 0 (pairsFrom s (known .next) (length s)) × (spent (known .left) ≡ true)
-        superedges = superedges-told (u16At s 6) (known .left) (length s) 0 (known .next) (known .superedges)
-
-        pairs : pairsFrom s (known .next) (length s) ≡ toldPairs s
-        pairs = unfold pairsFrom toldPairs in ap (superedgesAt (length s)) (sym (groups .rest))
-
-        none-left : known .left .members ≡ 0
-        none-left = unfold spent in eqb-true (known .left .members) 0 (and-fst (eqb (known .left .members) 0) (eqb (known .left .groups) 0) (superedges .2))
-
-        total : u16At s 4 ≡ length (membersIn (toldGroups s))
-        total = unfold toldGroups in omega (arith, groups .members, none-left)
-
-        after-head : drop 8 s ≡ concat (map recordOf (toldGroups s)) ++ drop (known .next) s
-        after-head = unfold toldGroups in groups .bytes
-
-        bytes : s ≡ headRecord (u16At s 2) (length (membersIn (toldGroups s))) (u16At s 6) ++ (concat (map recordOf (toldGroups s)) ++ (concat (map superedgeRecord (toldPairs s)) ++ endRecord))
-        bytes =
-            subst (Written s) (known .head) (item-written s b)
-            ∙ ap (λ (m : ℕ). headRecord (u16At s 2) m (u16At s 6) ++ drop 8 s) total
-            ∙ ap (λ (x : List ℕ). headRecord (u16At s 2) (length (membersIn (toldGroups s))) (u16At s 6) ++ x)
-            (after-head ∙ ap (λ (x : List ℕ). concat (map recordOf (toldGroups s)) ++ x) (superedges .0 ∙ ap (λ (l : List (ℕ × ℕ)). concat (map superedgeRecord l) ++ endRecord) pairs))
+pub accepted-in-order : (s : List ℕ) → Bytes s → accepted s ≡ true → (inOrder (u16At s 2) (toldGroups s) (toldSuperedges s) ≡ true) × (s ≡ fileBy (u16At s 2) (toldGroups s) (toldSuperedges s))
+accepted-in-order s b t = step (file-in s b t)
+  where
+    step : (n : ℕ) × (gs : List (Bool × List ℕ)) × (js : List (ℕ × ℕ)) × (inOrder n gs js ≡ true) × (s ≡ fileBy n gs js) → (inOrder (u16At s 2) (toldGroups s) (toldSuperedges s) ≡ true) × (s ≡ fileBy (u16At s 2) (toldGroups s) (toldSuperedges s))
+    step (n, gs, js, o, e) =
+        let x : u16At s 2 ≡ n = ap (λ (r : List ℕ). u16At r 2) e ∙ file-count n gs js in
+        let y : toldGroups s ≡ gs = ap toldGroups e ∙ file-told-groups n gs js in
+        let z : toldSuperedges s ≡ js = ap toldSuperedges e ∙ file-told-superedges n gs js in
+        (rw (x, y, z) o, e ∙ sym (rw (x, y, z)))

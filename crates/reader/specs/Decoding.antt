@@ -5,23 +5,26 @@ use mathlib.Core.List.{List, [], _∷_}
 use Prim.Native.Nat.{ℕ, zero, suc, _+_, _*_, _-_, _≤_, _<_}
 use lib.Dec.{eqb, ltb, leb}
 use lib.ListN.{length, getD, drop, replicate}
-use Rattle.model.specs.Lists.{member}
-use Rattle.model.specs.Graph.{Graph, Proper, maxNodes}
-use Rattle.model.specs.Tables.{edgeBit}
+use Rattle.model.specs.Lists.{headOr, member}
+use Rattle.model.specs.Graph.{maxNodes, rowWords}
 use Rattle.model.specs.Reading.{afterGroups, groupsAt, superedgesAt, u16At, u16s}
-use Rattle.reader.specs.declared.Counts.{Counts}
-use Rattle.reader.specs.declared.Lessened.{Lessened}
-use Rattle.reader.specs.declared.Lessened.the-variants.{Left, Over}
-use Rattle.reader.specs.declared.Record.{Record}
-use Rattle.reader.specs.declared.Record.the-variants.{Head, Group, Superedge, End, Malformed}
+use Rattle.model.specs.Release.{u16Limit}
+use Rattle.model.specs.InOrder.{follows, pairKey, toldGroups, toldSuperedges}
+use Rattle.records.specs.declared.Counts.{Counts}
+use Rattle.records.specs.declared.Lessened.{Lessened}
+use Rattle.records.specs.declared.Lessened.the-variants.{Left, Over}
+use Rattle.records.specs.declared.Record.{Record}
+use Rattle.records.specs.declared.Record.the-variants.{Head, Group, Superedge, End, Malformed}
+use Rattle.records.specs.Records.{itemIn, lessGroup, lessMember, recordAt, spent}
+use Rattle.drawing.specs.Drawing.{Added, Adding, onePair}
+use Rattle.rows.specs.Rows.{noNode}
+use Rattle.compressed.specs.Compressed.{Told, firstAt, firstOf, kindBy, kindLed, leads, single}
 use Rattle.reader.specs.declared.Grouped.{Grouped}
 use Rattle.reader.specs.declared.Grouped.the-variants.{Taken, Missing}
 use Rattle.reader.specs.declared.Groups.{Groups}
 use Rattle.reader.specs.declared.Groups.the-variants.{Whole, Broken}
 use Rattle.reader.specs.declared.Decoded.{Decoded}
 use Rattle.reader.specs.declared.Decoded.the-variants as answer
-use Rattle.reader.specs.Records.{itemIn, lessGroup, lessMember, recordAt, spent}
-use Rattle.reader.specs.Drawing.{Added, Adding, GroupHere, inner, joined, membersAt}
 
 -- what is done with lessened counts, or without
 abbrev pub onLess : {A : Type 0} → Lessened → (Counts → A) → A → A
@@ -32,56 +35,73 @@ onLess Over f a = a
 unfoldable pub numbersAt : List ℕ → ℕ → ℕ → List ℕ
 numbersAt s at count = u16s count (drop at s)
 
--- members taken one after the other: each is a node, and one member less is left
-unfoldable pub membersRead : ℕ → Counts → List ℕ → Lessened
-membersRead n c [] = Left c
-membersRead n c (x ∷ xs) = cond (ltb x n) (onLess (lessMember c) (λ d. membersRead n d xs) Over) Over
+-- those of them from the k-th on
+unfoldable pub restAt : List ℕ → ℕ → ℕ → ℕ → List ℕ
+restAt s at count k = numbersAt s (at + 2 * k) (count - k)
 
--- the marks of the nodes in f are cleared, all others are as they were
-pub record Cleared (f : ℕ → Bool) (t after : List ℕ) : Type 0 where
+-- how many members a group record at a place has, and who they are
+unfoldable pub countAt : List ℕ → ℕ → ℕ
+countAt s at = u16At s (at + 2)
+
+unfoldable pub listedAt : List ℕ → ℕ → List ℕ
+listedAt s at = numbersAt s (at + 4) (countAt s at)
+
+-- a group has a member, a clique two
+unfoldable pub leastCount : Bool → ℕ
+leastCount clique = cond clique 2 1
+
+-- a node that has a group
+unfoldable pub taken : List ℕ → ℕ → Bool
+taken least p = not (eqb (getD least p 0) noNode)
+
+-- members taken one after the other: nodes of no group, ascending from low on, and one member less is left
+unfoldable pub membersRead : ℕ → (ℕ → Bool) → ℕ → Counts → List ℕ → Lessened
+membersRead n f low c [] = Left c
+membersRead n f low c (x ∷ xs) = cond (leb low x && (ltb x n && not (f x))) (onLess (lessMember c) (λ d. membersRead n f (suc x) d xs) Over) Over
+
+-- the members have l, everybody else is as before
+pub record LeastPut (ms : List ℕ) (l : ℕ) (t after : List ℕ) : Type 0 where
   pub size : length after ≡ length t
-  pub marks : (p : ℕ) → getD after p 0 ≡ cond (f p) 0 (getD t p 0)
+  pub least : (p : ℕ) → getD after p 0 ≡ cond (member p ms) l (getD t p 0)
 
--- underway: with the rest cleared, all will have been cleared
-pub record Clearing (all rest : ℕ → Bool) (t now : List ℕ) : Type 0 where
+-- underway: with the rest put, all will have been put, and from low on nothing is put
+pub record LeastPutting (l : ℕ) (all rest : List ℕ) (low : ℕ) (t now : List ℕ) : Type 0 where
   pub size : length now ≡ length t
-  pub marks : (p : ℕ) → cond (rest p) 0 (getD now p 0) ≡ cond (all p) 0 (getD t p 0)
+  pub least : (p : ℕ) → cond (member p rest) l (getD now p 0) ≡ cond (member p all) l (getD t p 0)
+  pub above : (p : ℕ) → low ≤ p → getD now p 0 ≡ getD t p 0
 
-unfoldable pub within : List ℕ → ℕ → Bool
-within ms p = member p ms
-
-pub record MembersRead (n : ℕ) (c : Counts) (ms t after : List ℕ) (r : Lessened) : Type 0 where
-  pub result : r ≡ membersRead n c ms
+pub record MembersRead (n low : ℕ) (c : Counts) (ms t after : List ℕ) (r : Lessened) : Type 0 where
+  pub result : r ≡ membersRead n (taken t) low c ms
   pub size : length after ≡ length t
-  pub marks : (d : Counts) → r ≡ Left d → Cleared (within ms) t after
+  pub put : (d : Counts) → r ≡ Left d → LeastPut ms (headOr 0 ms) t after
 
 -- a group record taken, with its members
-abbrev pub groupBy : ℕ → Counts → List ℕ → ℕ → Record → Grouped
-groupBy n c s at (Group clique count) =
-    cond (leb (at + 4 + 2 * count) (length s))
-    (onLess (lessGroup c) (λ d. onLess (membersRead n d (numbersAt s (at + 4) count)) (λ e. Taken clique (at + 4 + 2 * count) e) Missing) Missing)
+abbrev pub groupBy : ℕ → (ℕ → Bool) → ℕ → Counts → List ℕ → ℕ → Record → Grouped
+groupBy n f low c s at (Group clique count) =
+    cond (leb (leastCount clique) count && leb (at + 4 + 2 * count) (length s))
+    (onLess (lessGroup c) (λ d. onLess (membersRead n f low d (numbersAt s (at + 4) count)) (λ e. Taken (kindBy clique count) (u16At s (at + 4)) (at + 4 + 2 * count) e) Missing) Missing)
     Missing
-groupBy n c s at (Head x y z) = Missing
-groupBy n c s at (Superedge x y) = Missing
-groupBy n c s at End = Missing
-groupBy n c s at Malformed = Missing
+groupBy n f low c s at (Head x y z) = Missing
+groupBy n f low c s at (Superedge x y) = Missing
+groupBy n f low c s at End = Missing
+groupBy n f low c s at Malformed = Missing
 
-unfoldable pub groupTaken : ℕ → Counts → List ℕ → ℕ → Grouped
-groupTaken n c s at = groupBy n c s at (itemIn (drop at s))
+unfoldable pub groupTaken : ℕ → (ℕ → Bool) → ℕ → Counts → List ℕ → ℕ → Grouped
+groupTaken n f low c s at = groupBy n f low c s at (itemIn (drop at s))
 
-pub record GroupTaken (n : ℕ) (c : Counts) (s : List ℕ) (at : ℕ) (t after : List ℕ) (r : Grouped) : Type 0 where
-  pub result : r ≡ groupTaken n c s at
+pub record GroupTaken (n low : ℕ) (c : Counts) (s : List ℕ) (at : ℕ) (t after : List ℕ) (r : Grouped) : Type 0 where
+  pub result : r ≡ groupTaken n (taken t) low c s at
   pub size : length after ≡ length t
-  pub marks : (clique : Bool) (next : ℕ) (d : Counts) → r ≡ Taken clique next d → Cleared (within (membersAt s at)) t after
+  pub put : (kind first next : ℕ) (d : Counts) → r ≡ Taken kind first next d → LeastPut (listedAt s at) first t after
 
 -- k groups taken one after the other
-abbrev pub onTaken : Grouped → (ℕ → Counts → Groups) → Groups
-onTaken (Taken clique next left) f = f next left
+abbrev pub onTaken : Grouped → (ℕ → ℕ → Counts → Groups) → Groups
+onTaken (Taken kind first next left) f = f first next left
 onTaken Missing f = Broken
 
-unfoldable pub groupsRead : ℕ → ℕ → Counts → List ℕ → ℕ → Groups
-groupsRead n zero c s at = Whole at c
-groupsRead n (suc k) c s at = onTaken (groupTaken n c s at) (λ next d. groupsRead n k d s next)
+unfoldable pub groupsRead : ℕ → ℕ → (ℕ → Bool) → ℕ → Counts → List ℕ → ℕ → Groups
+groupsRead n zero f low c s at = Whole at c
+groupsRead n (suc k) f low c s at = onTaken (groupTaken n f low c s at) (λ first next d. groupsRead n k (λ p. member p (listedAt s at) || f p) (suc first) d s next)
 
 -- k groups from a place on, and what follows them
 unfoldable pub groupsFrom : List ℕ → ℕ → ℕ → List (Bool × List ℕ)
@@ -90,91 +110,112 @@ groupsFrom s at k = groupsAt k (drop at s)
 unfoldable pub restFrom : List ℕ → ℕ → ℕ → List ℕ
 restFrom s at k = afterGroups k (drop at s)
 
--- the edges that cliques among groups tell, and the nodes that groups have
-unfoldable pub inside : List (Bool × List ℕ) → ℕ → ℕ → Bool
-inside [] a b = false
-inside (g ∷ gs) a b = inner (g .0) (g .1) a b || inside gs a b
+-- first members of groups, by position, as nodes
+pub record Placed (g : ℕ) (firsts : List ℕ) : Type 0 where
+  pub few : g ≤ maxNodes
+  pub size : g ≤ length firsts
+  pub small : (i : ℕ) → i < g → getD firsts i 0 < maxNodes
 
-unfoldable pub placed : List (Bool × List ℕ) → ℕ → Bool
-placed [] p = false
-placed (g ∷ gs) p = member p (g .1) || placed gs p
-
--- the members of the group at a position
-unfoldable pub membersOf : List (Bool × List ℕ) → ℕ → List ℕ
-membersOf [] i = []
-membersOf (g ∷ gs) zero = g .1
-membersOf (g ∷ gs) (suc i) = membersOf gs i
-
--- the first i groups stand at the places that were kept
-pub record Found (n : ℕ) (s : List ℕ) (gs : List (Bool × List ℕ)) (starts : List ℕ) (i : ℕ) : Type 0 where
-  pub here : (t : ℕ) → t < i → GroupHere n s (getD starts t 0)
-  pub members : (t : ℕ) → t < i → membersAt s (getD starts t 0) ≡ membersOf gs t
-
--- underway: i groups are read
-pub record GroupsLeft (n g : ℕ) (c : Counts) (s : List ℕ) (from i : ℕ) (left : Counts) (at : ℕ) (starts edges₀ edges hidden₀ hidden : List ℕ) : Type 0 where
-  pub result : groupsRead n (g - i) left s at ≡ groupsRead n g c s from
-  pub drawn : Adding (inside (groupsFrom s from g)) (inside (groupsFrom s at (g - i))) edges₀ edges
-  pub marks : Clearing (placed (groupsFrom s from g)) (placed (groupsFrom s at (g - i))) hidden₀ hidden
-  pub found : Found n s (groupsFrom s from g) starts i
-  pub shifted : (t : ℕ) → membersOf (groupsFrom s from g) (i + t) ≡ membersOf (groupsFrom s at (g - i)) t
+-- underway: i groups are read, and those from the place on are not
+pub record GroupsLeft (n g : ℕ) (c : Counts) (s : List ℕ) (from i low : ℕ) (left : Counts) (at : ℕ) (least firsts kinds : List ℕ) : Type 0 where
+  pub result : groupsRead n (g - i) (taken least) low left s at ≡ groupsRead n g (λ p. false) 0 c s from
+  pub nodes : length least ≡ maxNodes
+  pub groups : length kinds ≡ maxNodes
+  pub first : (p : ℕ) → p < maxNodes → cond (taken least p) (getD least p 0) (firstOf (groupsFrom s at (g - i)) p) ≡ firstOf (groupsFrom s from g) p
+  pub kind : (p : ℕ) → p < maxNodes → cond (leads least p) (getD kinds p 0) (kindLed (groupsFrom s at (g - i)) p) ≡ kindLed (groupsFrom s from g) p
+  pub others : (p : ℕ) → p < maxNodes → leads least p ≡ false → getD kinds p 0 ≡ single
+  pub led : (k : ℕ) → k < i → getD firsts k 0 ≡ firstAt (groupsFrom s from g) k
+  pub placed : (k : ℕ) → k < i → getD firsts k 0 < maxNodes
+  pub shifted : (k : ℕ) → firstAt (groupsFrom s from g) (i + k) ≡ firstAt (groupsFrom s at (g - i)) k
   pub rest : restFrom s at (g - i) ≡ restFrom s from g
 
--- all groups are read: their edges, their nodes, their places, and the place after them
-pub record GroupsHeld (n g : ℕ) (s : List ℕ) (from next : ℕ) (starts edges₀ edges hidden₀ hidden : List ℕ) : Type 0 where
-  pub drawn : Added (inside (groupsFrom s from g)) edges₀ edges
-  pub marks : Cleared (placed (groupsFrom s from g)) hidden₀ hidden
-  pub found : Found n s (groupsFrom s from g) starts g
+-- all groups are read: first members and kinds stand in the arrays, and what follows the groups stands at the next place
+pub record GroupsHeld (g : ℕ) (s : List ℕ) (from next : ℕ) (least firsts kinds : List ℕ) : Type 0 where
+  pub first : (p : ℕ) → p < maxNodes → getD least p 0 ≡ firstOf (groupsFrom s from g) p
+  pub kind : (p : ℕ) → p < maxNodes → getD kinds p 0 ≡ kindLed (groupsFrom s from g) p
+  pub led : (i : ℕ) → i < g → getD firsts i 0 ≡ firstAt (groupsFrom s from g) i
+  pub placed : (i : ℕ) → i < g → getD firsts i 0 < maxNodes
   pub rest : drop next s ≡ restFrom s from g
 
-pub record GroupsRead (n g : ℕ) (c : Counts) (s : List ℕ) (from : ℕ) (starts₀ starts edges₀ edges hidden₀ hidden : List ℕ) (r : Groups) : Type 0 where
-  pub result : r ≡ groupsRead n g c s from
-  pub places : length starts ≡ length starts₀
-  pub rows : length edges ≡ length edges₀
-  pub size : length hidden ≡ length hidden₀
-  pub held : (next : ℕ) (left : Counts) → r ≡ Whole next left → GroupsHeld n g s from next starts edges₀ edges hidden₀ hidden
+pub record GroupsRead (n g : ℕ) (c : Counts) (s : List ℕ) (from : ℕ) (least firsts₀ firsts kinds : List ℕ) (r : Groups) : Type 0 where
+  pub result : r ≡ groupsRead n g (λ p. false) 0 c s from
+  pub nodes : length least ≡ maxNodes
+  pub groups : length kinds ≡ maxNodes
+  pub size : length firsts ≡ length firsts₀
+  pub held : (next : ℕ) (left : Counts) → r ≡ Whole next left → GroupsHeld g s from next least firsts kinds
 
--- superedges stand by first, then second position, the lower position first
-unfoldable pub keyOf : ℕ → ℕ → ℕ
-keyOf i j = i * 65536 + j
+-- the first place, among at most k records, without a superedge in order, and the superedges before it
+abbrev pub onSuperedge : {A : Type 0} → Record → (ℕ → ℕ → A) → A → A
+onSuperedge (Superedge i j) f a = f i j
+onSuperedge End f a = a
+onSuperedge (Head n m g) f a = a
+onSuperedge (Group q count) f a = a
+onSuperedge Malformed f a = a
 
-unfoldable pub follows : ℕ → ℕ → ℕ → ℕ → Bool
-follows g last i j = ltb i j && (ltb j g && ltb last (keyOf i j))
+unfoldable pub stopAt : ℕ → List ℕ → ℕ → ℕ → ℕ → ℕ
+stopAt g s last zero at = at
+stopAt g s last (suc k) at = onSuperedge (itemIn (drop at s)) (λ i j. cond (follows g last i j) (stopAt g s (pairKey i j) k (at + 6)) at) at
 
--- superedges, at most k, up to the end record, with which the bytes and the counts end
-abbrev pub onSuperedge : Record → (ℕ → ℕ → Bool) → Bool → Bool
-onSuperedge (Superedge i j) f t = f i j
-onSuperedge End f t = t
-onSuperedge (Head n m g) f t = false
-onSuperedge (Group q count) f t = false
-onSuperedge Malformed f t = false
+unfoldable pub pairsTo : ℕ → List ℕ → ℕ → ℕ → ℕ → List (ℕ × ℕ)
+pairsTo g s last zero at = []
+pairsTo g s last (suc k) at = onSuperedge (itemIn (drop at s)) (λ i j. cond (follows g last i j) ((i, j) ∷ pairsTo g s (pairKey i j) k (at + 6)) []) []
 
-unfoldable pub superedgesFit : ℕ → Counts → List ℕ → ℕ → ℕ → ℕ → Bool
-superedgesFit g c s last zero at = false
-superedgesFit g c s last (suc k) at = onSuperedge (itemIn (drop at s)) (λ i j. follows g last i j && superedgesFit g c s (keyOf i j) k (at + 6)) (spent c && eqb (at + 2) (length s))
+-- the bits of first members whose groups have a superedge
+unfoldable pub drawnBy : List ℕ → List (ℕ × ℕ) → ℕ → ℕ → Bool
+drawnBy firsts [] a b = false
+drawnBy firsts (x ∷ xs) a b = onePair (getD firsts (x .0) 0) (getD firsts (x .1) 0) a b || drawnBy firsts xs a b
 
--- no superedge, and no more bytes or counts than the end record
-unfoldable pub endsAt : Counts → List ℕ → ℕ → Bool
-endsAt c s at = onSuperedge (itemIn (drop at s)) (λ i j. false) (spent c && eqb (at + 2) (length s))
+-- the same for the superedges of one first group
+unfoldable pub inRun : ℕ → ℕ → ℕ → ℕ → ℕ → Bool
+inRun g i last a j = eqb a i && (ltb last j && ltb j g)
 
-unfoldable pub pairsFrom : List ℕ → ℕ → ℕ → List (ℕ × ℕ)
-pairsFrom s at k = superedgesAt k (drop at s)
+unfoldable pub runStop : ℕ → ℕ → List ℕ → ℕ → ℕ → ℕ → ℕ
+runStop g i s last zero at = at
+runStop g i s last (suc k) at = onSuperedge (itemIn (drop at s)) (λ a j. cond (inRun g i last a j) (runStop g i s j k (at + 6)) at) at
 
--- the edges that superedges between groups tell
-unfoldable pub crossed : List (Bool × List ℕ) → List (ℕ × ℕ) → ℕ → ℕ → Bool
-crossed gs [] a b = false
-crossed gs (x ∷ xs) a b = joined (membersOf gs (x .0)) (membersOf gs (x .1)) a b || crossed gs xs a b
+unfoldable pub runPairs : ℕ → ℕ → List ℕ → ℕ → ℕ → ℕ → List (ℕ × ℕ)
+runPairs g i s last zero at = []
+runPairs g i s last (suc k) at = onSuperedge (itemIn (drop at s)) (λ a j. cond (inRun g i last a j) ((i, j) ∷ runPairs g i s j k (at + 6)) []) []
 
--- underway: the superedges before a place are read
-pub record SuperedgesLeft (g : ℕ) (c : Counts) (s : List ℕ) (gs : List (Bool × List ℕ)) (from last at : ℕ) (edges₀ edges : List ℕ) : Type 0 where
+pub record RunRead (g i : ℕ) (s : List ℕ) (from : ℕ) (firsts joined₀ joined : List ℕ) (r : ℕ) : Type 0 where
+  pub place : r ≡ runStop g i s i (length s) from
+  pub drawn : Added (drawnBy firsts (runPairs g i s i (length s) from)) joined₀ joined
+
+-- underway: what is still to be read of a run, in at most so many records
+pub record RunLeft (g i : ℕ) (s : List ℕ) (from : ℕ) (firsts joined₀ joined : List ℕ) (last at : ℕ) : Type 0 where
   pub most : ℕ
   pub enough : length s ≤ at + most
-  pub result : superedgesFit g c s last most at ≡ superedgesFit g c s 0 (length s) from
-  pub drawn : Adding (crossed gs (pairsFrom s from (length s))) (crossed gs (pairsFrom s at most)) edges₀ edges
+  pub place : runStop g i s last most at ≡ runStop g i s i (length s) from
+  pub drawn : Adding (drawnBy firsts (runPairs g i s i (length s) from)) (drawnBy firsts (runPairs g i s last most at)) joined₀ joined
 
-pub record SuperedgesRead (g : ℕ) (c : Counts) (s : List ℕ) (gs : List (Bool × List ℕ)) (from : ℕ) (edges₀ edges : List ℕ) (r : Bool) : Type 0 where
-  pub result : r ≡ superedgesFit g c s 0 (length s) from
-  pub size : length edges ≡ length edges₀
-  pub drawn : r ≡ true → Added (crossed gs (pairsFrom s from (length s))) edges₀ edges
+-- no superedge from a group before i stands in order at a place
+abbrev pub Passed : ℕ → List ℕ → ℕ → ℕ → ℕ → Type 0
+Passed g s i last at = (a j : ℕ) → itemIn (drop at s) ≡ Superedge a j → a < i → follows g last a j ≡ false
+
+-- underway: the runs of the groups before i are read
+pub record RunsLeft (g : ℕ) (s : List ℕ) (from : ℕ) (firsts joined₀ joined : List ℕ) (i at : ℕ) : Type 0 where
+  pub most : ℕ
+  pub last : ℕ
+  pub enough : length s ≤ at + most
+  pub low : last ≤ i * u16Limit
+  pub passed : Passed g s i last at
+  pub place : stopAt g s last most at ≡ stopAt g s 0 (length s) from
+  pub drawn : Adding (drawnBy firsts (pairsTo g s 0 (length s) from)) (drawnBy firsts (pairsTo g s last most at)) joined₀ joined
+
+pub record SuperedgesRead (g : ℕ) (s : List ℕ) (from : ℕ) (firsts joined₀ joined : List ℕ) (r : ℕ) : Type 0 where
+  pub place : r ≡ stopAt g s 0 (length s) from
+  pub drawn : Added (drawnBy firsts (pairsTo g s 0 (length s) from)) joined₀ joined
+
+-- no more bytes or counts than the end record
+abbrev pub onEnd : Record → Bool → Bool
+onEnd End b = b
+onEnd (Superedge i j) b = false
+onEnd (Head n m g) b = false
+onEnd (Group q count) b = false
+onEnd Malformed b = false
+
+unfoldable pub endsAt : Counts → List ℕ → ℕ → Bool
+endsAt c s at = onEnd (itemIn (drop at s)) (spent c && eqb (at + 2) (length s))
 
 -- at most 512 nodes, at most all of them visible, at most as many groups as visible nodes
 unfoldable pub sized : ℕ → ℕ → ℕ → Bool
@@ -191,9 +232,9 @@ abbrev pub onWhole : Groups → (ℕ → Counts → Bool) → Bool
 onWhole (Whole next left) f = f next left
 onWhole Broken f = false
 
--- after the head, which has 8 bytes: all groups, then all superedges
+-- after the head, which has 8 bytes: all groups, all superedges, the end
 unfoldable pub bodyFits : List ℕ → ℕ → ℕ → ℕ → Bool
-bodyFits s n m g = onWhole (groupsRead n g (record { members = m; groups = g }) s 8) (λ next left. superedgesFit g left s 0 (length s) next)
+bodyFits s n m g = onWhole (groupsRead n g (λ p. false) 0 (record { members = m; groups = g }) s 8) (λ next left. endsAt left s (stopAt g s 0 (length s) next))
 
 unfoldable pub accepted : List ℕ → Bool
 accepted s = onHead (itemIn s) (λ n m g. sized n m g && bodyFits s n m g) false
@@ -201,57 +242,28 @@ accepted s = onHead (itemIn s) (λ n m g. sized n m g && bodyFits s n m g) false
 unfoldable pub decoded : List ℕ → Decoded
 decoded s = cond (accepted s) (answer.Graph (u16At s 2)) answer.NoRelease
 
--- what an accepted file tells: groups, superedges, edges
-unfoldable pub toldGroups : List ℕ → List (Bool × List ℕ)
-toldGroups s = groupsFrom s 8 (u16At s 6)
+-- no node has a group, a kind or a bit
+pub record Blank (least kinds joined : List ℕ) : Type 0 where
+  pub nodes : least ≡ replicate maxNodes noNode
+  pub groups : kinds ≡ replicate maxNodes single
+  pub rows : joined ≡ replicate (rowWords * maxNodes) 0
 
-unfoldable pub toldPairs : List ℕ → List (ℕ × ℕ)
-toldPairs s = superedgesAt (length s) (restFrom s 8 (u16At s 6))
-
-unfoldable pub toldEdge : List ℕ → ℕ → ℕ → Bool
-toldEdge s a b = inside (toldGroups s) a b || crossed (toldGroups s) (toldPairs s) a b
-
--- the body of a file drawn: edges and marks are what it tells
-pub record Drawn (s : List ℕ) (n m g : ℕ) (edges₀ edges hidden₀ hidden : List ℕ) (r : Bool) : Type 0 where
+-- the body of a file read: the arrays hold what it tells
+pub record BodyRead (s : List ℕ) (n m g : ℕ) (least kinds joined : List ℕ) (r : Bool) : Type 0 where
   pub result : r ≡ bodyFits s n m g
-  pub rows : length edges ≡ length edges₀
-  pub size : length hidden ≡ length hidden₀
-  pub drawn : r ≡ true → Added (λ a b. inside (groupsFrom s 8 g) a b || crossed (groupsFrom s 8 g) (superedgesAt (length s) (restFrom s 8 g)) a b) edges₀ edges
-  pub marks : r ≡ true → Cleared (placed (groupsFrom s 8 g)) hidden₀ hidden
+  pub nodes : length least ≡ maxNodes
+  pub groups : length kinds ≡ maxNodes
+  pub rows : length joined ≡ rowWords * maxNodes
+  pub told : r ≡ true → Told (groupsFrom s 8 g) (superedgesAt (length s) (restFrom s 8 g)) least kinds joined
 
--- the answer, and what the tables hold then
-pub record Decodes (s edges hidden : List ℕ) (r : Decoded) : Type 0 where
+-- the answer, and what the arrays hold then
+pub record Decodes (s least kinds joined : List ℕ) (r : Decoded) : Type 0 where
   pub result : r ≡ decoded s
-  pub rows : length edges ≡ 4096
-  pub size : length hidden ≡ 512
-  pub bits : accepted s ≡ true → (a b : ℕ) → b < 512 → edgeBit edges a b ≡ toldEdge s a b
-  pub marks : accepted s ≡ true → (p : ℕ) → p < 512 → getD hidden p 0 ≡ cond (placed (toldGroups s) p) 0 1
+  pub nodes : length least ≡ maxNodes
+  pub groups : length kinds ≡ maxNodes
+  pub rows : length joined ≡ rowWords * maxNodes
+  pub told : accepted s ≡ true → Told (toldGroups s) (toldSuperedges s) least kinds joined
 
--- the head was just read, and nothing is drawn: no edge bit is set, and every mark is 1
-pub record AfterHead (s : List ℕ) (at : ℕ) (head : Record) (edges hidden : List ℕ) : Type 0 where
+-- the head was just read
+pub record AfterHead (s : List ℕ) (at : ℕ) (head : Record) : Type 0 where
   pub read : record { next = at; item = head } ≡ recordAt s 0
-  pub blank : edges ≡ replicate 4096 0
-  pub marked : hidden ≡ replicate 512 1
-
--- the graph that the arrays hold: by edge bits and marks
-unfoldable pub graphIn : ℕ → List ℕ → List ℕ → Graph
-graphIn n edges hidden = record {
-  nodeCount = n;
-  edge = λ p q. ltb p n && (ltb q n && edgeBit edges p q);
-  hidden = λ p. ltb p n && eqb (getD hidden p 0) 1;
-}
-
--- the graph that an accepted file tells: nodes missing from all groups are hidden and without edges
-unfoldable pub toldGraph : List ℕ → Graph
-toldGraph s = record {
-  nodeCount = u16At s 2;
-  edge = toldEdge s;
-  hidden = λ p. ltb p (u16At s 2) && not (placed (toldGroups s) p);
-}
-
--- arrays that hold a graph of n nodes, whatever the bytes were: nothing is set outside its nodes, and hidden ones have no edges
-pub record HoldsGraph (n : ℕ) (edges hidden : List ℕ) : Type 0 where
-  pub proper : Proper (graphIn n edges hidden)
-  pub outside : (p q : ℕ) → q < 512 → edgeBit edges p q ≡ true → (p < n) × (q < n)
-  pub marks : (p : ℕ) → p < 512 → getD hidden p 0 ≤ 1
-  pub apart : (p q : ℕ) → q < 512 → getD hidden q 0 ≡ 1 → edgeBit edges p q ≡ false

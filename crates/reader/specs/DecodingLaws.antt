@@ -1,221 +1,203 @@
--- Laws of members and groups taken one after the other.
+-- Laws of a whole file read into its groups.
 use mathlib.Core.Path.{_≡_, refl, sym, ap, subst, _∙_}
-use mathlib.Core.Bool.{Bool, true, false, _&&_, _||_, cond}
-use mathlib.Core.List.{List}
-use mathlib.Core.Logic.{_⊎_, inl, inr}
-use Prim.Native.Nat.{ℕ, _+_, _*_, _-_, _≤_, _<_}
+use mathlib.Core.Bool.{Bool, true, false, _&&_, _||_}
+use mathlib.Core.List.{List, [], _∷_}
+use Prim.Native.Nat.{ℕ, zero, suc, _+_, _*_, _/_, _%_, _≤_, _<_}
 use native.Mathlib.Omega.{arith}
-use lib.Dec.{eqb, ltb, leb}
-use lib.ListN.{length, getD, drop, set, length-set, length-drop}
-use lib.Seq.{getD-drop, getD-set-same, getD-set-other}
-use borrow.Author.Tests.{eqb-true, eqb-false, ne-eqb, ltb-false, lt-ltb, le-ltb, leb-true, le-leb, lt-leb}
-use Rattle.model.specs.Lists.{any, member}
-use Rattle.model.specs.Reading.{u16At}
-use Rattle.model.specs.TestLaws.{decide, differ, and-fst, and-snd, and-true, or-left, or-right}
-use Rattle.reader.specs.declared.Counts.{Counts}
-use Rattle.reader.specs.declared.Lessened.{Lessened}
-use Rattle.reader.specs.declared.Lessened.the-variants.{Left, Over}
-use Rattle.reader.specs.declared.Record.{Record}
-use Rattle.reader.specs.declared.Record.the-variants.{Head, Group, Superedge, End, Malformed}
-use Rattle.reader.specs.declared.Read.{Read}
-use Rattle.reader.specs.declared.Grouped.the-variants.{Taken, Missing}
-use Rattle.reader.specs.Records.{groupHere, groupItem, headItem, isMark, itemIn, lessGroup, lessMember, markAt, readAs, recordAt, sizeOf, superedgeItem, whole}
-use Rattle.reader.specs.Drawing.{countAt, membersAt, restAt}
-use Rattle.reader.specs.Decoding.{Cleared, Clearing, GroupTaken, MembersRead, groupBy, groupTaken, membersRead, numbersAt, within}
-use Rattle.reader.specs.RecordLaws.{u16-drop}
-use Rattle.reader.specs.DrawingLaws.{rest-end, rest-start, rest-step}
+use lib.Dec.{leb}
+use lib.ListN.{length, getD, drop, length-replicate}
+use lib.Seq.{drop-drop}
+use borrow.Author.Tests.{ne-eqb, le-leb, lt-leb, leb-true}
+use Rattle.model.specs.Graph.{maxNodes, rowWords}
+use Rattle.model.specs.Tables.{bitAt, edgeBit}
+use Rattle.model.specs.Reading.{isMark, superedgesAt, u16At}
+use Rattle.model.specs.InOrder.{follows, pairKey, toldGroups, toldSuperedges}
+use Rattle.model.specs.TestLaws.{and-fst, and-snd, differ}
+use Rattle.records.specs.declared.Counts.{Counts}
+use Rattle.records.specs.declared.Record.{Record}
+use Rattle.records.specs.declared.Record.the-variants.{Head, Group, Superedge, End, Malformed}
+use Rattle.records.specs.Records.{itemIn, sizeOf}
+use Rattle.drawing.specs.Drawing.{oneBit, onePair}
+use Rattle.drawing.specs.BitLaws.{blank-bit}
+use Rattle.rows.specs.Rows.{noNode}
+use Rattle.compressed.specs.Compressed.{firstAt, joinedBy, single}
+use Rattle.reader.specs.declared.Groups.{Groups}
+use Rattle.reader.specs.declared.Groups.the-variants.{Whole, Broken}
+use Rattle.reader.specs.declared.Decoded.the-variants as answer
+use Rattle.reader.specs.Decoding.{AfterHead, Blank, BodyRead, Decodes, GroupsHeld, GroupsRead, Placed, SuperedgesRead, accepted, bodyFits, decoded, drawnBy, endsAt, groupsFrom, pairsTo, restFrom, sized, stopAt}
+use Rattle.reader.specs.GroupLaws.{fits-at, item-is, next-is}
+use Rattle.reader.specs.SuperedgeLaws.{here-or-not, positions, stop-goes, stop-pair, stops, stops-empty, told-by}
 
--- marks cleared one after the other
-cond-or : (u v : Bool) (x : ℕ) → cond (u || v) 0 x ≡ cond v 0 (cond u 0 x)
-cond-or true true x = refl
-cond-or true false x = refl
-cond-or false v x = refl
+-- the numbers of the head, tested one after the other
+pub too-many : (n m g : ℕ) → 512 < n → false ≡ sized n m g
+unfolding sized
+too-many n m g l = rw (lt-leb n 512 l)
 
-pub clearing-start : (f g : ℕ → Bool) (t : List ℕ) → ((p : ℕ) → g p ≡ f p) → Clearing f g t t
-clearing-start f g t e = record { size = refl; marks = λ p. ap (λ (x : Bool). cond x 0 (getD t p 0)) (e p) }
+pub too-visible : (n m g : ℕ) → n ≤ 512 → n < m → false ≡ sized n m g
+unfolding sized
+too-visible n m g l h = rw (le-leb n 512 l, lt-leb m n h)
 
-pub clearing-step : {all rest f more : ℕ → Bool} {t now after : List ℕ} → Clearing all rest t now → Cleared f now after → ((p : ℕ) → rest p ≡ (f p || more p)) → Clearing all more t after
-clearing-step {f = f} {more = more} {now = now} x y e = record {
-  size = y .size ∙ x .size;
-  marks =
-      λ p.
-      ap (λ (z : ℕ). cond (more p) 0 z) (y .marks p)
-      ∙ sym (cond-or (f p) (more p) (getD now p 0))
-      ∙ ap (λ (z : Bool). cond z 0 (getD now p 0)) (sym (e p))
-      ∙ x .marks p;
+pub by-groups : (n m g : ℕ) → n ≤ 512 → m ≤ n → leb g m ≡ sized n m g
+unfolding sized
+by-groups n m g l h = rw (le-leb n 512 l, le-leb m n h)
+
+pub sized-n : (n m g : ℕ) → true ≡ sized n m g → n ≤ 512
+unfolding sized
+sized-n n m g e = leb-true n 512 (and-fst (leb n 512) (leb m n && leb g m) (sym e))
+
+pub sized-g : (n m g : ℕ) → true ≡ sized n m g → g ≤ 512
+unfolding sized
+sized-g n m g e =
+    let a = and-snd (leb n 512) (leb m n && leb g m) (sym e) in
+    omega (arith, sized-n n m g e, leb-true m n (and-fst (leb m n) (leb g m) a), leb-true g m (and-snd (leb m n) (leb g m) a))
+
+-- where the end record is found
+pub is-end : (c : Counts) (s : List ℕ) (at : ℕ) → endsAt c s at ≡ true → itemIn (drop at s) ≡ End
+is-end c s at t = by-kind (itemIn (drop at s)) refl
+  where
+    by-kind : (i : Record) → itemIn (drop at s) ≡ i → itemIn (drop at s) ≡ End
+    by-kind (Superedge i j) e = differ t (unfold endsAt in rw e)
+    by-kind End e = e
+    by-kind (Head x y z) e = differ t (unfold endsAt in rw e)
+    by-kind (Group x y) e = differ t (unfold endsAt in rw e)
+    by-kind Malformed e = differ t (unfold endsAt in rw e)
+
+module _ (g : ℕ) (s : List ℕ) where
+  -- the superedges before the end record are all there are
+  pub pairs-told : (k last at : ℕ) → itemIn (drop (stopAt g s last k at) s) ≡ End → pairsTo g s last k at ≡ superedgesAt k (drop at s)
+  pairs-told zero last at end = unfold pairsTo superedgesAt in refl
+  pairs-told (suc k) last at end =
+      here-or-not s at (follows g last)
+      (λ i j e t. goes i j e t (pairs-told k (pairKey i j) (at + 6) (ap (λ (x : ℕ). itemIn (drop x s)) (sym (stop-goes g s last at k i j e t)) ∙ end)))
+      (λ none. stops-empty g s last at (suc k) none ∙ sym (ends (ap (λ (x : ℕ). itemIn (drop x s)) (sym (stops g s last at (suc k) none)) ∙ end)))
+    where
+      ends : itemIn (drop at s) ≡ End → superedgesAt (suc k) (drop at s) ≡ []
+      ends e = let f = told-by s at End e in unfold superedgesAt isMark in rw (ne-eqb (getD (drop at s) 0 0) 0x53 (λ d. omega (arith, f .1)), superedgesAt)
+
+      goes : (i j : ℕ) → itemIn (drop at s) ≡ Superedge i j → follows g last i j ≡ true → pairsTo g s (pairKey i j) k (at + 6) ≡ superedgesAt k (drop (at + 6) s) → pairsTo g s last (suc k) at ≡ superedgesAt (suc k) (drop at s)
+      goes i j e t rest =
+          let f = told-by s at (Superedge i j) e in
+          stop-pair g s last at k i j e t ∙ ap (λ (x : List (ℕ × ℕ)). (i, j) ∷ x) rest ∙ sym (unfold superedgesAt in rw (f .3, superedgesAt, ← f .1, ← f .2, drop-drop 6 at s))
+
+  -- their bits are those of the groups' first members
+  pub pairs-joined : (firsts : List ℕ) (gs : List (Bool × List ℕ)) → ((i : ℕ) → i < g → getD firsts i 0 ≡ firstAt gs i) → (k last at a b : ℕ) → drawnBy firsts (pairsTo g s last k at) a b ≡ joinedBy gs (pairsTo g s last k at) a b
+  pairs-joined firsts gs led zero last at a b = unfold pairsTo drawnBy joinedBy in refl
+  pairs-joined firsts gs led (suc k) last at a b =
+      here-or-not s at (follows g last)
+      (λ i j e t. goes i j e t (pairs-joined firsts gs led k (pairKey i j) (at + 6) a b))
+      (λ none. rw (stops-empty g s last at (suc k) none) (unfold drawnBy joinedBy in refl))
+    where
+      goes : (i j : ℕ) → itemIn (drop at s) ≡ Superedge i j → follows g last i j ≡ true → drawnBy firsts (pairsTo g s (pairKey i j) k (at + 6)) a b ≡ joinedBy gs (pairsTo g s (pairKey i j) k (at + 6)) a b → drawnBy firsts (pairsTo g s last (suc k) at) a b ≡ joinedBy gs (pairsTo g s last (suc k) at) a b
+      goes i j e t rest = let p = positions g last i j t in rw (stop-pair g s last at k i j e t) (unfold drawnBy joinedBy onePair oneBit in rw (led i (p .0), led j (p .1), rest))
+
+-- lent arrays, before anything is read
+module _ (least kinds joined : List ℕ) (blank : Blank least kinds joined) where
+  pub blank-nodes : length least ≡ maxNodes
+  blank-nodes = ap length (blank .nodes) ∙ length-replicate {A = ℕ} maxNodes noNode
+
+  pub blank-groups : length kinds ≡ maxNodes
+  blank-groups = ap length (blank .groups) ∙ length-replicate {A = ℕ} maxNodes single
+
+  pub blank-rows : length joined ≡ rowWords * maxNodes
+  blank-rows = ap length (blank .rows) ∙ length-replicate {A = ℕ} (rowWords * maxNodes) 0
+
+  blank-bits : (a b : ℕ) → edgeBit joined a b ≡ false
+  unfolding edgeBit
+  blank-bits a b = ap (λ (t : List ℕ). bitAt (getD t (8 * a + b / 64) 0) (b % 64)) (blank .rows) ∙ blank-bit (rowWords * maxNodes) (8 * a + b / 64) (b % 64)
+
+-- the body
+module _ (s : List ℕ) (from n m g : ℕ) (least₀ least firsts₀ firsts kinds₀ kinds joined₀ : List ℕ) (r : Groups) (eight : from ≡ 8) (blank : Blank least₀ kinds₀ joined₀) (read : GroupsRead n g (record { members = m; groups = g }) s from least firsts₀ firsts kinds r) where
+  groups : GroupsRead n g (record { members = m; groups = g }) s 8 least firsts₀ firsts kinds r
+  groups = subst (λ (x : ℕ). GroupsRead n g (record { members = m; groups = g }) s x least firsts₀ firsts kinds r) eight read
+
+  pub body-broken : r ≡ Broken → BodyRead s n m g least kinds joined₀ false
+  body-broken e = record {
+    result = sym (unfold bodyFits in rw (← groups .result, e));
+    nodes = groups .nodes;
+    groups = groups .groups;
+    rows = blank-rows least₀ kinds₀ joined₀ blank;
+    told = λ t. differ t refl;
+  }
+
+  module _ (next : ℕ) (left : Counts) (is : r ≡ Whole next left) where
+    held : GroupsHeld g s 8 next least firsts kinds
+    held = groups .held next left is
+
+    pub body-placed : g ≤ maxNodes → length firsts₀ ≡ maxNodes → Placed g firsts
+    body-placed few l = record { few = few; size = let e = groups .size in omega arith; small = held .placed }
+
+    pub body-read : (joined : List ℕ) (at : ℕ) (b : Bool) → SuperedgesRead g s next firsts joined₀ joined at → b ≡ endsAt left s at → BodyRead s n m g least kinds joined b
+    body-read joined at b x e = record {
+      result = e ∙ ap (endsAt left s) (x .place) ∙ sym (unfold bodyFits in rw (← groups .result, is));
+      nodes = groups .nodes;
+      groups = groups .groups;
+      rows = x .drawn .size ∙ blank-rows least₀ kinds₀ joined₀ blank;
+      told = λ t. record {
+        first = held .first;
+        kind = held .kind;
+        bits =
+            λ a c l.
+            x .drawn .bits a c l
+            ∙ ap (λ (z : Bool). z || drawnBy firsts (pairsTo g s 0 (length s) next) a c) (blank-bits least₀ kinds₀ joined₀ blank a c)
+            ∙ pairs-joined g s firsts (groupsFrom s 8 g) (held .led) (length s) 0 next a c
+            ∙ ap (λ (js : List (ℕ × ℕ)). joinedBy (groupsFrom s 8 g) js a c) (pairs t);
+      };
+    }
+      where
+        pairs : b ≡ true → pairsTo g s 0 (length s) next ≡ superedgesAt (length s) (restFrom s 8 g)
+        pairs t = pairs-told g s (length s) 0 next (is-end left s (stopAt g s 0 (length s) next) (ap (endsAt left s) (sym (x .place)) ∙ sym e ∙ t)) ∙ ap (superedgesAt (length s)) (held .rest)
+
+decode-refused : (s least kinds joined : List ℕ) → false ≡ accepted s → length least ≡ maxNodes → length kinds ≡ maxNodes → length joined ≡ rowWords * maxNodes → Decodes s least kinds joined answer.NoRelease
+decode-refused s least kinds joined e a b c = record {
+  result = sym (unfold decoded in rw (← e));
+  nodes = a;
+  groups = b;
+  rows = c;
+  told = λ t. differ t (sym e);
 }
 
-pub clearing-done : {all rest : ℕ → Bool} {t now : List ℕ} → Clearing all rest t now → ((p : ℕ) → rest p ≡ false) → Cleared all t now
-clearing-done {now = now} x e = record { size = x .size; marks = λ p. sym (ap (λ (z : Bool). cond z 0 (getD now p 0)) (e p)) ∙ x .marks p }
+module _ (s : List ℕ) (at : ℕ) (head : Record) (least₀ kinds₀ joined₀ : List ℕ) (after : AfterHead s at head) (blank : Blank least₀ kinds₀ joined₀) where
+  is-item : (i : Record) → head ≡ i → itemIn s ≡ i
+  is-item i e = sym (item-is s 0 (record { next = at; item = head }) (after .read)) ∙ e
 
-one-cleared : (q : ℕ) (t : List ℕ) → q < length t → Cleared (λ p. eqb p q) t (set t q 0)
-one-cleared q t l = record { size = length-set t q 0; marks = λ p. at p (decide (eqb p q)) }
-  where
-    at : (p : ℕ) → (eqb p q ≡ true) ⊎ (eqb p q ≡ false) → getD (set t q 0) p 0 ≡ cond (eqb p q) 0 (getD t p 0)
-    at p (inl e) = rw (e, eqb-true p q e) (getD-set-same t q 0 0 l)
-    at p (inr e) = rw e (getD-set-other t q p 0 0 (eqb-false p q e))
+  refused : false ≡ accepted s → Decodes s least₀ kinds₀ joined₀ answer.NoRelease
+  refused e = decode-refused s least₀ kinds₀ joined₀ e (blank-nodes least₀ kinds₀ joined₀ blank) (blank-groups least₀ kinds₀ joined₀ blank) (blank-rows least₀ kinds₀ joined₀ blank)
 
--- the members' loop
-module _ (n : ℕ) (s : List ℕ) (at count k q : ℕ) (inside : k < count) (read : q ≡ u16At s (at + 2 * k)) where
-  pub member-clears : {all : ℕ → Bool} {t now : List ℕ} → q < length now → Clearing all (within (restAt s at count k)) t now → Clearing all (within (restAt s at count (k + 1))) t (set now q 0)
-  unfolding within member any
-  member-clears {now = now} l x = clearing-step x (one-cleared q now l) (λ p. rw (rest-step s at count k inside, ← read))
-
-  pub member-counts : (c d : Counts) (o r : Lessened) → q < n → o ≡ lessMember c → o ≡ Left d → membersRead n c (restAt s at count k) ≡ r → membersRead n d (restAt s at count (k + 1)) ≡ r
-  unfolding membersRead
-  member-counts c d o r l e f h = rw (rest-step s at count k inside, ← read, lt-ltb q n l, ← e, f) at h
-
-  pub member-over : (c : Counts) (o r : Lessened) → q < n → o ≡ lessMember c → o ≡ Over → membersRead n c (restAt s at count k) ≡ r → Over ≡ r
-  unfolding membersRead
-  member-over c o r l e f h = rw (rest-step s at count k inside, ← read, lt-ltb q n l, ← e, f) at h
-
-  pub member-large : (c : Counts) (r : Lessened) → n ≤ q → membersRead n c (restAt s at count k) ≡ r → Over ≡ r
-  unfolding membersRead
-  member-large c r l h = rw (rest-step s at count k inside, ← read, le-ltb q n l) at h
-
-module _ (s : List ℕ) (at count : ℕ) where
-  pub numbers-start : restAt s at count 0 ≡ numbersAt s at count
-  unfolding numbersAt
-  numbers-start = rest-start s at count
-
-  pub members-hold : (n : ℕ) (c : Counts) → membersRead n c (restAt s at count 0) ≡ membersRead n c (numbersAt s at count)
-  members-hold n c = ap (membersRead n c) numbers-start
-
-  pub marks-hold : (t : List ℕ) → Clearing (within (numbersAt s at count)) (within (restAt s at count 0)) t t
-  marks-hold t = clearing-start (within (numbersAt s at count)) (within (restAt s at count 0)) t (λ p. ap (λ (l : List ℕ). within l p) numbers-start)
-
-  pub members-end : (n k : ℕ) (c : Counts) (r : Lessened) → count ≤ k → membersRead n c (restAt s at count k) ≡ r → Left c ≡ r
-  unfolding membersRead
-  members-end n k c r l h = rw (rest-end s at count k l) at h
-
-  pub marks-end : (k : ℕ) {all : ℕ → Bool} {t now : List ℕ} → count ≤ k → Clearing all (within (restAt s at count k)) t now → Cleared all t now
-  unfolding within member any
-  marks-end k l x = clearing-done x (λ p. rw (rest-end s at count k l))
-
-  -- what the function hands back: all members, or none
-  pub members-over : (n : ℕ) (c : Counts) (t now : List ℕ) → length now ≡ length t → Over ≡ membersRead n c (numbersAt s at count) → MembersRead n c (numbersAt s at count) t now Over
-  members-over n c t now size e = record { result = e; size = size; marks = λ d f. over f }
+  pub no-head : ((n m g : ℕ) → head ≡ Head n m g → ⊥) → Decodes s least₀ kinds₀ joined₀ answer.NoRelease
+  no-head h = refused (by-kind head refl)
     where
-      over : {d : Counts} → Over ≡ Left d → Cleared (within (numbersAt s at count)) t now
-      over f = let z : _≡_ {A = ℕ} 0 1 = cc in absurd (omega arith)
+      by-kind : (i : Record) → head ≡ i → false ≡ accepted s
+      by-kind (Head n m g) e = absurd (h n m g e)
+      by-kind (Group x y) e = sym (unfold accepted in rw (is-item (Group x y) e))
+      by-kind (Superedge x y) e = sym (unfold accepted in rw (is-item (Superedge x y) e))
+      by-kind End e = sym (unfold accepted in rw (is-item End e))
+      by-kind Malformed e = sym (unfold accepted in rw (is-item Malformed e))
 
-  pub members-done : (n : ℕ) (c left : Counts) (t now : List ℕ) → Left left ≡ membersRead n c (numbersAt s at count) → Cleared (within (numbersAt s at count)) t now → MembersRead n c (numbersAt s at count) t now (Left left)
-  members-done n c left t now e x = record { result = e; size = x .size; marks = λ d f. x }
+  module _ (n m g : ℕ) (is : head ≡ Head n m g) where
+    by-head : accepted s ≡ (sized n m g && bodyFits s n m g)
+    by-head = unfold accepted in rw (is-item (Head n m g) is)
 
--- what a record that was read tells of the bytes
-abbrev pub Fits : List ℕ → Record → Type 0
-Fits r (Head n m g) = (8 ≤ length r) × (n ≡ u16At r 2) × (m ≡ u16At r 4) × (g ≡ u16At r 6)
-Fits r (Group q count) = (4 ≤ length r) × (count ≡ u16At r 2) × (q ≡ eqb (getD r 1 0) 0x43) × ((isMark r 0x47 0x49 || isMark r 0x47 0x43) ≡ true)
-Fits r (Superedge i j) = (6 ≤ length r) × (i ≡ u16At r 2) × (j ≡ u16At r 4) × (getD r 0 0 ≡ 0x53) × (isMark r 0x53 0x45 ≡ true)
-Fits r End = (2 ≤ length r) × (getD r 0 0 ≡ 0x45)
-Fits r Malformed = Unit {0}
+    numbers : (8 ≤ length s) × (n ≡ u16At s 2) × (m ≡ u16At s 4) × (g ≡ u16At s 6)
+    numbers = fits-at s 0 (record { next = at; item = head }) (after .read) (Head n m g) is
 
-whole-fits : (r : List ℕ) (size : ℕ) (i : Record) → (size ≤ length r → Fits r i) → Fits r (whole r size i)
-unfolding whole
-whole-fits r size i f = step (decide (leb size (length r)))
-  where
-    step : (leb size (length r) ≡ true) ⊎ (leb size (length r) ≡ false) → Fits r (cond (leb size (length r)) i Malformed)
-    step (inl t) = rw t (f (leb-true size (length r) t))
-    step (inr t) = rw t tt
+    pub after-head : at ≡ 8
+    after-head = unfold sizeOf in (next-is s 0 (record { next = at; item = head }) (after .read) ∙ ap (λ (x : Record). 0 + sizeOf x) is)
 
-cond-fits : (r : List ℕ) (t : Bool) (i j : Record) → (t ≡ true → Fits r i) → (t ≡ false → Fits r j) → Fits r (cond t i j)
-cond-fits r true i j f g = f refl
-cond-fits r false i j f g = g refl
+    pub wrong-size : false ≡ sized n m g → Decodes s least₀ kinds₀ joined₀ answer.NoRelease
+    wrong-size e = refused (sym (by-head ∙ rw (← e)))
 
-pub item-fits : (r : List ℕ) → Fits r (itemIn r)
-unfolding itemIn isMark superedgeItem groupItem headItem
-item-fits r =
-    cond-fits r (ltb (length r) 2) Malformed _ (λ t. tt) (λ room.
-    cond-fits r (eqb (getD r 0 0) 0x53 && eqb (getD r 1 0) 0x45) (superedgeItem r) _ (λ t. whole-fits r 6 (Superedge (u16At r 2) (u16At r 4)) (λ l. (l, refl, refl, eqb-true (getD r 0 0) 0x53 (and-fst (eqb (getD r 0 0) 0x53) (eqb (getD r 1 0) 0x45) t), t))) (λ _.
-    cond-fits r (eqb (getD r 0 0) 0x47 && eqb (getD r 1 0) 0x49) (groupItem false r) _ (λ t. whole-fits r 4 (Group false (u16At r 2)) (λ l. (l, refl, sym (ne-eqb (getD r 1 0) 0x43 (λ e. omega (arith, eqb-true (getD r 1 0) 0x49 (and-snd (eqb (getD r 0 0) 0x47) (eqb (getD r 1 0) 0x49) t)))), or-left (isMark r 0x47 0x43) t))) (λ _.
-    cond-fits r (eqb (getD r 0 0) 0x47 && eqb (getD r 1 0) 0x43) (groupItem true r) _ (λ t. whole-fits r 4 (Group true (u16At r 2)) (λ l. (l, refl, sym (and-snd (eqb (getD r 0 0) 0x47) (eqb (getD r 1 0) 0x43) t), or-right (isMark r 0x47 0x49) t))) (λ _.
-    cond-fits r (eqb (getD r 0 0) 0x48 && eqb (getD r 1 0) 0x44) (headItem r) _ (λ t. whole-fits r 8 (Head (u16At r 2) (u16At r 4) (u16At r 6)) (λ l. (l, refl, refl, refl))) (λ _.
-    cond-fits r (eqb (getD r 0 0) 0x45 && eqb (getD r 1 0) 0x4E) End Malformed (λ t. (ltb-false (length r) 2 room, eqb-true (getD r 0 0) 0x45 (and-fst (eqb (getD r 0 0) 0x45) (eqb (getD r 1 0) 0x4E) t))) (λ _. tt))))))
+    module _ (fits : true ≡ sized n m g) (least kinds joined : List ℕ) (b : Bool) (body : BodyRead s n m g least kinds joined b) where
+      by-body : accepted s ≡ b
+      by-body = by-head ∙ rw (← fits) (sym (body .result))
 
--- a record that was read at a place
-module _ (s : List ℕ) (at : ℕ) (r : Read) (read : r ≡ recordAt s at) where
-  pub item-is : r .item ≡ itemIn (drop at s)
-  unfolding recordAt readAs
-  item-is = ap (λ (x : Read). x .item) read
+      pub wrong-body : b ≡ false → Decodes s least kinds joined answer.NoRelease
+      wrong-body e = decode-refused s least kinds joined (sym (by-body ∙ e)) (body .nodes) (body .groups) (body .rows)
 
-  pub next-is : r .next ≡ at + sizeOf (r .item)
-  unfolding recordAt readAs
-  next-is = ap (λ (x : Read). x .next) read ∙ ap (λ (x : Record). at + sizeOf x) (sym item-is)
-
-  pub fits-at : (i : Record) → r .item ≡ i → Fits (drop at s) i
-  fits-at i e = subst (Fits (drop at s)) (sym item-is ∙ e) (item-fits (drop at s))
-
-  -- a group: its count, its kind and its room
-  pub group-told : (q : Bool) (count : ℕ) → r .item ≡ Group q count → (r .next ≡ at + 4) × (at + 4 ≤ length s) × (count ≡ countAt s at) × (q ≡ eqb (getD s (at + 1) 0) 0x43)
-  unfolding countAt sizeOf
-  group-told q count e =
-      let f = fits-at (Group q count) e in
-      let g : r .next ≡ at + 4 = next-is ∙ ap (λ (x : Record). at + sizeOf x) e in
-      (g, omega (arith, f .0, length-drop at s), f .1 ∙ u16-drop s at 2, f .2 ∙ ap (λ (x : ℕ). eqb x 0x43) (getD-drop at s 1 0))
-
-  module _ (n : ℕ) (c : Counts) where
-    by-item : (i : Record) → r .item ≡ i → groupBy n c s at i ≡ groupTaken n c s at
-    unfolding groupTaken
-    by-item i e = ap (groupBy n c s at) (sym e ∙ item-is)
-
-    other-record : ((q : Bool) (count : ℕ) → r .item ≡ Group q count → ⊥) → Missing ≡ groupTaken n c s at
-    other-record h = step (r .item) refl
-      where
-        step : (i : Record) → r .item ≡ i → Missing ≡ groupTaken n c s at
-        step (Group q count) e = absurd (h q count e)
-        step (Head x y z) e = by-item (Head x y z) e
-        step (Superedge x y) e = by-item (Superedge x y) e
-        step End e = by-item End e
-        step Malformed e = by-item Malformed e
-
--- no group stands there
-pub no-group-here : (n : ℕ) (c : Counts) (s : List ℕ) (at : ℕ) → false ≡ groupHere s at → Missing ≡ groupTaken n c s at
-unfolding groupHere markAt
-no-group-here n c s at h = other-record s at (recordAt s at) refl n c none
-  where
-    none : (q : Bool) (count : ℕ) → recordAt s at .item ≡ Group q count → ⊥
-    none q count e =
-        let f = fits-at s at (recordAt s at) refl (Group q count) e in
-        differ (and-true (le-leb (at + 4) (length s) (omega (arith, f .0, length-drop at s))) (f .3)) (sym h)
-
-pub numbers-members : (s : List ℕ) (at count : ℕ) → count ≡ countAt s at → numbersAt s (at + 4) count ≡ membersAt s at
-unfolding numbersAt membersAt
-numbers-members s at count e = rw e
-
--- what the function hands back: the group, or none
-pub group-missing : (n : ℕ) (c : Counts) (s : List ℕ) (at : ℕ) (t now : List ℕ) → length now ≡ length t → Missing ≡ groupTaken n c s at → GroupTaken n c s at t now Missing
-group-missing n c s at t now size e = record { result = e; size = size; marks = λ q x d f. none f }
-  where
-    none : {q : Bool} {x : ℕ} {d : Counts} → Missing ≡ Taken q x d → Cleared (within (membersAt s at)) t now
-    none f = let z : _≡_ {A = ℕ} 0 1 = cc in absurd (omega arith)
-
-module _ (s : List ℕ) (at : ℕ) (r : Read) (read : r ≡ recordAt s at) (n : ℕ) (c : Counts) (t : List ℕ) (q : Bool) (count : ℕ) (item : r .item ≡ Group q count) where
-  four : r .next ≡ at + 4
-  four = group-told s at r read q count item .0
-
-  inside : at + 4 ≤ length s
-  inside = group-told s at r read q count item .1
-
-  pub no-room : length s - r .next < 2 * count → GroupTaken n c s at t t Missing
-  no-room l = group-missing n c s at t t refl (sym (unfold groupTaken in rw (← item-is s at r read, item, lt-leb (at + 4 + 2 * count) (length s) (omega (arith, four, inside)))))
-
-  module _ (o : Lessened) (room : 2 * count ≤ length s - r .next) (less : o ≡ lessGroup c) where
-    roomy : leb (at + 4 + 2 * count) (length s) ≡ true
-    roomy = le-leb (at + 4 + 2 * count) (length s) (omega (arith, four, inside))
-
-    pub no-group : o ≡ Over → GroupTaken n c s at t t Missing
-    no-group e = group-missing n c s at t t refl (sym (unfold groupTaken in rw (← item-is s at r read, item, roomy, ← less, e)))
-
-    module _ (d : Counts) (left : o ≡ Left d) (now : List ℕ) (p : Lessened) (members : MembersRead n d (numbersAt s (r .next) count) t now p) where
-      by-members : p ≡ membersRead n d (numbersAt s (at + 4) count)
-      by-members = members .result ∙ ap (λ (x : ℕ). membersRead n d (numbersAt s x count)) four
-
-      pub no-members : p ≡ Over → GroupTaken n c s at t now Missing
-      no-members e = group-missing n c s at t now (members .size) (sym (unfold groupTaken in rw (← item-is s at r read, item, roomy, ← less, left, ← by-members, e)))
-
-      pub all-members : (d′ : Counts) → p ≡ Left d′ → GroupTaken n c s at t now (Taken q (r .next + 2 * count) d′)
-      all-members d′ e = record {
-        result = sym (unfold groupTaken in rw (← item-is s at r read, item, roomy, ← less, left, ← by-members, e, four));
-        size = members .size;
-        marks = λ x y z f. rw (← numbers-members s at count (group-told s at r read q count item .2), ← four) (members .marks d′ e);
+      pub decode-graph : b ≡ true → Decodes s least kinds joined (answer.Graph n)
+      decode-graph e = record {
+        result = sym (unfold decoded in rw (by-body, e, ← numbers .1));
+        nodes = body .nodes;
+        groups = body .groups;
+        rows = body .rows;
+        told = λ t. unfold toldGroups toldSuperedges groupsFrom restFrom in rw (← numbers .3) (body .told e);
       }

@@ -1,203 +1,665 @@
--- Laws of all groups of a file, read one after the other.
-use mathlib.Core.Path.{_≡_, refl, sym, ap, subst, _∙_}
-use mathlib.Core.Bool.{Bool, true, false, _||_}
-use mathlib.Core.List.{List, _∷_}
+-- Laws of members and groups of a file, taken one after the other.
+use mathlib.Core.Path.{_≡_, refl, sym, ap, ap₂, subst, _∙_}
+use mathlib.Core.Bool.{Bool, true, false, not, _&&_, _||_, cond}
+use mathlib.Core.List.{List, [], _∷_}
 use mathlib.Core.Logic.{_⊎_, inl, inr}
 use Prim.Native.Nat.{ℕ, zero, suc, _+_, _*_, _-_, _≤_, _<_}
 use native.Mathlib.Omega.{arith}
 use lib.Dec.{eqb, ltb, leb}
-use lib.ListN.{length, getD, drop, set}
+use lib.ListN.{length, getD, drop, set, replicate, length-set, length-drop, length-replicate, getD-replicate}
 use lib.Seq.{drop-drop, getD-drop, getD-set-same, getD-set-other}
-use borrow.Author.Tests.{eqb-true, eqb-false, ltb-true, leb-true}
-use Rattle.model.specs.Reading.{afterGroups, groupsAt, u16At, u16s}
-use Rattle.model.specs.TestLaws.{decide}
-use Rattle.reader.specs.declared.Counts.{Counts}
-use Rattle.reader.specs.declared.Lessened.{Lessened}
-use Rattle.reader.specs.declared.Lessened.the-variants.{Left, Over}
-use Rattle.reader.specs.declared.Record.{Record}
-use Rattle.reader.specs.declared.Record.the-variants.{Head, Group, Superedge, End, Malformed}
+use borrow.Author.Tests.{eqb-true, eqb-false, eq-eqb, ne-eqb, ltb-true, ltb-false, lt-ltb, le-ltb, leb-true, le-leb, lt-leb, not-true, not-false}
+use Rattle.model.specs.Lists.{any, headOr, member}
+use Rattle.model.specs.Graph.{maxNodes}
+use Rattle.model.specs.Reading.{afterGroups, groupsAt, isMark, u16At, u16s}
+use Rattle.model.specs.InOrder.{membersAt}
+use Rattle.model.specs.TestLaws.{decide, differ, and-fst, and-snd, or-cases, or-left}
+use Rattle.records.specs.declared.Counts.{Counts}
+use Rattle.records.specs.declared.Lessened.{Lessened}
+use Rattle.records.specs.declared.Lessened.the-variants.{Left, Over}
+use Rattle.records.specs.declared.Record.{Record}
+use Rattle.records.specs.declared.Record.the-variants.{Head, Group, Superedge, End, Malformed}
+use Rattle.records.specs.declared.Read.{Read}
+use Rattle.records.specs.Records.{itemIn, lessGroup, lessMember, readAs, recordAt, sizeOf, whole, groupItem, headItem, superedgeItem}
+use Rattle.records.specs.RecordLaws.{u16-drop}
+use Rattle.rows.specs.Rows.{noNode}
+use Rattle.compressed.specs.Compressed.{clique, firstAt, firstOf, independent, kindBy, kindLed, leads, single}
 use Rattle.reader.specs.declared.Grouped.{Grouped}
 use Rattle.reader.specs.declared.Grouped.the-variants.{Taken, Missing}
 use Rattle.reader.specs.declared.Groups.the-variants.{Whole, Broken}
-use Rattle.reader.specs.Records.{itemIn, lessGroup, lessMember}
-use Rattle.reader.specs.Drawing.{Added, GroupHere, countAt, inner, membersAt}
-use Rattle.reader.specs.Decoding.{Found, GroupTaken, GroupsHeld, GroupsLeft, GroupsRead, groupBy, groupTaken, groupsFrom, groupsRead, inside, membersOf, membersRead, numbersAt, onLess, placed, restFrom, within}
-use Rattle.reader.specs.RecordLaws.{u16-drop}
-use Rattle.reader.specs.DrawingLaws.{adding-done, adding-start, adding-step}
-use Rattle.reader.specs.DecodingLaws.{Fits, clearing-done, clearing-start, clearing-step, item-fits}
+use Rattle.reader.specs.Decoding.{GroupTaken, GroupsHeld, GroupsLeft, GroupsRead, LeastPut, LeastPutting, MembersRead, countAt, groupBy, groupTaken, groupsFrom, groupsRead, leastCount, listedAt, membersRead, numbersAt, onLess, onTaken, restAt, restFrom, taken}
 
--- members that were taken are nodes
-pub members-small : (n count : ℕ) (c d : Counts) (r : List ℕ) → membersRead n c (u16s count r) ≡ Left d → (k : ℕ) → k < count → u16At r (2 * k) < n
-unfolding membersRead u16s
-members-small n zero c d r e k l = absurd (omega arith)
-members-small n (suc count) c d r e k l = small (λ x f i m. members-small n count x d (drop 2 r) f i m) (decide (ltb (u16At r 0) n))
+-- the kind and the least count of a group
+pub kind-clique : (count : ℕ) → clique ≡ kindBy true count
+unfolding kindBy
+kind-clique count = refl
+
+pub kind-single : (count : ℕ) → count ≡ 1 → single ≡ kindBy false count
+unfolding kindBy
+kind-single count e = rw (eq-eqb count 1 e)
+
+pub kind-independent : (count : ℕ) → (count ≡ 1 → ⊥) → independent ≡ kindBy false count
+unfolding kindBy
+kind-independent count h = rw (ne-eqb count 1 h)
+
+pub least-clique : 2 ≡ leastCount true
+unfolding leastCount
+least-clique = refl
+
+pub least-other : 1 ≡ leastCount false
+unfolding leastCount
+least-other = refl
+
+-- numbers in a file, one after the other
+module _ (s : List ℕ) (at count : ℕ) where
+  pub rest-step : (k : ℕ) → k < count → restAt s at count k ≡ u16At s (at + 2 * k) ∷ restAt s at count (k + 1)
+  unfolding restAt numbersAt u16s
+  rest-step k h =
+      let e : count - k ≡ suc (count - (k + 1)) = omega arith in
+      let f : at + 2 * k + 2 ≡ at + 2 * (k + 1) = omega arith in
+      let g : at + 2 * k + 0 ≡ at + 2 * k = omega arith in
+      rw (e, drop-drop 2 (at + 2 * k) s, f, u16-drop s (at + 2 * k) 0, g)
+
+  pub rest-end : (k : ℕ) → count ≤ k → restAt s at count k ≡ []
+  unfolding restAt numbersAt u16s
+  rest-end k h = let e : count - k ≡ 0 = omega arith in rw e
+
+  pub rest-start : restAt s at count 0 ≡ numbersAt s at count
+  unfolding restAt
+  rest-start = let e : at + 2 * 0 ≡ at = omega arith in let f : count - 0 ≡ count = omega arith in rw (e, f)
+
+  pub numbers-first : 0 < count → u16At s at ≡ headOr 0 (numbersAt s at count)
+  numbers-first h =
+      let e : at + 2 * 0 ≡ at = omega arith in
+      sym (ap (headOr 0) (sym rest-start ∙ rest-step 0 h) ∙ ap (u16At s) e)
+
+pub length-numbers : (k : ℕ) (r : List ℕ) → length (u16s k r) ≡ k
+unfolding u16s
+length-numbers zero r = refl
+length-numbers (suc k) r = ap suc (length-numbers k (drop 2 r))
+
+-- the members' loop
+module _ (n : ℕ) (f : ℕ → Bool) (s : List ℕ) (at count k q : ℕ) (inside : k < count) (read : q ≡ u16At s (at + 2 * k)) (low : ℕ) (c : Counts) (r : Lessened) (before : membersRead n f low c (restAt s at count k) ≡ r) where
+  pub member-low : q < low → Over ≡ r
+  unfolding membersRead
+  member-low l = rw (rest-step s at count k inside, ← read, lt-leb low q l) at before
+
+  pub member-large : low ≤ q → n ≤ q → Over ≡ r
+  unfolding membersRead
+  member-large h l = rw (rest-step s at count k inside, ← read, le-leb low q h, le-ltb q n l) at before
+
+  pub member-twice : low ≤ q → q < n → f q ≡ true → Over ≡ r
+  unfolding membersRead
+  member-twice h l t = rw (rest-step s at count k inside, ← read, le-leb low q h, lt-ltb q n l, t) at before
+
+  module _ (o : Lessened) (h : low ≤ q) (l : q < n) (t : f q ≡ false) (less : o ≡ lessMember c) where
+    pub member-over : o ≡ Over → Over ≡ r
+    unfolding membersRead
+    member-over e = rw (rest-step s at count k inside, ← read, le-leb low q h, lt-ltb q n l, t, ← less, e) at before
+
+    pub member-counts : (d : Counts) → o ≡ Left d → membersRead n f (q + 1) d (restAt s at count (k + 1)) ≡ r
+    unfolding membersRead
+    member-counts d e =
+        let one : q + 1 ≡ suc q = omega arith in
+        rw one (rw (rest-step s at count k inside, ← read, le-leb low q h, lt-ltb q n l, t, ← less, e) at before)
+
+-- a node that has a group, or none
+pub taken-yes : (t : List ℕ) (p x : ℕ) → x ≡ getD t p 0 → (x ≡ noNode → ⊥) → taken t p ≡ true
+unfolding taken
+taken-yes t p x e h = rw (ne-eqb (getD t p 0) noNode (λ f. h (e ∙ f)))
+
+pub taken-no : (t : List ℕ) (p x : ℕ) → x ≡ getD t p 0 → x ≡ noNode → taken t p ≡ false
+unfolding taken
+taken-no t p x e h = rw (eq-eqb (getD t p 0) noNode (sym e ∙ h))
+
+module _ (s : List ℕ) (at count : ℕ) where
+  pub members-start : (n : ℕ) (f : ℕ → Bool) (low : ℕ) (c : Counts) → membersRead n f low c (restAt s at count 0) ≡ membersRead n f low c (numbersAt s at count)
+  members-start n f low c = ap (membersRead n f low c) (rest-start s at count)
+
+  pub members-end : (n : ℕ) (f : ℕ → Bool) (low k : ℕ) (c : Counts) (r : Lessened) → count ≤ k → membersRead n f low c (restAt s at count k) ≡ r → Left c ≡ r
+  unfolding membersRead
+  members-end n f low k c r l h = rw (rest-end s at count k l) at h
+
+  module _ (l : ℕ) where
+    pub put-start : (low : ℕ) (t : List ℕ) → LeastPutting l (numbersAt s at count) (restAt s at count 0) low t t
+    put-start low t = record { size = refl; least = λ p. ap (λ (ms : List ℕ). cond (member p ms) l (getD t p 0)) (rest-start s at count); above = λ p h. refl }
+
+    module _ (k low : ℕ) {all t now : List ℕ} (before : LeastPutting l all (restAt s at count k) low t now) where
+      pub put-step : (q : ℕ) → k < count → q ≡ u16At s (at + 2 * k) → q < length now → low ≤ q → LeastPutting l all (restAt s at count (k + 1)) (q + 1) t (set now q l)
+      put-step q more read h from = record {
+        size = length-set now q l ∙ before .size;
+        least = λ p. at-p p (decide (eqb p q)) ∙ was p;
+        above = λ p j. getD-set-other now q p l 0 (λ e. omega arith) ∙ before .above p (omega arith);
+      }
+        where
+          rest : List ℕ
+          rest = restAt s at count (k + 1)
+
+          was : (p : ℕ) → cond (eqb p q || member p (restAt s at count (k + 1))) l (getD now p 0) ≡ cond (member p all) l (getD t p 0)
+          was p = sym (ap (λ (ms : List ℕ). cond (member p ms) l (getD now p 0)) (rest-step s at count k more ∙ ap (λ (x : ℕ). x ∷ rest) (sym read)) ∙ (unfold member any in refl)) ∙ before .least p
+
+          same : (b : Bool) → cond b l l ≡ l
+          same true = refl
+          same false = refl
+
+          at-p : (p : ℕ) → (eqb p q ≡ true) ⊎ (eqb p q ≡ false) → cond (member p (restAt s at count (k + 1))) l (getD (set now q l) p 0) ≡ cond (eqb p q || member p (restAt s at count (k + 1))) l (getD now p 0)
+          at-p p (inl e) = ap (cond (member p rest) l) (ap (λ (x : ℕ). getD (set now q l) x 0) (eqb-true p q e) ∙ getD-set-same now q l 0 h) ∙ same (member p rest) ∙ (rw e)
+          at-p p (inr e) = rw (e, getD-set-other now q p l 0 (eqb-false p q e))
+
+      put-done : count ≤ k → LeastPut all l t now
+      unfolding member any
+      put-done h = record { size = before .size; least = λ p. sym (ap (λ (ms : List ℕ). cond (member p ms) l (getD now p 0)) (rest-end s at count k h)) ∙ before .least p }
+
+  -- what the function hands back: all members, or none
+  pub members-over : (n low : ℕ) (c : Counts) (t now : List ℕ) → length now ≡ length t → Over ≡ membersRead n (taken t) low c (numbersAt s at count) → MembersRead n low c (numbersAt s at count) t now Over
+  members-over n low c t now size e = record { result = e; size = size; put = λ d f. over f }
+    where
+      over : {d : Counts} → Over ≡ Left d → LeastPut (numbersAt s at count) (headOr 0 (numbersAt s at count)) t now
+      over f = let z : _≡_ {A = ℕ} 0 1 = cc in absurd (omega arith)
+
+  pub members-done : (n low : ℕ) (c left : Counts) (from k first : ℕ) (t now : List ℕ) → 0 < count → count ≤ k → first ≡ u16At s at → Left left ≡ membersRead n (taken t) low c (numbersAt s at count) → LeastPutting first (numbersAt s at count) (restAt s at count k) from t now → MembersRead n low c (numbersAt s at count) t now (Left left)
+  members-done n low c left from k first t now some h is e x = record {
+    result = e;
+    size = x .size;
+    put = λ d f. subst (λ (l : ℕ). LeastPut (numbersAt s at count) l t now) (is ∙ numbers-first s at count some) (put-done first k from x h);
+  }
+
+-- what a record that was read tells of the bytes
+abbrev pub Fits : List ℕ → Record → Type 0
+Fits r (Head n m g) = (8 ≤ length r) × (n ≡ u16At r 2) × (m ≡ u16At r 4) × (g ≡ u16At r 6)
+Fits r (Group q count) = (4 ≤ length r) × (count ≡ u16At r 2) × (q ≡ eqb (getD r 1 0) 0x43)
+Fits r (Superedge i j) = (6 ≤ length r) × (i ≡ u16At r 2) × (j ≡ u16At r 4) × (isMark r 0x53 0x45 ≡ true)
+Fits r End = (2 ≤ length r) × (getD r 0 0 ≡ 0x45)
+Fits r Malformed = Unit {0}
+
+whole-fits : (r : List ℕ) (size : ℕ) (i : Record) → (size ≤ length r → Fits r i) → Fits r (whole r size i)
+unfolding whole
+whole-fits r size i f = step (decide (leb size (length r)))
+  where
+    step : (leb size (length r) ≡ true) ⊎ (leb size (length r) ≡ false) → Fits r (cond (leb size (length r)) i Malformed)
+    step (inl t) = rw t (f (leb-true size (length r) t))
+    step (inr t) = rw t tt
+
+cond-fits : (r : List ℕ) (t : Bool) (i j : Record) → (t ≡ true → Fits r i) → (t ≡ false → Fits r j) → Fits r (cond t i j)
+cond-fits r true i j f g = f refl
+cond-fits r false i j f g = g refl
+
+pub item-fits : (r : List ℕ) → Fits r (itemIn r)
+unfolding itemIn isMark superedgeItem groupItem headItem
+item-fits r =
+    cond-fits r (ltb (length r) 2) Malformed _ (λ t. tt) (λ room.
+    cond-fits r (eqb (getD r 0 0) 0x53 && eqb (getD r 1 0) 0x45) (superedgeItem r) _ (λ t. whole-fits r 6 (Superedge (u16At r 2) (u16At r 4)) (λ l. (l, refl, refl, t))) (λ _.
+    cond-fits r (eqb (getD r 0 0) 0x47 && eqb (getD r 1 0) 0x49) (groupItem false r) _ (λ t. whole-fits r 4 (Group false (u16At r 2)) (λ l. (l, refl, sym (ne-eqb (getD r 1 0) 0x43 (λ e. omega (arith, eqb-true (getD r 1 0) 0x49 (and-snd (eqb (getD r 0 0) 0x47) (eqb (getD r 1 0) 0x49) t))))))) (λ _.
+    cond-fits r (eqb (getD r 0 0) 0x47 && eqb (getD r 1 0) 0x43) (groupItem true r) _ (λ t. whole-fits r 4 (Group true (u16At r 2)) (λ l. (l, refl, sym (and-snd (eqb (getD r 0 0) 0x47) (eqb (getD r 1 0) 0x43) t)))) (λ _.
+    cond-fits r (eqb (getD r 0 0) 0x48 && eqb (getD r 1 0) 0x44) (headItem r) _ (λ t. whole-fits r 8 (Head (u16At r 2) (u16At r 4) (u16At r 6)) (λ l. (l, refl, refl, refl))) (λ _.
+    cond-fits r (eqb (getD r 0 0) 0x45 && eqb (getD r 1 0) 0x4E) End Malformed (λ t. (ltb-false (length r) 2 room, eqb-true (getD r 0 0) 0x45 (and-fst (eqb (getD r 0 0) 0x45) (eqb (getD r 1 0) 0x4E) t))) (λ _. tt))))))
+
+-- a record that was read at a place
+module _ (s : List ℕ) (at : ℕ) (r : Read) (read : r ≡ recordAt s at) where
+  pub item-is : r .item ≡ itemIn (drop at s)
+  unfolding recordAt readAs
+  item-is = ap (λ (x : Read). x .item) read
+
+  pub next-is : r .next ≡ at + sizeOf (r .item)
+  unfolding recordAt readAs
+  next-is = ap (λ (x : Read). x .next) read ∙ ap (λ (x : Record). at + sizeOf x) (sym item-is)
+
+  pub fits-at : (i : Record) → r .item ≡ i → Fits (drop at s) i
+  fits-at i e = subst (Fits (drop at s)) (sym item-is ∙ e) (item-fits (drop at s))
+
+  -- a group: its count, its kind and its room
+  pub group-told : (q : Bool) (count : ℕ) → r .item ≡ Group q count → (r .next ≡ at + 4) × (at + 4 ≤ length s) × (count ≡ countAt s at) × (q ≡ eqb (getD s (at + 1) 0) 0x43)
+  unfolding countAt sizeOf
+  group-told q count e =
+      let f = fits-at (Group q count) e in
+      let g : r .next ≡ at + 4 = next-is ∙ ap (λ (x : Record). at + sizeOf x) e in
+      (g, omega (arith, f .0, length-drop at s), f .1 ∙ u16-drop s at 2, f .2 ∙ ap (λ (x : ℕ). eqb x 0x43) (getD-drop at s 1 0))
+
+some : (q : Bool) (count m : ℕ) → m ≡ leastCount q → m ≤ count → 0 < count
+unfolding leastCount
+some true count m e h = omega arith
+some false count m e h = omega arith
+
+-- all members of a group stand in the bytes
+pub members-room : (s : List ℕ) (at : ℕ) (r : Read) → r ≡ recordAt s at → (q : Bool) (count : ℕ) → r .item ≡ Group q count → (m : ℕ) → m ≡ leastCount q → m ≤ count → 2 * count ≤ length s - r .next → (0 < count) × (r .next + 2 * count ≤ length s)
+members-room s at r read q count item m least h room =
+    let told = group-told s at r read q count item in
+    (some q count m least h, omega (arith, told .0, told .1))
+
+-- what the function hands back: the group, or none
+module _ (n low : ℕ) (c : Counts) (s : List ℕ) (at : ℕ) (t : List ℕ) where
+  group-missing : (now : List ℕ) → length now ≡ length t → Missing ≡ groupTaken n (taken t) low c s at → GroupTaken n low c s at t now Missing
+  group-missing now size e = record { result = e; size = size; put = λ kind first next d f. none f }
+    where
+      none : {kind first next : ℕ} {d : Counts} → Missing ≡ Taken kind first next d → LeastPut (listedAt s at) first t now
+      none f = let z : _≡_ {A = ℕ} 0 1 = cc in absurd (omega arith)
+
+  module _ (r : Read) (read : r ≡ recordAt s at) where
+    by-item : (i : Record) → r .item ≡ i → groupBy n (taken t) low c s at i ≡ groupTaken n (taken t) low c s at
+    unfolding groupTaken
+    by-item i e = ap (groupBy n (taken t) low c s at) (sym e ∙ item-is s at r read)
+
+    pub other-record : ((q : Bool) (count : ℕ) → r .item ≡ Group q count → ⊥) → GroupTaken n low c s at t t Missing
+    other-record h = group-missing t refl (step (r .item) refl)
+      where
+        step : (i : Record) → r .item ≡ i → Missing ≡ groupTaken n (taken t) low c s at
+        step (Group q count) e = absurd (h q count e)
+        step (Head x y z) e = by-item (Head x y z) e
+        step (Superedge x y) e = by-item (Superedge x y) e
+        step End e = by-item End e
+        step Malformed e = by-item Malformed e
+
+    module _ (q : Bool) (count : ℕ) (item : r .item ≡ Group q count) (m : ℕ) (least : m ≡ leastCount q) where
+      four : r .next ≡ at + 4
+      four = group-told s at r read q count item .0
+
+      inside : at + 4 ≤ length s
+      inside = group-told s at r read q count item .1
+
+      pub few-members : count < m → GroupTaken n low c s at t t Missing
+      few-members l = group-missing t refl (sym (sym (by-item (Group q count) item) ∙ (rw (← least, lt-leb m count l))))
+
+      pub no-room : m ≤ count → length s - r .next < 2 * count → GroupTaken n low c s at t t Missing
+      no-room h l = group-missing t refl (sym (sym (by-item (Group q count) item) ∙ (rw (← least, le-leb m count h, lt-leb (at + 4 + 2 * count) (length s) (omega (arith, four, inside))))))
+
+      module _ (o : Lessened) (enough : m ≤ count) (room : 2 * count ≤ length s - r .next) (less : o ≡ lessGroup c) where
+        roomy : leb (at + 4 + 2 * count) (length s) ≡ true
+        roomy = le-leb (at + 4 + 2 * count) (length s) (omega (arith, four, inside))
+
+        pub no-group : o ≡ Over → GroupTaken n low c s at t t Missing
+        no-group e = group-missing t refl (sym (sym (by-item (Group q count) item) ∙ (rw (← least, le-leb m count enough, roomy, ← less, e))))
+
+        module _ (d : Counts) (left : o ≡ Left d) (now : List ℕ) (p : Lessened) (members : MembersRead n low d (numbersAt s (r .next) count) t now p) where
+          by-members : p ≡ membersRead n (taken t) low d (numbersAt s (at + 4) count)
+          by-members = members .result ∙ ap (λ (x : ℕ). membersRead n (taken t) low d (numbersAt s x count)) four
+
+          pub no-members : p ≡ Over → GroupTaken n low c s at t now Missing
+          no-members e = group-missing now (members .size) (sym (sym (by-item (Group q count) item) ∙ (rw (← least, le-leb m count enough, roomy, ← less, left, ← by-members, e))))
+
+          listed : numbersAt s (r .next) count ≡ listedAt s at
+          unfolding listedAt
+          listed = ap₂ (λ (x y : ℕ). numbersAt s x y) four (group-told s at r read q count item .2)
+
+          pub all-members : (kind first : ℕ) (e : Counts) → p ≡ Left e → kind ≡ kindBy q count → first ≡ u16At s (r .next) → GroupTaken n low c s at t now (Taken kind first (r .next + 2 * count) e)
+          all-members kind first e is k f = record {
+            result = sym (sym (by-item (Group q count) item) ∙ (rw (← least, le-leb m count enough, roomy, ← less, left, ← by-members, is, k, f, four)));
+            size = members .size;
+            put =
+                λ a b x y z.
+                let same : first ≡ b = cc in
+                subst (λ (l : ℕ). LeastPut (listedAt s at) l t now) (sym (f ∙ numbers-first s (r .next) count (some q count m least enough)) ∙ same)
+                (subst (λ (ms : List ℕ). LeastPut ms (headOr 0 (numbersAt s (r .next) count)) t now) listed (members .put e is));
+          }
+
+head-in : (l : List ℕ) → 0 < length l → member (headOr 0 l) l ≡ true
+unfolding member any
+head-in [] h = absurd (omega arith)
+head-in (x ∷ xs) h = rw (eq-eqb x x refl)
+
+-- members that were taken are nodes of no group
+pub members-free : (n : ℕ) (f : ℕ → Bool) (low : ℕ) (c d : Counts) (ms : List ℕ) → membersRead n f low c ms ≡ Left d → (p : ℕ) → member p ms ≡ true → (p < n) × (f p ≡ false)
+unfolding membersRead member any
+members-free n f low c d [] e p m = differ m refl
+members-free n f low c d (x ∷ xs) e p m = by (λ y h j. members-free n f (suc x) y d xs h p j) (decide (leb low x && (ltb x n && not (f x))))
   where
     Below : Type 0
-    Below = (x : Counts) → membersRead n x (u16s count (drop 2 r)) ≡ Left d → (i : ℕ) → i < count → u16At (drop 2 r) (2 * i) < n
+    Below = (y : Counts) → membersRead n f (suc x) y xs ≡ Left d → any xs (eqb p) ≡ true → (p < n) × (f p ≡ false)
 
-    rest : Below → (o : Lessened) → onLess o (λ x. membersRead n x (u16s count (drop 2 r))) Over ≡ Left d → u16At r 0 < n → (k : ℕ) → k < suc count → u16At r (2 * k) < n
-    rest below (Left x) f h zero l = h
-    rest below (Left x) f h (suc k) l =
-        let g : 2 + 2 * k ≡ 2 * suc k = omega arith in
-        rw (u16-drop r 2 (2 * k), g) at (below x f k (omega arith))
-    rest below Over f h k l = let z : _≡_ {A = ℕ} 0 1 = cc in absurd (omega arith)
+    rest : Below → (o : Lessened) → onLess o (λ y. membersRead n f (suc x) y xs) Over ≡ Left d → any xs (eqb p) ≡ true → (p < n) × (f p ≡ false)
+    rest below (Left y) h j = below y h j
+    rest below Over h j = let z : _≡_ {A = ℕ} 0 1 = cc in absurd (omega arith)
 
-    small : Below → (ltb (u16At r 0) n ≡ true) ⊎ (ltb (u16At r 0) n ≡ false) → u16At r (2 * k) < n
-    small below (inl t) = rest below (lessMember c) (rw t at e) (ltb-true (u16At r 0) n t) k l
-    small below (inr t) = let f : Over ≡ Left d = rw t at e in let z : _≡_ {A = ℕ} 0 1 = cc in absurd (omega arith)
+    by : Below → ((leb low x && (ltb x n && not (f x))) ≡ true) ⊎ ((leb low x && (ltb x n && not (f x))) ≡ false) → (p < n) × (f p ≡ false)
+    by below (inl t) = here (or-cases (eqb p x) (any xs (eqb p)) m)
+      where
+        fits : (ltb x n && not (f x)) ≡ true
+        fits = and-snd (leb low x) (ltb x n && not (f x)) t
+
+        here : (eqb p x ≡ true) ⊎ (any xs (eqb p) ≡ true) → (p < n) × (f p ≡ false)
+        here (inl i) = rw (eqb-true p x i) (ltb-true x n (and-fst (ltb x n) (not (f x)) fits), not-true (f x) (and-snd (ltb x n) (not (f x)) fits))
+        here (inr j) = rest below (lessMember c) (rw t at e) j
+    by below (inr t) = let h : Over ≡ Left d = rw t at e in let z : _≡_ {A = ℕ} 0 1 = cc in absurd (omega arith)
 
 -- what a group that was taken tells
-pub record Told (n : ℕ) (s : List ℕ) (at : ℕ) (q : Bool) (next : ℕ) : Type 0 where
+pub record GroupTold (n : ℕ) (f : ℕ → Bool) (s : List ℕ) (at kind first next : ℕ) : Type 0 where
   pub after : next ≡ at + 4 + 2 * countAt s at
-  pub kind : q ≡ eqb (getD s (at + 1) 0) 0x43
-  pub here : GroupHere n s at
+  pub leader : first ≡ headOr 0 (listedAt s at)
+  pub listed : member first (listedAt s at) ≡ true
+  pub sort : kind ≡ kindBy (eqb (getD s (at + 1) 0) 0x43) (length (listedAt s at))
+  pub free : (p : ℕ) → member p (listedAt s at) ≡ true → (p < n) × (f p ≡ false)
 
-module _ (n : ℕ) (c : Counts) (s : List ℕ) (at : ℕ) (q : Bool) (next : ℕ) (d : Counts) where
-  pub taken-told : groupTaken n c s at ≡ Taken q next d → Told n s at q next
+module _ (n : ℕ) (f : ℕ → Bool) (low : ℕ) (c : Counts) (s : List ℕ) (at kind first next : ℕ) (d : Counts) where
+  pub taken-told : groupTaken n f low c s at ≡ Taken kind first next d → GroupTold n f s at kind first next
   unfolding groupTaken
-  taken-told e = by-kind (itemIn (drop at s)) (item-fits (drop at s)) e
+  taken-told e = by-item (itemIn (drop at s)) (item-fits (drop at s)) e
     where
-      by-members : (x : Bool) (count : ℕ) (y : Counts) (o : Lessened) → membersRead n y (numbersAt s (at + 4) count) ≡ o → at + 4 + 2 * count ≤ length s → count ≡ countAt s at → x ≡ eqb (getD s (at + 1) 0) 0x43
-          → onLess o (λ z. Taken x (at + 4 + 2 * count) z) Missing ≡ Taken q next d → Told n s at q next
-      by-members x count y (Left z) h room f g k =
+      by-members : (q : Bool) (count : ℕ) (y : Counts) (o : Lessened) → membersRead n f low y (numbersAt s (at + 4) count) ≡ o → 0 < count → count ≡ countAt s at → q ≡ eqb (getD s (at + 1) 0) 0x43
+          → onLess o (λ z. Taken (kindBy q count) (u16At s (at + 4)) (at + 4 + 2 * count) z) Missing ≡ Taken kind first next d → GroupTold n f s at kind first next
+      by-members q count y (Left z) h some is mark k =
           let i : next ≡ at + 4 + 2 * count = cc in
-          let j : q ≡ x = cc in
+          let j : first ≡ u16At s (at + 4) = cc in
+          let l : kind ≡ kindBy q count = cc in
+          let listed : numbersAt s (at + 4) count ≡ listedAt s at = unfold listedAt in (ap (numbersAt s (at + 4)) is) in
+          let size : count ≡ length (listedAt s at) = is ∙ sym (unfold listedAt numbersAt in length-numbers (countAt s at) (drop (at + 4) s)) in
+          let head : first ≡ headOr 0 (listedAt s at) = j ∙ numbers-first s (at + 4) count some ∙ ap (headOr 0) listed in
           record {
-            after = i ∙ ap (λ (u : ℕ). at + 4 + 2 * u) f;
-            kind = j ∙ g;
-            here = record {
-              room = rw (← f) room;
-              small = λ t l. rw (u16-drop s (at + 4) (2 * t)) at (members-small n count y z (drop (at + 4) s) (unfold numbersAt in h) t (rw f l));
-            };
+            after = i ∙ ap (λ (u : ℕ). at + 4 + 2 * u) is;
+            leader = head;
+            listed = ap (λ (x : ℕ). member x (listedAt s at)) head ∙ head-in (listedAt s at) (omega arith);
+            sort = l ∙ ap₂ kindBy mark size;
+            free = λ p m. members-free n f low y z (numbersAt s (at + 4) count) h p (ap (member p) listed ∙ m);
           }
-      by-members x count y Over h room f g k = let z : _≡_ {A = ℕ} 0 1 = cc in absurd (omega arith)
+      by-members q count y Over h some is mark k = let z : _≡_ {A = ℕ} 0 1 = cc in absurd (omega arith)
 
-      by-count : (x : Bool) (count : ℕ) (o : Lessened) → at + 4 + 2 * count ≤ length s → count ≡ countAt s at → x ≡ eqb (getD s (at + 1) 0) 0x43
-          → onLess o (λ y. onLess (membersRead n y (numbersAt s (at + 4) count)) (λ z. Taken x (at + 4 + 2 * count) z) Missing) Missing ≡ Taken q next d → Told n s at q next
-      by-count x count (Left y) room f g k = by-members x count y (membersRead n y (numbersAt s (at + 4) count)) refl room f g k
-      by-count x count Over room f g k = let z : _≡_ {A = ℕ} 0 1 = cc in absurd (omega arith)
+      by-count : (q : Bool) (count : ℕ) (o : Lessened) → 0 < count → count ≡ countAt s at → q ≡ eqb (getD s (at + 1) 0) 0x43
+          → onLess o (λ y. onLess (membersRead n f low y (numbersAt s (at + 4) count)) (λ z. Taken (kindBy q count) (u16At s (at + 4)) (at + 4 + 2 * count) z) Missing) Missing ≡ Taken kind first next d → GroupTold n f s at kind first next
+      by-count q count (Left y) some is mark k = by-members q count y (membersRead n f low y (numbersAt s (at + 4) count)) refl some is mark k
+      by-count q count Over some is mark k = let z : _≡_ {A = ℕ} 0 1 = cc in absurd (omega arith)
 
-      by-room : (x : Bool) (count : ℕ) → (leb (at + 4 + 2 * count) (length s) ≡ true) ⊎ (leb (at + 4 + 2 * count) (length s) ≡ false) → count ≡ countAt s at → x ≡ eqb (getD s (at + 1) 0) 0x43
-          → groupBy n c s at (Group x count) ≡ Taken q next d → Told n s at q next
-      by-room x count (inl t) f g k = by-count x count (lessGroup c) (leb-true (at + 4 + 2 * count) (length s) t) f g (rw t at k)
-      by-room x count (inr t) f g k = let h : Missing ≡ Taken q next d = rw t at k in let z : _≡_ {A = ℕ} 0 1 = cc in absurd (omega arith)
+      by-room : (q : Bool) (count : ℕ) (b : Bool) → (leb (leastCount q) count && leb (at + 4 + 2 * count) (length s)) ≡ b → count ≡ countAt s at → q ≡ eqb (getD s (at + 1) 0) 0x43
+          → groupBy n f low c s at (Group q count) ≡ Taken kind first next d → GroupTold n f s at kind first next
+      by-room q count true t is mark k = by-count q count (lessGroup c) (some q count (leastCount q) refl (leb-true (leastCount q) count (and-fst (leb (leastCount q) count) (leb (at + 4 + 2 * count) (length s)) t))) is mark (rw t at k)
+      by-room q count false t is mark k = let h : Missing ≡ Taken kind first next d = rw t at k in let z : _≡_ {A = ℕ} 0 1 = cc in absurd (omega arith)
 
-      by-kind : (i : Record) → Fits (drop at s) i → groupBy n c s at i ≡ Taken q next d → Told n s at q next
-      by-kind (Group x count) f k = by-room x count (decide (leb (at + 4 + 2 * count) (length s))) (unfold countAt in (f .1 ∙ u16-drop s at 2)) (f .2 ∙ ap (λ (y : ℕ). eqb y 0x43) (getD-drop at s 1 0)) k
-      by-kind (Head x y z) f k = let z : _≡_ {A = ℕ} 0 1 = cc in absurd (omega arith)
-      by-kind (Superedge x y) f k = let z : _≡_ {A = ℕ} 0 1 = cc in absurd (omega arith)
-      by-kind End f k = let z : _≡_ {A = ℕ} 0 1 = cc in absurd (omega arith)
-      by-kind Malformed f k = let z : _≡_ {A = ℕ} 0 1 = cc in absurd (omega arith)
+      by-item : (i : Record) → Fits (drop at s) i → groupBy n f low c s at i ≡ Taken kind first next d → GroupTold n f s at kind first next
+      by-item (Group q count) x k = by-room q count (leb (leastCount q) count && leb (at + 4 + 2 * count) (length s)) refl (unfold countAt in (x .1 ∙ u16-drop s at 2)) (x .2 ∙ ap (λ (y : ℕ). eqb y 0x43) (getD-drop at s 1 0)) k
+      by-item (Head x y z) g k = let z : _≡_ {A = ℕ} 0 1 = cc in absurd (omega arith)
+      by-item (Superedge x y) g k = let z : _≡_ {A = ℕ} 0 1 = cc in absurd (omega arith)
+      by-item End g k = let z : _≡_ {A = ℕ} 0 1 = cc in absurd (omega arith)
+      by-item Malformed g k = let z : _≡_ {A = ℕ} 0 1 = cc in absurd (omega arith)
+
+-- only which nodes of the graph are taken counts
+module _ (n : ℕ) where
+  abbrev Alike : (ℕ → Bool) → (ℕ → Bool) → Type 0
+  Alike f g = (p : ℕ) → p < n → f p ≡ g p
+
+  pub members-alike : (f g : ℕ → Bool) → Alike f g → (low : ℕ) (c : Counts) (ms : List ℕ) → membersRead n f low c ms ≡ membersRead n g low c ms
+  unfolding membersRead
+  members-alike f g h low c [] = refl
+  members-alike f g h low c (x ∷ xs) = by (λ d. members-alike f g h (suc x) d xs) (decide (ltb x n))
+    where
+      Below : Type 0
+      Below = (d : Counts) → membersRead n f (suc x) d xs ≡ membersRead n g (suc x) d xs
+
+      less : Below → (o : Lessened) → onLess o (λ d. membersRead n f (suc x) d xs) Over ≡ onLess o (λ d. membersRead n g (suc x) d xs) Over
+      less below (Left d) = below d
+      less below Over = refl
+
+      by : Below → (ltb x n ≡ true) ⊎ (ltb x n ≡ false)
+          → cond (leb low x && (ltb x n && not (f x))) (onLess (lessMember c) (λ d. membersRead n f (suc x) d xs) Over) Over
+          ≡ cond (leb low x && (ltb x n && not (g x))) (onLess (lessMember c) (λ d. membersRead n g (suc x) d xs) Over) Over
+      by below (inl t) =
+          ap₂ (λ (b : Bool) (o : Lessened). cond (leb low x && (ltb x n && not b)) o Over) (h x (ltb-true x n t)) (less below (lessMember c))
+      by below (inr t) = rw t (cut (leb low x))
+        where
+          cut : (b : Bool) → cond (b && false) (onLess (lessMember c) (λ d. membersRead n f (suc x) d xs) Over) Over ≡ cond (b && false) (onLess (lessMember c) (λ d. membersRead n g (suc x) d xs) Over) Over
+          cut true = refl
+          cut false = refl
+
+  pub group-alike : (f g : ℕ → Bool) → Alike f g → (low : ℕ) (c : Counts) (s : List ℕ) (at : ℕ) → groupTaken n f low c s at ≡ groupTaken n g low c s at
+  unfolding groupTaken
+  group-alike f g h low c s at = by (itemIn (drop at s))
+    where
+      by : (i : Record) → groupBy n f low c s at i ≡ groupBy n g low c s at i
+      by (Group q count) = ap (λ (o : Grouped). cond (leb (leastCount q) count && leb (at + 4 + 2 * count) (length s)) o Missing) (less (lessGroup c))
+        where
+          less : (o : Lessened)
+              → onLess o (λ d. onLess (membersRead n f low d (numbersAt s (at + 4) count)) (λ e. Taken (kindBy q count) (u16At s (at + 4)) (at + 4 + 2 * count) e) Missing) Missing
+              ≡ onLess o (λ d. onLess (membersRead n g low d (numbersAt s (at + 4) count)) (λ e. Taken (kindBy q count) (u16At s (at + 4)) (at + 4 + 2 * count) e) Missing) Missing
+          less (Left d) = ap (λ (o : Lessened). onLess o (λ e. Taken (kindBy q count) (u16At s (at + 4)) (at + 4 + 2 * count) e) Missing) (members-alike f g h low d (numbersAt s (at + 4) count))
+          less Over = refl
+      by (Head x y z) = refl
+      by (Superedge x y) = refl
+      by End = refl
+      by Malformed = refl
+
+  pub groups-alike : (k : ℕ) (f g : ℕ → Bool) → Alike f g → (low : ℕ) (c : Counts) (s : List ℕ) (at : ℕ) → groupsRead n k f low c s at ≡ groupsRead n k g low c s at
+  unfolding groupsRead
+  groups-alike zero f g h low c s at = refl
+  groups-alike (suc k) f g h low c s at = ap (λ (o : Grouped). onTaken o (λ first next d. groupsRead n k (λ p. member p (listedAt s at) || f p) (suc first) d s next)) (group-alike f g h low c s at) ∙ more (λ first next d. groups-alike k (λ p. member p (listedAt s at) || f p) (λ p. member p (listedAt s at) || g p) (λ p l. ap (λ (b : Bool). member p (listedAt s at) || b) (h p l)) (suc first) d s next) (groupTaken n g low c s at)
+    where
+      Below : Type 0
+      Below = (first next : ℕ) (d : Counts) → groupsRead n k (λ p. member p (listedAt s at) || f p) (suc first) d s next ≡ groupsRead n k (λ p. member p (listedAt s at) || g p) (suc first) d s next
+
+      more : Below → (o : Grouped) → onTaken o (λ first next d. groupsRead n k (λ p. member p (listedAt s at) || f p) (suc first) d s next) ≡ onTaken o (λ first next d. groupsRead n k (λ p. member p (listedAt s at) || g p) (suc first) d s next)
+      more below (Taken kind first next d) = below first next d
+      more below Missing = refl
 
 -- the groups of a file by places
-pub groups-step : (s : List ℕ) (at k : ℕ) (q : Bool) (next : ℕ) → next ≡ at + 4 + 2 * countAt s at → q ≡ eqb (getD s (at + 1) 0) 0x43 → groupsFrom s at (suc k) ≡ (q, membersAt s at) ∷ groupsFrom s next k
-unfolding groupsFrom groupsAt membersAt countAt
-groups-step s at k q next e f = rw (e, f, getD-drop at s 1 0, u16-drop s at 2, drop-drop 4 at s, drop-drop (2 * u16At s (at + 2)) (at + 4) s)
+pub from-step : (s : List ℕ) (at k next : ℕ) → next ≡ at + 4 + 2 * countAt s at → groupsFrom s at (suc k) ≡ (eqb (getD s (at + 1) 0) 0x43, listedAt s at) ∷ groupsFrom s next k
+unfolding groupsFrom groupsAt listedAt numbersAt countAt
+from-step s at k next e = rw (e, getD-drop at s 1 0, u16-drop s at 2, drop-drop 4 at s, drop-drop (2 * u16At s (at + 2)) (at + 4) s)
 
-pub rest-step : (s : List ℕ) (at k next : ℕ) → next ≡ at + 4 + 2 * countAt s at → restFrom s at (suc k) ≡ restFrom s next k
+pub after-step : (s : List ℕ) (at k next : ℕ) → next ≡ at + 4 + 2 * countAt s at → restFrom s at (suc k) ≡ restFrom s next k
 unfolding restFrom afterGroups countAt
-rest-step s at k next e = rw (e, u16-drop s at 2, drop-drop 4 at s, drop-drop (2 * u16At s (at + 2)) (at + 4) s)
+after-step s at k next e = rw (e, u16-drop s at 2, drop-drop 4 at s, drop-drop (2 * u16At s (at + 2)) (at + 4) s)
 
-pub read-missing : (n k : ℕ) (c : Counts) (s : List ℕ) (at : ℕ) → groupTaken n c s at ≡ Missing → groupsRead n (suc k) c s at ≡ Broken
+read-missing : (n k : ℕ) (f : ℕ → Bool) (low : ℕ) (c : Counts) (s : List ℕ) (at : ℕ) → groupTaken n f low c s at ≡ Missing → groupsRead n (suc k) f low c s at ≡ Broken
 unfolding groupsRead
-read-missing n k c s at e = rw e
+read-missing n k f low c s at e = rw e
 
-pub read-taken : (n k : ℕ) (c : Counts) (s : List ℕ) (at : ℕ) (q : Bool) (next : ℕ) (d : Counts) → groupTaken n c s at ≡ Taken q next d → groupsRead n (suc k) c s at ≡ groupsRead n k d s next
+read-taken : (n k : ℕ) (f : ℕ → Bool) (low : ℕ) (c : Counts) (s : List ℕ) (at kind first next : ℕ) (d : Counts) → groupTaken n f low c s at ≡ Taken kind first next d → groupsRead n (suc k) f low c s at ≡ groupsRead n k (λ p. member p (listedAt s at) || f p) (suc first) d s next
 unfolding groupsRead
-read-taken n k c s at q next d e = rw e
+read-taken n k f low c s at kind first next d e = rw e
 
-pub read-none : (n k : ℕ) (c : Counts) (s : List ℕ) (at : ℕ) → k ≡ 0 → groupsRead n k c s at ≡ Whole at c
-unfolding groupsRead
-read-none n k c s at e = rw e
+-- first members by position
+at-zero : (g : Bool × List ℕ) (gs : List (Bool × List ℕ)) → firstAt (g ∷ gs) 0 ≡ headOr 0 (g .1)
+unfolding firstAt membersAt
+at-zero g gs = refl
 
-pub rest-none : (s : List ℕ) (at k : ℕ) → k ≡ 0 → restFrom s at k ≡ drop at s
-unfolding restFrom afterGroups
-rest-none s at k e = rw e
+at-suc : (g : Bool × List ℕ) (gs : List (Bool × List ℕ)) (k : ℕ) → firstAt (g ∷ gs) (suc k) ≡ firstAt gs k
+unfolding firstAt membersAt
+at-suc g gs k = refl
+
+-- a node of no group leads none
+untaken : (t : List ℕ) (p : ℕ) → taken t p ≡ false → getD t p 0 ≡ noNode
+unfolding taken
+untaken t p h = eqb-true (getD t p 0) noNode (not-false (eqb (getD t p 0) noNode) h)
+
+leads-not : (t : List ℕ) (p : ℕ) → (getD t p 0 ≡ p → ⊥) → leads t p ≡ false
+unfolding leads
+leads-not t p h = ne-eqb (getD t p 0) p h
+
+leads-is : (t : List ℕ) (p : ℕ) → getD t p 0 ≡ p → leads t p ≡ true
+unfolding leads
+leads-is t p h = eq-eqb (getD t p 0) p h
+
+leads-by : (t u : List ℕ) (p : ℕ) → getD t p 0 ≡ getD u p 0 → leads t p ≡ leads u p
+unfolding leads
+leads-by t u p h = ap (λ (x : ℕ). eqb x p) h
+
+taken-by : (t u : List ℕ) (p : ℕ) → getD t p 0 ≡ getD u p 0 → taken t p ≡ taken u p
+unfolding taken
+taken-by t u p h = ap (λ (x : ℕ). not (eqb x noNode)) h
+
+taken-or : (t : List ℕ) (p : ℕ) → cond (taken t p) (getD t p 0) noNode ≡ getD t p 0
+taken-or t p = by (decide (taken t p))
+  where
+    by : (taken t p ≡ true) ⊎ (taken t p ≡ false) → cond (taken t p) (getD t p 0) noNode ≡ getD t p 0
+    by (inl h) = rw h
+    by (inr h) = ap (λ (b : Bool). cond b (getD t p 0) noNode) h ∙ sym (untaken t p h)
+
+pub filled-size : (t : List ℕ) (x : ℕ) → t ≡ replicate maxNodes x → length t ≡ maxNodes
+filled-size t x e = ap length e ∙ length-replicate {A = ℕ} maxNodes x
 
 -- the groups' loop
-pub groups-start : (n g : ℕ) (c : Counts) (s : List ℕ) (from : ℕ) (starts edges hidden : List ℕ) → GroupsLeft n g c s from 0 c from starts edges edges hidden hidden
-groups-start n g c s from starts edges hidden =
-    let e : g - 0 ≡ g = omega arith in
-    record {
-      result = rw e;
-      drawn = adding-start (inside (groupsFrom s from g)) (inside (groupsFrom s from (g - 0))) edges (λ a b. rw e);
-      marks = clearing-start (placed (groupsFrom s from g)) (placed (groupsFrom s from (g - 0))) hidden (λ p. rw e);
-      found = record { here = λ t l. absurd (omega arith); members = λ t l. absurd (omega arith) };
-      shifted = λ t. let f : 0 + t ≡ t = omega arith in rw (e, f);
-      rest = rw e;
-    }
-
-module _ (n g : ℕ) (c : Counts) (s : List ℕ) (from i : ℕ) (left : Counts) (at : ℕ) (starts edges₀ edges hidden₀ hidden : List ℕ) (more : i < g) (before : GroupsLeft n g c s from i left at starts edges₀ edges hidden₀ hidden) (r : Grouped) (hidden′ : List ℕ) (taken : GroupTaken n left s at hidden hidden′ r) where
-  one-more : g - i ≡ suc (g - (i + 1))
-  one-more = omega arith
-
-  -- no group: nothing is read
-  pub groups-broken : r ≡ Missing → Broken ≡ groupsRead n g c s from
-  groups-broken e = sym (read-missing n (g - (i + 1)) left s at (sym (taken .result) ∙ e)) ∙ (rw one-more at (before .result))
-
-  module _ (q : Bool) (next : ℕ) (d : Counts) (is : r ≡ Taken q next d) where
-    told : Told n s at q next
-    told = taken-told n left s at q next d (sym (taken .result) ∙ is)
-
-    pub group-here : GroupHere n s at
-    group-here = told .here
-
-    cons : groupsFrom s at (g - i) ≡ (q, membersAt s at) ∷ groupsFrom s next (g - (i + 1))
-    cons = ap (groupsFrom s at) one-more ∙ groups-step s at (g - (i + 1)) q next (told .after) (told .kind)
-
-    pub groups-more : (edges′ : List ℕ) → i < length starts → Added (inner q (membersAt s at)) edges edges′ → GroupsLeft n g c s from (i + 1) d next (set starts i at) edges₀ edges′ hidden₀ hidden′
-    groups-more edges′ fits x = record {
-      result = sym (read-taken n (g - (i + 1)) left s at q next d (sym (taken .result) ∙ is)) ∙ (rw one-more at (before .result));
-      drawn = adding-step (before .drawn) x (λ a b. ap (λ (l : List (Bool × List ℕ)). inside l a b) cons ∙ inside-cons a b);
-      marks = clearing-step (before .marks) (taken .marks q next d is) (λ p. ap (λ (l : List (Bool × List ℕ)). placed l p) cons ∙ placed-cons p);
-      found = record { here = λ t l. here t l (decide (eqb t i)); members = λ t l. members t l (decide (eqb t i)) };
-      shifted = λ t. let e : i + 1 + t ≡ i + suc t = omega arith in rw e (before .shifted (suc t) ∙ ap (λ (l : List (Bool × List ℕ)). membersOf l (suc t)) cons ∙ (unfold membersOf in refl));
-      rest = sym (rest-step s at (g - (i + 1)) next (told .after)) ∙ (rw one-more at (before .rest));
-    }
-      where
-        others : List (Bool × List ℕ)
-        others = groupsFrom s next (g - (i + 1))
-
-        inside-cons : (a b : ℕ) → inside ((q, membersAt s at) ∷ others) a b ≡ (inner q (membersAt s at) a b || inside others a b)
-        inside-cons a b = unfold inside in refl
-
-        placed-cons : (p : ℕ) → placed ((q, membersAt s at) ∷ others) p ≡ (within (membersAt s at) p || placed others p)
-        placed-cons p = unfold placed within in refl
-
-        here : (t : ℕ) → t < i + 1 → (eqb t i ≡ true) ⊎ (eqb t i ≡ false) → GroupHere n s (getD (set starts i at) t 0)
-        here t l (inl e) = rw (eqb-true t i e, getD-set-same starts i at 0 fits) group-here
-        here t l (inr e) = rw (getD-set-other starts i t at 0 (eqb-false t i e)) (before .found .here t (omega (arith, eqb-false t i e)))
-
-        first : membersOf (groupsFrom s from g) i ≡ membersAt s at
-        first = let e : i + 0 ≡ i = omega arith in (rw e at (before .shifted 0)) ∙ ap (λ (l : List (Bool × List ℕ)). membersOf l 0) cons ∙ (unfold membersOf in refl)
-
-        members : (t : ℕ) → t < i + 1 → (eqb t i ≡ true) ⊎ (eqb t i ≡ false) → membersAt s (getD (set starts i at) t 0) ≡ membersOf (groupsFrom s from g) t
-        members t l (inl e) = rw (eqb-true t i e, getD-set-same starts i at 0 fits) (sym first)
-        members t l (inr e) = rw (getD-set-other starts i t at 0 (eqb-false t i e)) (before .found .members t (omega (arith, eqb-false t i e)))
-
--- what the function hands back: all groups, or none
-pub groups-none : (n g : ℕ) (c : Counts) (s : List ℕ) (from : ℕ) (starts₀ starts edges₀ edges hidden₀ hidden : List ℕ) → length starts ≡ length starts₀ → length edges ≡ length edges₀ → length hidden ≡ length hidden₀ → Broken ≡ groupsRead n g c s from → GroupsRead n g c s from starts₀ starts edges₀ edges hidden₀ hidden Broken
-groups-none n g c s from starts₀ starts edges₀ edges hidden₀ hidden a b h e = record { result = e; places = a; rows = b; size = h; held = λ next left f. none f }
-  where
-    none : {next : ℕ} {left : Counts} → Broken ≡ Whole next left → GroupsHeld n g s from next starts edges₀ edges hidden₀ hidden
-    none f = let z : _≡_ {A = ℕ} 0 1 = cc in absurd (omega arith)
-
-pub groups-all : (n g : ℕ) (c : Counts) (s : List ℕ) (from i : ℕ) (left : Counts) (at : ℕ) (starts₀ starts edges₀ edges hidden₀ hidden : List ℕ) → i ≡ g → length starts ≡ length starts₀ → GroupsLeft n g c s from i left at starts edges₀ edges hidden₀ hidden → GroupsRead n g c s from starts₀ starts edges₀ edges hidden₀ hidden (Whole at left)
-groups-all n g c s from i left at starts₀ starts edges₀ edges hidden₀ hidden last a x = record {
-  result = sym (read-none n (g - i) left s at none) ∙ x .result;
-  places = a;
-  rows = x .drawn .size;
-  size = x .marks .size;
-  held =
-      λ next l e.
-      let f : next ≡ at = cc in
+module _ (n g : ℕ) (c : Counts) (s : List ℕ) (from : ℕ) where
+  pub groups-start : (least firsts kinds : List ℕ) → n ≤ maxNodes → least ≡ replicate maxNodes noNode → kinds ≡ replicate maxNodes single → GroupsLeft n g c s from 0 0 c from least firsts kinds
+  groups-start least firsts kinds small l k =
+      let e : g - 0 ≡ g = omega arith in
       record {
-        drawn = adding-done (x .drawn) (λ a b. unfold groupsFrom groupsAt inside in rw none);
-        marks = clearing-done (x .marks) (λ p. unfold groupsFrom groupsAt placed in rw none);
-        found = subst (Found n s (groupsFrom s from g) starts) last (x .found);
-        rest = ap (λ (y : ℕ). drop y s) f ∙ sym (rest-none s at (g - i) none) ∙ x .rest;
-      };
-}
-  where
-    none : g - i ≡ 0
-    none = omega arith
+        result = ap (λ (x : ℕ). groupsRead n x (taken least) 0 c s from) e ∙ groups-alike n g (taken least) (λ p. false) (λ p h. free p (omega arith)) 0 c s from;
+        nodes = filled-size least noNode l;
+        groups = filled-size kinds single k;
+        first = λ p h. ap₂ (λ (b : Bool) (x : ℕ). cond b (getD least p 0) (firstOf (groupsFrom s from x) p)) (free p h) e;
+        kind = λ p h. ap₂ (λ (b : Bool) (x : ℕ). cond b (getD kinds p 0) (kindLed (groupsFrom s from x) p)) (leads-not least p (λ f. omega (arith, none p h))) e;
+        others = λ p h _. ap (λ (t : List ℕ). getD t p 0) k ∙ getD-replicate {A = ℕ} maxNodes p single 0 h;
+        led = λ t h. absurd (omega arith);
+        placed = λ t h. absurd (omega arith);
+        shifted = λ t. let f : 0 + t ≡ t = omega arith in rw (e, f);
+        rest = rw e;
+      }
+    where
+      none : (p : ℕ) → p < maxNodes → getD least p 0 ≡ noNode
+      none p h = ap (λ (t : List ℕ). getD t p 0) l ∙ getD-replicate {A = ℕ} maxNodes p noNode 0 h
+
+      free : (p : ℕ) → p < maxNodes → taken least p ≡ false
+      free p h = taken-no least p noNode (sym (none p h)) refl
+
+  module _ (i low : ℕ) (left : Counts) (at : ℕ) (least firsts kinds : List ℕ) (more : i < g) (before : GroupsLeft n g c s from i low left at least firsts kinds) (r : Grouped) (least′ : List ℕ) (got : GroupTaken n low left s at least least′ r) where
+    one-more : g - i ≡ suc (g - (i + 1))
+    one-more = omega arith
+
+    -- no group: nothing is read
+    pub groups-broken : r ≡ Missing → Broken ≡ groupsRead n g (λ p. false) 0 c s from
+    groups-broken e = sym (read-missing n (g - (i + 1)) (taken least) low left s at (sym (got .result) ∙ e)) ∙ (rw one-more at (before .result))
+
+    module _ (small : n ≤ maxNodes) (kind first next : ℕ) (d : Counts) (is : r ≡ Taken kind first next d) where
+      told : GroupTold n (taken least) s at kind first next
+      told = taken-told n (taken least) low left s at kind first next d (sym (got .result) ∙ is)
+
+      put : LeastPut (listedAt s at) first least least′
+      put = got .put kind first next d is
+
+      pub first-small : first < maxNodes
+      first-small = omega (arith, told .free first (told .listed) .0)
+
+      abbrev others : List (Bool × List ℕ)
+      others = groupsFrom s next (g - (i + 1))
+
+      cons : groupsFrom s at (g - i) ≡ (eqb (getD s (at + 1) 0) 0x43, listedAt s at) ∷ groupsFrom s next (g - (i + 1))
+      cons = ap (groupsFrom s at) one-more ∙ from-step s at (g - (i + 1)) next (told .after)
+
+      mine : (p : ℕ) → member p (listedAt s at) ≡ true → getD least′ p 0 ≡ first
+      mine p m = put .least p ∙ ap (λ (b : Bool). cond b first (getD least p 0)) m
+
+      kept : (p : ℕ) → member p (listedAt s at) ≡ false → getD least′ p 0 ≡ getD least p 0
+      kept p m = put .least p ∙ ap (λ (b : Bool). cond b first (getD least p 0)) m
+
+      now-taken : (p : ℕ) → member p (listedAt s at) ≡ true → taken least′ p ≡ true
+      now-taken p m = taken-yes least′ p first (sym (mine p m)) (λ e. omega (arith, first-small))
+
+      taken-more : (p : ℕ) → taken least′ p ≡ (member p (listedAt s at) || taken least p)
+      taken-more p = by (decide (member p (listedAt s at)))
+        where
+          by : (member p (listedAt s at) ≡ true) ⊎ (member p (listedAt s at) ≡ false) → taken least′ p ≡ (member p (listedAt s at) || taken least p)
+          by (inl m) = now-taken p m ∙ sym (or-left (taken least p) m)
+          by (inr m) = taken-by least′ least p (kept p m) ∙ sym (ap (λ (b : Bool). b || taken least p) m)
+
+      leads-first : leads least′ first ≡ true
+      leads-first = leads-is least′ first (mine first (told .listed))
+
+      leads-not-yet : (p : ℕ) → p < maxNodes → member p (listedAt s at) ≡ true → leads least p ≡ false
+      leads-not-yet p h m = leads-not least p (λ e. omega (arith, untaken least p (told .free p m .1)))
+
+      leads-other : (p : ℕ) → p < maxNodes → (p ≡ first → ⊥) → leads least′ p ≡ leads least p
+      leads-other p h f = by (decide (member p (listedAt s at)))
+        where
+          by : (member p (listedAt s at) ≡ true) ⊎ (member p (listedAt s at) ≡ false) → leads least′ p ≡ leads least p
+          by (inl m) = leads-not least′ p (λ e. f (sym e ∙ mine p m)) ∙ sym (leads-not-yet p h m)
+          by (inr m) = leads-by least′ least p (kept p m)
+
+      first-step : (p x : ℕ) → cond (taken least′ p) (getD least′ p 0) x ≡ cond (taken least p) (getD least p 0) (cond (member p (listedAt s at)) (headOr 0 (listedAt s at)) x)
+      first-step p x = by (decide (member p (listedAt s at)))
+        where
+          by : (member p (listedAt s at) ≡ true) ⊎ (member p (listedAt s at) ≡ false) → cond (taken least′ p) (getD least′ p 0) x ≡ cond (taken least p) (getD least p 0) (cond (member p (listedAt s at)) (headOr 0 (listedAt s at)) x)
+          by (inl m) =
+              ap₂ (λ (b : Bool) (y : ℕ). cond b y x) (now-taken p m) (mine p m ∙ told .leader)
+              ∙ sym (ap₂ (λ (b b′ : Bool). cond b (getD least p 0) (cond b′ (headOr 0 (listedAt s at)) x)) (told .free p m .1) m)
+          by (inr m) =
+              ap₂ (λ (b : Bool) (y : ℕ). cond b y x) (taken-by least′ least p (kept p m)) (kept p m)
+              ∙ sym (ap (λ (b : Bool). cond (taken least p) (getD least p 0) (cond b (headOr 0 (listedAt s at)) x)) m)
+
+      kind-step : (p x : ℕ) → p < maxNodes → cond (leads least′ p) (getD (set kinds first kind) p 0) x ≡ cond (leads least p) (getD kinds p 0) (cond (eqb p (headOr 0 (listedAt s at))) (kindBy (eqb (getD s (at + 1) 0) 0x43) (length (listedAt s at))) x)
+      kind-step p x h = by (decide (eqb p first))
+        where
+          marked : ℕ
+          marked = kindBy (eqb (getD s (at + 1) 0) 0x43) (length (listedAt s at))
+
+          by : (eqb p first ≡ true) ⊎ (eqb p first ≡ false) → cond (leads least′ p) (getD (set kinds first kind) p 0) x ≡ cond (leads least p) (getD kinds p 0) (cond (eqb p (headOr 0 (listedAt s at))) (kindBy (eqb (getD s (at + 1) 0) 0x43) (length (listedAt s at))) x)
+          by (inl e) =
+              let f : p ≡ first = eqb-true p first e in
+              ap₂ (λ (b : Bool) (y : ℕ). cond b y x) (ap (leads least′) f ∙ leads-first) (ap (λ (y : ℕ). getD (set kinds first kind) y 0) f ∙ getD-set-same kinds first kind 0 (omega (arith, first-small, before .groups)) ∙ told .sort)
+              ∙ sym (ap₂ (λ (b b′ : Bool). cond b (getD kinds p 0) (cond b′ marked x)) (ap (leads least) f ∙ leads-not-yet first first-small (told .listed)) (ap (eqb p) (sym (told .leader)) ∙ e))
+          by (inr e) =
+              ap₂ (λ (b : Bool) (y : ℕ). cond b y x) (leads-other p h (eqb-false p first e)) (getD-set-other kinds first p kind 0 (eqb-false p first e))
+              ∙ sym (ap (λ (b : Bool). cond (leads least p) (getD kinds p 0) (cond b marked x)) (ap (eqb p) (sym (told .leader)) ∙ e))
+
+      first-here : firstAt (groupsFrom s from g) i ≡ first
+      first-here =
+          let e : i + 0 ≡ i = omega arith in
+          (rw e at (before .shifted 0)) ∙ ap (λ (l : List (Bool × List ℕ)). firstAt l 0) cons ∙ at-zero (eqb (getD s (at + 1) 0) 0x43, listedAt s at) others ∙ sym (told .leader)
+
+      pub groups-more : i < length firsts → GroupsLeft n g c s from (i + 1) (first + 1) d next least′ (set firsts i first) (set kinds first kind)
+      groups-more fits = record {
+        result =
+            groups-alike n (g - (i + 1)) (taken least′) (λ p. member p (listedAt s at) || taken least p) (λ p h. taken-more p) (first + 1) d s next
+            ∙ ap (λ (x : ℕ). groupsRead n (g - (i + 1)) (λ p. member p (listedAt s at) || taken least p) x d s next) one
+            ∙ sym (read-taken n (g - (i + 1)) (taken least) low left s at kind first next d (sym (got .result) ∙ is))
+            ∙ (rw one-more at (before .result));
+        nodes = put .size ∙ before .nodes;
+        groups = length-set kinds first kind ∙ before .groups;
+        first = λ p h. first-step p (firstOf others p) ∙ sym (ap (λ (l : List (Bool × List ℕ)). cond (taken least p) (getD least p 0) (firstOf l p)) cons ∙ (unfold firstOf in refl)) ∙ before .first p h;
+        kind = λ p h. kind-step p (kindLed others p) h ∙ sym (ap (λ (l : List (Bool × List ℕ)). cond (leads least p) (getD kinds p 0) (kindLed l p)) cons ∙ (unfold kindLed in refl)) ∙ before .kind p h;
+        others = λ p h f. unled p h f (decide (eqb p first));
+        led = λ k h. led k h (decide (eqb k i));
+        placed = λ k h. placed k h (decide (eqb k i));
+        shifted = λ k. let e : i + 1 + k ≡ i + suc k = omega arith in rw e (before .shifted (suc k) ∙ ap (λ (l : List (Bool × List ℕ)). firstAt l (suc k)) cons ∙ at-suc (eqb (getD s (at + 1) 0) 0x43, listedAt s at) others k);
+        rest = sym (after-step s at (g - (i + 1)) next (told .after)) ∙ (rw one-more at (before .rest));
+      }
+        where
+          one : first + 1 ≡ suc first
+          one = omega arith
+
+          unled : (p : ℕ) → p < maxNodes → leads least′ p ≡ false → (eqb p first ≡ true) ⊎ (eqb p first ≡ false) → getD (set kinds first kind) p 0 ≡ single
+          unled p h f (inl e) = differ (ap (leads least′) (eqb-true p first e) ∙ leads-first) f
+          unled p h f (inr e) = getD-set-other kinds first p kind 0 (eqb-false p first e) ∙ before .others p h (sym (leads-other p h (eqb-false p first e)) ∙ f)
+
+          led : (k : ℕ) → k < i + 1 → (eqb k i ≡ true) ⊎ (eqb k i ≡ false) → getD (set firsts i first) k 0 ≡ firstAt (groupsFrom s from g) k
+          led k h (inl e) = rw (eqb-true k i e, getD-set-same firsts i first 0 fits) (sym first-here)
+          led k h (inr e) = getD-set-other firsts i k first 0 (eqb-false k i e) ∙ before .led k (omega (arith, eqb-false k i e))
+
+          placed : (k : ℕ) → k < i + 1 → (eqb k i ≡ true) ⊎ (eqb k i ≡ false) → getD (set firsts i first) k 0 < maxNodes
+          placed k h (inl e) = rw (eqb-true k i e, getD-set-same firsts i first 0 fits) first-small
+          placed k h (inr e) = rw (getD-set-other firsts i k first 0 (eqb-false k i e)) (before .placed k (omega (arith, eqb-false k i e)))
+
+  -- what the function hands back: all groups, or none
+  pub groups-none : (least firsts₀ firsts kinds : List ℕ) → length least ≡ maxNodes → length kinds ≡ maxNodes → length firsts ≡ length firsts₀ → Broken ≡ groupsRead n g (λ p. false) 0 c s from → GroupsRead n g c s from least firsts₀ firsts kinds Broken
+  groups-none least firsts₀ firsts kinds a b h e = record { result = e; nodes = a; groups = b; size = h; held = λ next left f. none f }
+    where
+      none : {next : ℕ} {left : Counts} → Broken ≡ Whole next left → GroupsHeld g s from next least firsts kinds
+      none f = let z : _≡_ {A = ℕ} 0 1 = cc in absurd (omega arith)
+
+  pub groups-all : (i low : ℕ) (left : Counts) (at : ℕ) (least firsts₀ firsts kinds : List ℕ) → i ≡ g → length firsts ≡ length firsts₀ → GroupsLeft n g c s from i low left at least firsts kinds → GroupsRead n g c s from least firsts₀ firsts kinds (Whole at left)
+  groups-all i low left at least firsts₀ firsts kinds last a x = record {
+    result = sym (whole (g - i) none) ∙ x .result;
+    nodes = x .nodes;
+    groups = x .groups;
+    size = a;
+    held =
+        λ next l e.
+        let f : next ≡ at = cc in
+        record {
+          first = λ p h. sym (taken-or least p) ∙ sym (ap (λ (y : List (Bool × List ℕ)). cond (taken least p) (getD least p 0) (firstOf y p)) ended ∙ (unfold firstOf in refl)) ∙ x .first p h;
+          kind = λ p h. sym (unmarked p h (decide (leads least p))) ∙ sym (ap (λ (y : List (Bool × List ℕ)). cond (leads least p) (getD kinds p 0) (kindLed y p)) ended ∙ (unfold kindLed in refl)) ∙ x .kind p h;
+          led = λ k h. x .led k (omega arith);
+          placed = λ k h. x .placed k (omega arith);
+          rest = ap (λ (y : ℕ). drop y s) f ∙ sym (after (g - i) none) ∙ x .rest;
+        };
+  }
+    where
+      none : g - i ≡ 0
+      none = omega arith
+
+      whole : (k : ℕ) → k ≡ 0 → groupsRead n k (taken least) low left s at ≡ Whole at left
+      whole k e = unfold groupsRead in rw e
+
+      after : (k : ℕ) → k ≡ 0 → restFrom s at k ≡ drop at s
+      after k e = unfold restFrom afterGroups in rw e
+
+      ended : groupsFrom s at (g - i) ≡ []
+      ended = unfold groupsFrom groupsAt in rw none
+
+      unmarked : (p : ℕ) → p < maxNodes → (leads least p ≡ true) ⊎ (leads least p ≡ false) → cond (leads least p) (getD kinds p 0) single ≡ getD kinds p 0
+      unmarked p h (inl t) = rw t
+      unmarked p h (inr t) = ap (λ (b : Bool). cond b (getD kinds p 0) single) t ∙ sym (x .others p h t)

@@ -1,15 +1,7 @@
-pub mod Records
-pub mod Drawing
 pub mod Decoding
-pub mod RecordLaws
-pub mod BitLaws
-pub mod DrawingLaws
-pub mod DecodingLaws
 pub mod GroupLaws
 pub mod SuperedgeLaws
-pub mod DecodedLaws
-pub mod ToldLaws
-pub mod AcceptLaws
+pub mod DecodingLaws
 pub mod Bytes
 pub mod BytesLaws
-pub mod HeldLaws
+pub mod AcceptLaws

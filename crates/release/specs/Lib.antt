@@ -1,9 +1,6 @@
-pub mod Numbers
-pub mod Release
 pub mod Fill
 pub mod FillLaws
+pub mod Release
 pub mod TableLaws
-pub mod WholeLaws
 pub mod ReleaseLaws
 pub mod ReadLaws
-pub mod JudgeLaws

@@ -1,28 +1,32 @@
-// The neighbours of a node in a decoded graph.
+// The neighbours that a row tells.
 ghost use mathlib.Core.Path.{_≡_};
-ghost use Prim.Native.Nat.{_<_, _≤_};
+ghost use Prim.Native.Nat.{_≤_};
 ghost use lib.ListN.{length};
-ghost use Rattle.model.specs.Graph.{maxNodes};
+ghost use Rattle.model.specs.Graph.{maxNodes, rowWords};
 ghost use Rattle.index.specs.Index.{listed};
 ghost use Rattle.release.specs.Release.{rowTold};
 use index::Listed;
-use rows::Graph;
 
-// The neighbours that p's row tells, or 18.
-pub fn answer(drawn: &[u64], n: usize, p: usize, out: &mut [u16]) -> Listed
-    requires { ⌜ (n ≤ maxNodes) × (length (now drawn) ≡ 4096) × (p < n) ⌝ }
-    ensures { λ r. ⌜ listed (r .result) (r .count) (now (out .exit)) ≡ rowTold (now (drawn .entry)) n p (now (out .entry)) ⌝ }
+// A call refused with a number.
+pub fn refused(number: u16) -> Listed
+    ensures { λ r. ⌜ (r .result ≡ number) × (r .count ≡ 0) ⌝ }
 {
-    let end = Graph::ROW_WORDS * n;
-    let rows = &drawn[..end];
-    let count = queries::count_neighbours(rows, n, p);
-    if out.len() < count {
-        return Listed {
-            result: 18,
-            count: 0,
-        };
+    Listed {
+        result: number,
+        count: 0,
     }
-    queries::write_neighbours(rows, n, p, out);
+}
+
+// The nodes of a row, or 18.
+pub fn answer(row: &[u64], n: usize, out: &mut [u16]) -> Listed
+    requires { ⌜ (n ≤ maxNodes) × (length (now row) ≡ rowWords) ⌝ }
+    ensures { λ r. ⌜ listed (r .result) (r .count) (now (out .exit)) ≡ rowTold (now (row .entry)) n (now (out .entry)) ⌝ }
+{
+    let count = queries::count_neighbours(row, n);
+    if out.len() < count {
+        return refused(18);
+    }
+    queries::write_neighbours(row, n, out);
     Listed {
         result: 0,
         count: count as u16,

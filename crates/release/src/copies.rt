@@ -1,19 +1,10 @@
-// Words and marks moved between tables and local arrays.
+// Marks taken from a node table, and put into one.
 ghost use mathlib.Core.Path.{_≡_};
 ghost use Prim.Native.Nat.{_+_, _*_, _≤_};
 ghost use lib.ListN.{length};
 ghost use Rattle.model.specs.Graph.{maxNodes, nodeNumbers};
-ghost use Rattle.release.specs.Fill.{Copied, MarksPut, MarksTaken};
+ghost use Rattle.release.specs.Fill.{MarksPut, MarksTaken, markFor};
 use rows::Graph;
-
-pub fn copy_words(from: &[u64], to: &mut [u64])
-    requires { ⌜ length (now to) ≤ length (now from) ⌝ }
-    ensures { λ _. ⌜ Copied (length (now (to .entry))) (now (from .entry)) (now (to .entry)) (now (to .exit)) ⌝ }
-{
-    for i in 0..to.len() {
-        to[i] = from[i];
-    }
-}
 
 // The marks of a node table, into a list of their own.
 pub fn take_marks(nodes: &[u16], n: usize, hidden: &mut [u16])
@@ -25,12 +16,19 @@ pub fn take_marks(nodes: &[u16], n: usize, hidden: &mut [u16])
     }
 }
 
-// And back.
-pub fn put_marks(hidden: &[u16], n: usize, nodes: &mut [u16])
-    requires { ⌜ (n ≤ maxNodes) × (length (now nodes) ≡ nodeNumbers * n) × (n ≤ length (now hidden)) ⌝ }
-    ensures { λ _. ⌜ MarksPut n (now (hidden .entry)) (now (nodes .entry)) (now (nodes .exit)) ⌝ }
+// The mark of a node by its first member: 1 for none.
+fn mark_for(first: u16) -> u16
+    ensures { λ r. ⌜ r ≡ markFor first ⌝ }
+{
+    if first == Graph::NONE { 1 } else { 0 }
+}
+
+// Nodes of no group are marked as hidden.
+pub fn put_marks(least: &[u16], n: usize, nodes: &mut [u16])
+    requires { ⌜ (n ≤ maxNodes) × (length (now nodes) ≡ nodeNumbers * n) × (n ≤ length (now least)) ⌝ }
+    ensures { λ _. ⌜ MarksPut n (now (least .entry)) (now (nodes .entry)) (now (nodes .exit)) ⌝ }
 {
     for p in 0..n {
-        nodes[Graph::NODE_NUMBERS * p + groups::MARK] = hidden[p];
+        nodes[Graph::NODE_NUMBERS * p + groups::MARK] = mark_for(least[p]);
     }
 }

@@ -12,6 +12,7 @@ ghost use Rattle.writer.specs.Written.{answer};
 ghost use Rattle.index.specs.Index.{listed, opened};
 ghost use Rattle.tables.specs.Lent.{Held};
 ghost use Rattle.release.specs.Release.{told};
+use compressed::SINGLE;
 use index::Listed;
 use reader::Decoded;
 use rows::Graph;
@@ -19,7 +20,6 @@ use writer::Written;
 
 mod asking;
 mod copies;
-mod judging;
 mod reading;
 
 // The edges between visible nodes, and the least members of their groups: what the release writer needs.
@@ -77,16 +77,17 @@ pub fn read(n: usize, edges: &mut [u64], nodes: &mut [u16], keys: &mut [u32], fi
     if !tables::right_size(n, edges, nodes, keys) {
         return 11;
     }
-    let mut drawn = [0u64; Graph::NODES * Graph::ROW_WORDS];
-    let mut hidden = [1u16; Graph::NODES];
-    let judged = judging::judge(file, &mut drawn, &mut hidden);
+    let mut least = [Graph::NONE; Graph::NODES];
+    let mut kinds = [SINGLE; Graph::NODES];
+    let mut joined = [0u64; Graph::NODES * Graph::ROW_WORDS];
+    let judged = judging::judge(file, &mut least, &mut kinds, &mut joined);
     let Decoded::Graph { n: told } = judged else {
         return 19;
     };
     if told != n {
         return 20;
     }
-    reading::fill(n, &drawn, &hidden, edges, nodes, keys);
+    reading::fill(n, &mut least, &kinds, &joined, edges, nodes, keys);
     0
 }
 
@@ -94,27 +95,20 @@ pub fn read(n: usize, edges: &mut [u64], nodes: &mut [u16], keys: &mut [u32], fi
 pub fn file_neighbours(file: &[u8], p: u16, out: &mut [u16]) -> Listed
     ensures { λ r. ⌜ listed (r .result) (r .count) (now (out .exit)) ≡ fileNeighboursCall (now (file .entry)) p (now (out .entry)) ⌝ }
 {
-    let mut drawn = [0u64; Graph::NODES * Graph::ROW_WORDS];
-    let mut hidden = [1u16; Graph::NODES];
-    let judged = judging::judge(file, &mut drawn, &mut hidden);
+    let mut least = [Graph::NONE; Graph::NODES];
+    let mut kinds = [SINGLE; Graph::NODES];
+    let mut joined = [0u64; Graph::NODES * Graph::ROW_WORDS];
+    let judged = judging::judge(file, &mut least, &mut kinds, &mut joined);
     let Decoded::Graph { n } = judged else {
-        return Listed {
-            result: 19,
-            count: 0,
-        };
+        return asking::refused(19);
     };
     let node = p as usize;
     if node >= n {
-        return Listed {
-            result: 14,
-            count: 0,
-        };
+        return asking::refused(14);
     }
-    if hidden[node] == 1 {
-        return Listed {
-            result: 14,
-            count: 0,
-        };
+    if least[node] == Graph::NONE {
+        return asking::refused(14);
     }
-    asking::answer(&drawn, n, node, out)
+    let row = unfolding::neighbour_row(&least, &kinds, &joined, n, node);
+    asking::answer(&row, n, out)
 }

@@ -1,42 +1,75 @@
 // A release read back into tables.
 ghost use mathlib.Core.Path.{_≡_};
-ghost use Prim.Native.Nat.{_≤_};
+ghost use Prim.Native.Nat.{_*_};
 ghost use lib.ListN.{length};
-ghost use Rattle.model.specs.Graph.{Proper};
 ghost use Rattle.model.specs.Tables.{tablesOf};
 ghost use Rattle.rows.specs.Rows.{lent};
-ghost use Rattle.search.specs.Search.{Within, graphIn as rowsGraph};
-ghost use Rattle.keys.specs.KeySums.{LeastTold};
-ghost use Rattle.reader.specs.Decoding.{HoldsGraph, graphIn};
+ghost use Rattle.compressed.specs.Compressed.{unfolded};
+ghost use Rattle.judging.specs.Judging.{Exact};
+ghost use Rattle.adopting.specs.Adopting.{VisibleTold};
 ghost use Rattle.tables.specs.Lent.{Sized};
+ghost use Rattle.release.specs.Fill.{Filled, Keyed};
 use crate::copies;
-use rows::Graph;
 
-// The least members of the groups of all nodes: none is marked as hidden.
-fn group_all(edges: &[u64], n: usize, least: &mut [u16])
-    requires { ⌜ Within n (now edges) × Proper (rowsGraph n (now edges)) × (n ≤ length (now least)) ⌝ }
-    ensures { λ _. ⌜ LeastTold n (now (edges .entry)) (now (least .exit)) ⌝ }
+// The first members of all nodes, and with them the keys by rows: for rows with many bits.
+fn key_rows(n: usize, least: &mut [u16], edges: &[u64], keys: &mut [u32])
+    requires { ⌜ VisibleTold n (now edges) (now least) × (length (now keys) ≡ 2 * n) ⌝ }
+    ensures { λ _. ⌜ Keyed n (now (edges .entry)) (now (least .exit)) (now (keys .exit)) ⌝ }
 {
-    let marks = [0u16; Graph::NODES];
-    grouping::find_groups(edges, &marks, n, least);
+    adopting::adopt_hidden(edges, n, least);
+    keys::sum_dense(edges, least, keys, n);
 }
 
-// The tables of the graph that stands in arrays.
+// The keys by groups, and the first members of all nodes.
+fn key_groups(
+    n: usize,
+    least: &mut [u16],
+    kinds: &[u16],
+    joined: &[u64],
+    edges: &[u64],
+    keys: &mut [u32],
+)
+    requires { ⌜ Filled n (now least) (now kinds) (now joined) (now edges) × (length (now keys) ≡ 2 * n) ⌝ }
+    ensures { λ _. ⌜ Keyed n (now (edges .entry)) (now (least .exit)) (now (keys .exit)) ⌝ }
+{
+    sums::sum_grouped(joined, least, kinds, keys, n);
+    adopting::adopt_hidden(edges, n, least);
+}
+
+// The keys, and the first members of all nodes, hidden ones among those without edges.
+fn fill_keys(
+    n: usize,
+    least: &mut [u16],
+    kinds: &[u16],
+    joined: &[u64],
+    edges: &[u64],
+    keys: &mut [u32],
+)
+    requires { ⌜ Filled n (now least) (now kinds) (now joined) (now edges) × (length (now keys) ≡ 2 * n) ⌝ }
+    ensures { λ _. ⌜ Keyed n (now (edges .entry)) (now (least .exit)) (now (keys .exit)) ⌝ }
+{
+    if keys::has_many_bits(joined) {
+        key_rows(n, least, edges, keys);
+        return;
+    }
+    key_groups(n, least, kinds, joined, edges, keys);
+}
+
+// The tables of a graph held by its groups. Their first members become those of all nodes.
 pub fn fill(
     n: usize,
-    drawn: &[u64],
-    hidden: &[u16],
+    least: &mut [u16],
+    kinds: &[u16],
+    joined: &[u64],
     edges: &mut [u64],
     nodes: &mut [u16],
     keys: &mut [u32],
 )
-    requires { ⌜ HoldsGraph n (now drawn) (now hidden) × (length (now drawn) ≡ 4096) × (length (now hidden) ≡ 512) × Sized n (lent (now edges) (now nodes) (now keys)) ⌝ }
-    ensures { λ _. ⌜ lent (now (edges .exit)) (now (nodes .exit)) (now (keys .exit)) ≡ tablesOf (graphIn n (now (drawn .entry)) (now (hidden .entry))) ⌝ }
+    requires { ⌜ Exact n (now least) (now kinds) (now joined) × Sized n (lent (now edges) (now nodes) (now keys)) ⌝ }
+    ensures { λ _. ⌜ lent (now (edges .exit)) (now (nodes .exit)) (now (keys .exit)) ≡ tablesOf (unfolded n (now (least .entry)) (now (kinds .entry)) (now (joined .entry))) ⌝ }
 {
-    copies::copy_words(drawn, edges);
-    copies::put_marks(hidden, n, nodes);
-    let mut least = [0u16; Graph::NODES];
-    group_all(edges, n, &mut least);
-    keys::sum_keys(edges, &least, keys, n);
-    groups::build(nodes, &least, n);
+    unfolding::fill_edges(least, kinds, joined, n, edges);
+    copies::put_marks(least, n, nodes);
+    fill_keys(n, least, kinds, joined, edges, keys);
+    groups::build(nodes, least, n);
 }

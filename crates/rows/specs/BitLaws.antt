@@ -8,9 +8,9 @@ use native.Mathlib.Nat.{one-mul, pow-suc, div-eq-of-lt, mul-comm, zero-div}
 use native.Mathlib.Omega.{arith}
 use lib.Bits.{bitXor, differ, xor-step, xor-shr, xor-lt}
 use lib.Dec.{eqb, ltb, lit<}
-use lib.ListN.{length, getD, set, length-set}
+use lib.ListN.{length, getD, set, take, drop, length-set}
 use lib.Pow.{pow-add, pow-lt, shl-exact, shl-shr, mod-pow-add}
-use lib.Seq.{getD-set-same, getD-set-other}
+use lib.Seq.{getD-drop, getD-set-other, getD-set-same, getD-take}
 use borrow.Author.Tests.{eqb-true, eqb-false, eq-eqb, ne-eqb, ltb-true, ltb-false}
 use Rattle.model.specs.Tables.{bitAt, edgeBit, word}
 use Rattle.model.specs.TestLaws.{and-fst, decide, iff-eq}
@@ -205,3 +205,11 @@ word-bit edges p j c h =
     let x : (64 * j + c) / 64 ≡ j = omega arith in
     let y : (64 * j + c) % 64 ≡ c = omega arith in
     rw (x, y)
+
+-- a bit of a row that is lent as a part of the table
+pub row-bit : (edges : List ℕ) (p q : ℕ) → q < 512 → edgeBit (take (8 * p + 8 - 8 * p) (drop (8 * p) edges)) 0 q ≡ edgeBit edges p q
+unfolding edgeBit
+row-bit edges p q l =
+    let k : 8 * p + 8 - 8 * p ≡ 8 = omega arith in
+    let z : 8 * 0 + q / 64 ≡ q / 64 = omega arith in
+    rw (k, z, getD-take 8 (drop (8 * p) edges) (q / 64) 0 (omega arith), getD-drop (8 * p) edges (q / 64) 0)

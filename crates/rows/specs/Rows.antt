@@ -15,6 +15,10 @@ use Rattle.model.specs.Updates.{isPair}
 abbrev pub lent : List ℕ → List ℕ → List ℕ → Tables
 lent edges nodes keys = record { edges = edges; nodes = nodes; keys = keys }
 
+-- stands for no node, where a node number is kept
+abbrev pub noNode : ℕ
+noNode = 65535
+
 -- words of 64 bits
 abbrev pub Words : List ℕ → Type 0
 Words t = (i : ℕ) → getD t i 0 < 2 ^ 64

@@ -24,6 +24,9 @@ impl Graph {
 
     pub const NODE_NUMBERS: usize = 4;
 
+    // Stands for no node.
+    pub const NONE: u16 = 65535;
+
     // The numbers of an update, as a batch lends it.
     pub const UPDATE_NUMBERS: usize = 3;
 
@@ -90,7 +93,7 @@ pub fn edge(edges: &[u64], p: usize, q: usize) -> bool
 }
 
 // Node q's bit in node p's row, the other way.
-fn flip_edge(edges: &mut [u64], p: usize, q: usize)
+pub fn flip_edge(edges: &mut [u64], p: usize, q: usize)
     requires { ⌜ (p < maxNodes) × (q < maxNodes) × (rowWords * p + rowWords ≤ length (now edges)) ⌝ }
     ensures { λ _. ⌜ Flipped p q (now (edges .entry)) (now (edges .exit)) ⌝ }
 {

@@ -106,6 +106,9 @@ module _ (c : Bool) (u q : ℕ) (row other : List ℕ) where
       step (inl t) = absurd (h (meets-each k t i l))
       step (inr t) = t
 
+  pub meets-differ : (i own : ℕ) → i < 8 → own ≡ ownBits c u q i → (bitXor (getD row i 0) (getD other i 0) ≡ own → ⊥) → meets c u q row other 8 ≡ false
+  meets-differ i own l e d = meets-not 8 i l (λ h. d (h ∙ sym e))
+
 row-word : (edges : List ℕ) (p k : ℕ) → k < 8 → getD (rowIn edges p) k 0 ≡ getD edges (8 * p + k) 0
 row-word edges p k l = getD-take 8 (drop (8 * p) edges) k 0 l ∙ getD-drop (8 * p) edges k 0
 
@@ -117,11 +120,13 @@ module _ (c : Bool) (u q : ℕ) (edges : List ℕ) where
   pub meets-by : ((k : ℕ) → k < 8 → bitXor (getD edges (8 * u + k) 0) (getD edges (8 * q + k) 0) ≡ ownBits c u q k) → meets c u q (rowIn edges u) (rowIn edges q) 8 ≡ true
   meets-by h = meets-all c u q (rowIn edges u) (rowIn edges q) 8 (λ k l. rw (row-word edges u k l, row-word edges q k l) (h k l))
 
-  pub meets-differ : (i own : ℕ) → i < 8 → own ≡ ownBits c u q i → (bitXor (getD edges (8 * u + i) 0) (getD edges (8 * q + i) 0) ≡ own → ⊥) → meets c u q (rowIn edges u) (rowIn edges q) 8 ≡ false
-  meets-differ i own l e d = meets-not c u q (rowIn edges u) (rowIn edges q) 8 i l (λ h. d ((rw (row-word edges u i l, row-word edges q i l) at h) ∙ sym e))
-
 pub row-part : (edges : List ℕ) (p : ℕ) → take (8 * p + 8 - 8 * p) (drop (8 * p) edges) ≡ rowIn edges p
 row-part edges p = let e : 8 * p + 8 - 8 * p ≡ 8 = omega arith in rw e
+
+-- rows lent as parts of the table
+pub meets-parts : (c : Bool) (u q : ℕ) (edges : List ℕ) {r : Bool} → r ≡ meets c u q (take (8 * u + 8 - 8 * u) (drop (8 * u) edges)) (take (8 * q + 8 - 8 * q) (drop (8 * q) edges)) 8
+    → r ≡ meets c u q (rowIn edges u) (rowIn edges q) 8
+meets-parts c u q edges e = e ∙ rw (row-part edges u, row-part edges q)
 
 -- trying is joining
 module _ (n : ℕ) (edges table keys : List ℕ) (ready : Ready n edges keys) (u w q : ℕ) (hu : u < n) (hq : q < n) where

@@ -61,14 +61,14 @@ own-bits-lt true u q i = xor-lt 64 (ownBit u i) (ownBit q i) (own-bit-lt u i) (o
 own-bits-lt false u q i = pow-pos 64
 
 -- tests by xor
-xor-none : (a b : Bool) → xor a b ≡ false → a ≡ b
+pub xor-none : (a b : Bool) → xor a b ≡ false → a ≡ b
 unfolding xor
 xor-none true true h = refl
 xor-none true false h = differ refl h
 xor-none false true h = differ refl h
 xor-none false false h = refl
 
-xor-same : (a : Bool) → xor a a ≡ false
+pub xor-same : (a : Bool) → xor a a ≡ false
 unfolding xor
 xor-same true = refl
 xor-same false = refl
@@ -93,7 +93,7 @@ xor-swap true false false false h = differ refl h
 xor-swap false true true true h = differ refl h
 xor-swap false true false false h = differ refl h
 
-or-xor : (a b : Bool) → (b ≡ true → a ≡ false) → (a || b) ≡ xor a b
+pub or-xor : (a b : Bool) → (b ≡ true → a ≡ false) → (a || b) ≡ xor a b
 unfolding xor
 or-xor true true h = differ refl (h refl)
 or-xor true false h = refl

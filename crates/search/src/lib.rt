@@ -4,7 +4,7 @@ ghost use mathlib.Core.Bool.{false};
 ghost use Prim.Native.Nat.{_+_, _*_, _≤_, _<_};
 ghost use lib.ListN.{length};
 ghost use Rattle.model.specs.Graph.{maxNodes, rowWords, nodeNumbers};
-ghost use Rattle.search.specs.Search.{Passed, Ready, Skipped, block, firstFrom, joins, keyAgrees, keysAgree, mayJoin, meets, ownBit, ownBits, rowIn, tried};
+ghost use Rattle.search.specs.Search.{Passed, Ready, Skipped, block, firstFrom, joins, keyAgrees, keysAgree, mayJoin, meets, ownBit, ownBits, tried};
 use rows::Graph;
 
 // Whether key k of u and of q agree: 0 the open one, 1 the closed one.
@@ -54,7 +54,7 @@ pub fn own_bit(q: usize, i: usize) -> u64
 }
 
 // Where word i of the rows of u and q has to differ: nowhere for open rows, in their own bits for closed ones.
-fn own_bits(closed: bool, u: usize, q: usize, i: usize) -> u64
+pub fn own_bits(closed: bool, u: usize, q: usize, i: usize) -> u64
     ensures { λ r. ⌜ r ≡ ownBits closed u q i ⌝ }
 {
     if closed {
@@ -64,15 +64,13 @@ fn own_bits(closed: bool, u: usize, q: usize, i: usize) -> u64
 }
 
 // Whether the rows of u and q agree, as open or as closed ones.
-pub fn same_row(edges: &[u64], closed: bool, u: usize, q: usize) -> bool
-    requires { ⌜ (u < maxNodes) × (q < maxNodes) × (rowWords * u + rowWords ≤ length (now edges)) × (rowWords * q + rowWords ≤ length (now edges)) ⌝ }
-    ensures { λ r. ⌜ r ≡ meets closed u q (rowIn (now (edges .entry)) u) (rowIn (now (edges .entry)) q) rowWords ⌝ }
+pub fn same_row(row: &[u64], other: &[u64], closed: bool, u: usize, q: usize) -> bool
+    requires { ⌜ (length (now row) ≡ rowWords) × (length (now other) ≡ rowWords) ⌝ }
+    ensures { λ r. ⌜ r ≡ meets closed u q (now (row .entry)) (now (other .entry)) rowWords ⌝ }
 {
-    let a = Graph::ROW_WORDS * u;
-    let b = Graph::ROW_WORDS * q;
     let mut i = 0;
     while i < Graph::ROW_WORDS {
-        if edges[a + i] ^ edges[b + i] != own_bits(closed, u, q, i) {
+        if row[i] ^ other[i] != own_bits(closed, u, q, i) {
             return false;
         }
         i += 1;

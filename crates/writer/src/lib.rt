@@ -15,9 +15,6 @@ ghost use Rattle.layout.specs.Words.{Leading, Marked, Placed, Rowed, laterWord,
 ghost use Rattle.writer.specs.Written.{Measured, answer};
 use rows::Graph;
 
-// Stands for no node: after the last member of a group, and at hidden nodes.
-const NONE: u16 = 65535;
-
 // The mark and the count before the members of a group.
 const GROUP_HEAD: usize = 4;
 
@@ -330,7 +327,7 @@ fn link(least: &[u16], n: usize, next: &mut [u16])
     requires { ⌜ (n ≤ maxNodes) × (n ≤ length (now least)) × (n ≤ length (now next)) ⌝ }
     ensures { λ _. ⌜ Linked n (now (least .entry)) (now (next .exit)) ⌝ }
 {
-    let mut head = [NONE; Graph::NODES];
+    let mut head = [Graph::NONE; Graph::NODES];
     let mut p = n;
     while 0 < p {
         p -= 1;
@@ -339,7 +336,7 @@ fn link(least: &[u16], n: usize, next: &mut [u16])
             next[p] = head[l];
             head[l] = p as u16;
         } else {
-            next[p] = NONE;
+            next[p] = Graph::NONE;
         }
     }
 }
@@ -360,7 +357,7 @@ fn write_file(
     requires { ⌜ length (fileOf n (now least) (now edges)) ≤ length (now out) ⌝ }
     ensures { λ r. ⌜ Wrote (now (out .entry)) 0 (fileOf n (now (least .entry)) (now (edges .entry))) (now (out .exit)) r ⌝ }
 {
-    let mut next = [NONE; Graph::NODES];
+    let mut next = [Graph::NONE; Graph::NODES];
     link(least, n, &mut next);
     let position = positions_of(leaders);
     let a = write_head(out, 0, n, m, leaders.len());

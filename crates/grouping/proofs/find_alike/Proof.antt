@@ -1,72 +1,130 @@
--- The invariant: c stands in the chain, and whoever is alike is not above it.
+-- `grouping::find_alike` meets its contract.
+-- Outer invariant: c stands in the chain, and whoever is alike is not above it. Inner invariant: the words before i agree.
 use mathlib.Core.Bool.{Bool}
-use mathlib.Core.Path.{_≡_}
-use Prim.Native.Nat.{ℕ, _≤_}
+use mathlib.Core.Path.{_≡_, _∙_}
+use Prim.Native.Nat.{ℕ, _-_, _≤_, _<_}
 use native.Mathlib.Omega.{arith}
+use lib.Bits.{bitXor}
+use lib.ListN.{getD}
+use borrow.Author.Count.{below-more, below-none}
 use borrow.Author.Needs.{needs}
-use Rattle.grouping.specs.ChainLaws.{Seeking, alike-told, links-less, met-hit, met-miss, seeking-on, seeking-start}
-use Rattle.grouping.specs.Chains.{Chains, alike}
+use Rattle.search.specs.Search.{ownBits}
+use Rattle.compressed.specs.Compressed.{alike}
+use Rattle.grouping.specs.ChainLaws.{Seeking, alike-agrees, alike-differs, links-less, met-hit, met-miss, row-size, seeking-on, seeking-start}
+use Rattle.grouping.specs.Chains.{Chains}
 use Rattle.grouping.proofs.find_alike.Statement.{statement}
 use Rattle.grouping.proofs.find_alike.Tie as tie
 
 abbrev Inv-loop : tie.InvT-loop
-Inv-loop edges chains closed u s c₀ c = (c ≤ u) × ((slot : ℕ → ℕ) (leads : ℕ → Bool) → slot u ≡ s → Chains slot leads u chains → Seeking slot leads (alike edges closed u) u c)
+Inv-loop edges chains closed u s row c q a other i₀ i = (i ≤ 8) × ((k : ℕ) → k < i → bitXor (getD row k 0) (getD other k 0) ≡ ownBits closed u q k)
 
 abbrev μ-loop : tie.MeasureT-loop
-μ-loop edges chains closed u s c₀ c = c
+μ-loop edges chains closed u s row c q a other i₀ i = 8 - i
 
-mul-wide : tie.Need-mul-wide Inv-loop μ-loop
-mul-wide c = omega arith
+abbrev Inv-groups : tie.InvT-groups
+Inv-groups edges chains closed u s row c₀ c = (c ≤ u) × ((slot : ℕ → ℕ) (leads : ℕ → Bool) → slot u ≡ s → Chains slot leads u chains → Seeking slot leads (alike edges closed u) u c)
 
-shared-slice-read-wide : tie.Need-shared-slice-read-wide Inv-loop μ-loop
-shared-slice-read-wide c = omega (arith, c .before .before .before .pre .3 .size)
+abbrev μ-groups : tie.MeasureT-groups
+μ-groups edges chains closed u s row c₀ c = c
 
-wide-requires : tie.Need-wide-requires Inv-loop μ-loop
+mul-wide : tie.Need-mul-wide Inv-loop μ-loop Inv-groups μ-groups
+mul-wide c = search needs
+
+shared-slice-read-wide : tie.Need-shared-slice-read-wide Inv-loop μ-loop Inv-groups μ-groups
+shared-slice-read-wide c = omega (arith, c .before .before .before .before .pre .3 .size)
+
+wide-requires : tie.Need-wide-requires Inv-loop μ-loop Inv-groups μ-groups
 wide-requires c κs = search needs
 
-loop-holds : tie.Need-loop-holds Inv-loop μ-loop
-loop-holds c =
-    let pre = c .before .before .before .before .pre in
+groups-holds : tie.Need-groups-holds Inv-loop μ-loop Inv-groups μ-groups
+groups-holds c =
+    let pre = c .before .before .before .before .before .pre in
     (omega (arith, c .wide .ensures, pre .3 .below _ (pre .2)), λ slot leads es k. seeking-start _ k es (pre .2) (c .wide .ensures))
 
-sub-q : tie.Need-sub-q Inv-loop μ-loop
-sub-q c = omega arith
+sub-q : tie.Need-sub-q Inv-loop μ-loop Inv-groups μ-groups
+sub-q c = search needs
 
-same-row-requires : tie.Need-same-row-requires Inv-loop μ-loop
-same-row-requires c κs = omega arith
+add-wide : tie.Need-add-wide Inv-loop μ-loop Inv-groups μ-groups
+add-wide c = search needs
 
-returns : tie.Need-returns Inv-loop μ-loop
-returns c =
-    let head = c .before .before .before in
-    (omega arith, λ slot leads es k. met-hit _ k (head .loop .inv .1 slot leads es k) (c .before .before .loop-test .taken) (head .loop .inv .0) (alike-told _ _ _ _ (c .before .same-row .ensures)) (c .if1 .taken))
+mul-wide-2 : tie.Need-mul-wide-2 Inv-loop μ-loop Inv-groups μ-groups
+mul-wide-2 c = search needs
 
-add-wide : tie.Need-add-wide Inv-loop μ-loop
-add-wide c = omega arith
+shared-slice-read-wide-2 : tie.Need-shared-slice-read-wide-2 Inv-loop μ-loop Inv-groups μ-groups
+shared-slice-read-wide-2 c = omega (arith, c .before .before .before .before .before .before .before .before .pre .3 .size)
 
-mul-wide-2 : tie.Need-mul-wide-2 Inv-loop μ-loop
-mul-wide-2 c = omega arith
-
-shared-slice-read-wide-2 : tie.Need-shared-slice-read-wide-2 Inv-loop μ-loop
-shared-slice-read-wide-2 c = omega (arith, c .before .before .before .before .before .before .before .before .before .pre .3 .size)
-
-wide-requires-2 : tie.Need-wide-requires-2 Inv-loop μ-loop
+wide-requires-2 : tie.Need-wide-requires-2 Inv-loop μ-loop Inv-groups μ-groups
 wide-requires-2 c κs = search needs
 
-loop-less : tie.Need-loop-less Inv-loop μ-loop
-loop-less c =
-    let head = c .before .before .before .before .before in
-    links-less (head .before .before .before .before .before .pre .3) (c .before .before .before .before .loop-test .taken) (omega arith) (c .wide2 .ensures)
+mul-a : tie.Need-mul-a Inv-loop μ-loop Inv-groups μ-groups
+mul-a c = search needs
 
-loop-again : tie.Need-loop-again Inv-loop μ-loop
-loop-again c =
-    let head = c .before .before .before .before .before in
-    let pre = head .before .before .before .before .before .pre in
-    let test = c .before .before .before .before .loop-test .taken in
-    let less = links-less (pre .3) test (omega arith) (c .wide2 .ensures) in
-    (omega arith, λ slot leads es k. seeking-on _ k (head .loop .inv .1 slot leads es k) test (head .loop .inv .0) (alike-told _ _ _ _ (c .before .before .before .same-row .ensures)) (c .before .before .if1 .left) (c .wide2 .ensures))
+add-other : tie.Need-add-other Inv-loop μ-loop Inv-groups μ-groups
+add-other c = search needs
 
-returns-2 : tie.Need-returns-2 Inv-loop μ-loop
-returns-2 c = (omega arith, λ slot leads es k. met-miss (c .before .loop .inv .1 slot leads es k) (c .loop-test .left))
+mul-other : tie.Need-mul-other Inv-loop μ-loop Inv-groups μ-groups
+mul-other c = search needs
+
+sub-other : tie.Need-sub-other Inv-loop μ-loop Inv-groups μ-groups
+sub-other c = search needs
+
+part-other-start : tie.Need-part-other-start Inv-loop μ-loop Inv-groups μ-groups
+part-other-start c = search needs
+
+part-other-end : tie.Need-part-other-end Inv-loop μ-loop Inv-groups μ-groups
+part-other-end c = search needs
+
+loop-holds : tie.Need-loop-holds Inv-loop μ-loop Inv-groups μ-groups
+loop-holds c = (omega arith, below-none _)
+
+mul-if1 : tie.Need-mul-if1 Inv-loop μ-loop Inv-groups μ-groups
+mul-if1 c = search needs
+
+shared-slice-read-if1 : tie.Need-shared-slice-read-if1 Inv-loop μ-loop Inv-groups μ-groups
+shared-slice-read-if1 c =
+    let start = c .before .before .before .before .before .before .before .before .before .before .before .before .before in
+    omega (arith, row-size (start .args .edges .now) (start .args .u) (start .pre .4) (start .pre .1))
+
+mul-if1-2 : tie.Need-mul-if1-2 Inv-loop μ-loop Inv-groups μ-groups
+mul-if1-2 c = search needs
+
+shared-slice-read-if1-2 : tie.Need-shared-slice-read-if1-2 Inv-loop μ-loop Inv-groups μ-groups
+shared-slice-read-if1-2 c = search needs
+
+own-bits-requires : tie.Need-own-bits-requires Inv-loop μ-loop Inv-groups μ-groups
+own-bits-requires c κs = search needs
+
+groups-less : tie.Need-groups-less Inv-loop μ-loop Inv-groups μ-groups
+groups-less c =
+    let head = c .before .before .before .before .before .before .before .before .before .before in
+    links-less (head .before .before .before .before .before .before .pre .3) (c .before .before .before .before .before .before .before .before .before .groups-test .taken) (omega arith) (c .before .before .before .before .before .before .before .wide2 .ensures)
+
+groups-again : tie.Need-groups-again Inv-loop μ-loop Inv-groups μ-groups
+groups-again c =
+    let head = c .before .before .before .before .before .before .before .before .before .before in
+    let pre = head .before .before .before .before .before .before .pre in
+    let test = c .before .before .before .before .before .before .before .before .before .groups-test .taken in
+    let next = c .before .before .before .before .before .before .before .wide2 .ensures in
+    let less = links-less (pre .3) test (omega arith) next in
+    (omega arith, λ slot leads es k. seeking-on _ k (head .groups .inv .1 slot leads es k) test (head .groups .inv .0) (alike-differs _ _ _ _ (pre .4) (c .before .before .before .before .before .loop .i) _ (omega arith) (c .before .own-bits .ensures) (c .if1 .taken)) next)
+
+add-i : tie.Need-add-i Inv-loop μ-loop Inv-groups μ-groups
+add-i c = search needs
+
+loop-less : tie.Need-loop-less Inv-loop μ-loop Inv-groups μ-groups
+loop-less c = search needs
+
+loop-again : tie.Need-loop-again Inv-loop μ-loop Inv-groups μ-groups
+loop-again c = (omega arith, below-more _ _ (c .before .before .before .before .before .loop .inv .1) (c .if1 .left ∙ c .before .own-bits .ensures))
+
+returns : tie.Need-returns Inv-loop μ-loop Inv-groups μ-groups
+returns c =
+    let head = c .before .before .before .before .before .before in
+    let pre = head .before .before .before .before .before .before .pre in
+    (omega arith, λ slot leads es k. met-hit _ k (head .groups .inv .1 slot leads es k) (c .before .before .before .before .before .groups-test .taken) (head .groups .inv .0) (alike-agrees _ _ _ _ (pre .4) (λ j l. c .before .loop .inv .1 j (omega arith))))
+
+returns-2 : tie.Need-returns-2 Inv-loop μ-loop Inv-groups μ-groups
+returns-2 c = (omega arith, λ slot leads es k. met-miss (c .before .groups .inv .1 slot leads es k) (c .groups-test .left))
 
 pub find-alike-spec : {M : Type 1} → statement M
 find-alike-spec =
@@ -74,17 +132,33 @@ find-alike-spec =
     (tie.spec
     Inv-loop
     μ-loop
+    Inv-groups
+    μ-groups
     mul-wide
     shared-slice-read-wide
     wide-requires
-    loop-holds
+    groups-holds
     sub-q
-    same-row-requires
-    returns
     add-wide
     mul-wide-2
     shared-slice-read-wide-2
     wide-requires-2
+    mul-a
+    add-other
+    mul-other
+    sub-other
+    part-other-start
+    part-other-end
+    loop-holds
+    mul-if1
+    shared-slice-read-if1
+    mul-if1-2
+    shared-slice-read-if1-2
+    own-bits-requires
+    groups-less
+    groups-again
+    add-i
     loop-less
     loop-again
+    returns
     returns-2)

@@ -2,13 +2,14 @@
 use mathlib.Core.Path.{refl, sym}
 use Prim.Native.Nat.{_-_, _≤_}
 use native.Mathlib.Omega.{arith}
+use Rattle.search.specs.Search.{graphIn}
 use Rattle.keys.specs.KeySums.{Summed}
 use Rattle.keys.specs.KeySumLaws.{summed-all, summed-here, summed-more, summed-none}
 use Rattle.keys.proofs.sum_dense.Statement.{statement}
 use Rattle.keys.proofs.sum_dense.Tie as tie
 
 abbrev Inv-loop : tie.InvT-loop
-Inv-loop edges least keys₀ n sums p₀ keys p = (p ≤ n) × Summed n edges p keys₀ keys
+Inv-loop edges least keys₀ n sums p₀ keys p = (p ≤ n) × Summed (graphIn n edges) p keys₀ keys
 
 abbrev μ-loop : tie.MeasureT-loop
 μ-loop edges least keys₀ n sums p₀ keys p = n - p
@@ -20,7 +21,7 @@ fill-requires : tie.Need-fill-requires Inv-loop μ-loop
 fill-requires c κs = refl
 
 loop-holds : tie.Need-loop-holds Inv-loop μ-loop
-loop-holds c = (omega arith, summed-none _ _ _)
+loop-holds c = (omega arith, summed-none _ _)
 
 slice-aggregate-open-key : tie.Need-slice-aggregate-open-key Inv-loop μ-loop
 slice-aggregate-open-key c = sym (c .before .before .before .before .before .fill .ensures .size)

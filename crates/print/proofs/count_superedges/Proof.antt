@@ -18,23 +18,23 @@ abbrev μ-loop : tie.MeasureT-loop
 loop-holds : tie.Need-loop-holds Inv-loop μ-loop
 loop-holds c = count-start _ _
 
-byte-at-requires : tie.Need-byte-at-requires Inv-loop μ-loop
-byte-at-requires c κs = search needs
+is-superedge-requires : tie.Need-is-superedge-requires Inv-loop μ-loop
+is-superedge-requires c κs = search needs
 
 add-p : tie.Need-add-p Inv-loop μ-loop
-add-p c = omega (arith, mark-below (c .before .before .before .before .args .file .now) (c .before .before .loop .p) (sym (c .before .byte-at .ensures) ∙ c .if1 .taken))
+add-p c = omega (arith, mark-below (c .before .before .before .before .args .file .now) (c .before .before .loop .p) (sym (c .before .is-superedge .ensures) ∙ c .if1 .taken))
 
 add-count : tie.Need-add-count Inv-loop μ-loop
-add-count c = omega (arith, mark-below (c .before .before .before .before .args .file .now) (c .before .before .loop .p) (sym (c .before .byte-at .ensures) ∙ c .if1 .taken))
+add-count c = omega (arith, mark-below (c .before .before .before .before .args .file .now) (c .before .before .loop .p) (sym (c .before .is-superedge .ensures) ∙ c .if1 .taken))
 
 loop-less : tie.Need-loop-less Inv-loop μ-loop
-loop-less c = omega (arith, mark-below (c .before .before .before .before .args .file .now) (c .before .before .loop .p) (sym (c .before .byte-at .ensures) ∙ c .if1 .taken))
+loop-less c = omega (arith, mark-below (c .before .before .before .before .args .file .now) (c .before .before .loop .p) (sym (c .before .is-superedge .ensures) ∙ c .if1 .taken))
 
 loop-again : tie.Need-loop-again Inv-loop μ-loop
-loop-again c = count-step _ (c .before .before .loop .inv) (sym (c .before .byte-at .ensures) ∙ c .if1 .taken)
+loop-again c = count-step _ (c .before .before .loop .inv) (sym (c .before .is-superedge .ensures) ∙ c .if1 .taken)
 
 returns : tie.Need-returns Inv-loop μ-loop
-returns c = count-done _ (c .before .before .loop .inv) (λ e. c .if1 .left (c .before .byte-at .ensures ∙ e))
+returns c = count-done _ (c .before .before .loop .inv) (sym (c .before .is-superedge .ensures) ∙ c .if1 .left)
 
 pub count-superedges-spec : {M : Type 1} → statement M
 count-superedges-spec =
@@ -43,7 +43,7 @@ count-superedges-spec =
     Inv-loop
     μ-loop
     loop-holds
-    byte-at-requires
+    is-superedge-requires
     add-p
     add-count
     loop-less

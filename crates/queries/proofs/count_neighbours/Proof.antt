@@ -1,3 +1,4 @@
+-- `queries::count_neighbours` meets its contract.
 use mathlib.Core.Logic.{⊎-elim}
 use mathlib.Core.Path.{sym, _∙_}
 use Prim.Native.Nat.{_-_, _≤_}
@@ -8,15 +9,12 @@ use Rattle.buffers.specs.ScanLaws.{counting-start, counting-yes, counting-no, c
 use Rattle.model.specs.Tables.{edgeBit}
 use Rattle.queries.proofs.count_neighbours.Statement.{statement}
 use Rattle.queries.proofs.count_neighbours.Tie as tie
-use Rattle.queries.proofs.count_neighbours.Reads as reads
-use Rattle.queries.proofs.count_neighbours.Lts as lts
-use Rattle.rows.proofs.edge.Reads as edge-reads
 
 abbrev Inv-loop : tie.InvT-loop
-Inv-loop edges n p count₀ q₀ count q = (count ≤ q) × Counting (edgeBit edges p) n (length (scan (edgeBit edges p) n 0)) count q
+Inv-loop row n count₀ q₀ count q = (count ≤ q) × Counting (edgeBit row 0) n (length (scan (edgeBit row 0) n 0)) count q
 
 abbrev μ-loop : tie.MeasureT-loop
-μ-loop edges n p count₀ q₀ count q = n - q
+μ-loop row n count₀ q₀ count q = n - q
 
 loop-holds : tie.Need-loop-holds Inv-loop μ-loop
 loop-holds c = (omega arith, counting-start _ _ _)

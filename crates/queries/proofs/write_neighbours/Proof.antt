@@ -1,3 +1,4 @@
+-- `queries::write_neighbours` meets its contract.
 use mathlib.Core.Logic.{⊎-elim}
 use mathlib.Core.Path.{sym, _∙_}
 use Prim.Native.Nat.{_-_, _≤_}
@@ -10,15 +11,12 @@ use Rattle.model.specs.Tables.{edgeBit}
 use Rattle.queries.specs.QueryLaws.{collected, collect-room}
 use Rattle.queries.proofs.write_neighbours.Statement.{statement}
 use Rattle.queries.proofs.write_neighbours.Tie as tie
-use Rattle.queries.proofs.write_neighbours.Reads as reads
-use Rattle.queries.proofs.write_neighbours.Lts as lts
-use Rattle.rows.proofs.edge.Reads as edge-reads
 
 abbrev Inv-loop : tie.InvT-loop
-Inv-loop edges n p out₀ to₀ q₀ out to q = (to ≤ q) × Left out₀ 0 (scan (edgeBit edges p) n 0) out to (scan (edgeBit edges p) n q)
+Inv-loop row n out₀ to₀ q₀ out to q = (to ≤ q) × Left out₀ 0 (scan (edgeBit row 0) n 0) out to (scan (edgeBit row 0) n q)
 
 abbrev μ-loop : tie.MeasureT-loop
-μ-loop edges n p out₀ to₀ q₀ out to q = n - q
+μ-loop row n out₀ to₀ q₀ out to q = n - q
 
 loop-holds : tie.Need-loop-holds Inv-loop μ-loop
 loop-holds c = (omega arith, left-start _ _ _)
@@ -36,7 +34,7 @@ slice-write-out : tie.Need-slice-write-out Inv-loop μ-loop
 slice-write-out c =
     let l = c .before .before .before in
     let start = l .before .before .before in
-    let k = collect-room _ _ _ (l .loop .inv .1) (start .pre .3) (c .before .before .loop-test .taken) (sym (c .before .edge .ensures) ∙ c .if1 .taken) in
+    let k = collect-room _ _ _ (l .loop .inv .1) (start .pre .2) (c .before .before .loop-test .taken) (sym (c .before .edge .ensures) ∙ c .if1 .taken) in
     omega (arith, l .loop .inv .1 .size)
 
 add-to : tie.Need-add-to Inv-loop μ-loop

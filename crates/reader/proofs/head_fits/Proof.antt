@@ -1,6 +1,6 @@
 -- `reader::head_fits` meets its contract.
 use native.Mathlib.Omega.{arith}
-use Rattle.reader.specs.DecodedLaws.{by-groups, too-many, too-visible}
+use Rattle.reader.specs.DecodingLaws.{by-groups, too-many, too-visible}
 use Rattle.reader.proofs.head_fits.Statement.{statement}
 use Rattle.reader.proofs.head_fits.Tie as tie
 

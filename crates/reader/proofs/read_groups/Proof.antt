@@ -2,53 +2,61 @@
 use Prim.Native.Nat.{_-_, _≤_}
 use borrow.Author.Needs.{needs}
 use lib.ListN.{length, length-set}
-use mathlib.Core.Path.{_∙_, _≡_, refl}
+use mathlib.Core.Path.{_∙_, _≡_, refl, sym}
 use native.Mathlib.Omega.{arith}
 use Rattle.reader.specs.Decoding.{GroupsLeft}
-use Rattle.reader.specs.DrawingLaws.{here-most}
-use Rattle.reader.specs.GroupLaws.{group-here, groups-all, groups-broken, groups-more, groups-none, groups-start}
+use Rattle.reader.specs.GroupLaws.{filled-size, first-small, groups-all, groups-broken, groups-more, groups-none, groups-start}
 use Rattle.reader.proofs.read_groups.Statement.{statement}
 use Rattle.reader.proofs.read_groups.Tie as tie
 
 abbrev Inv-loop : tie.InvT-loop
-Inv-loop file from n g starts₀ edges₀ hidden₀ at₀ left₀ i₀ starts edges hidden at left i =
-    (i ≤ g) × (length starts ≡ length starts₀) × GroupsLeft n g left₀ file from i left at starts edges₀ edges hidden₀ hidden
+Inv-loop file from n g least₀ firsts₀ kinds₀ at₀ low₀ left₀ i₀ least firsts kinds at low left i =
+    (i ≤ g) × (length firsts ≡ length firsts₀) × GroupsLeft n g left₀ file from i low left at least firsts kinds
 
 abbrev μ-loop : tie.MeasureT-loop
-μ-loop file from n g starts₀ edges₀ hidden₀ at₀ left₀ i₀ starts edges hidden at left i = g - i
+μ-loop file from n g least₀ firsts₀ kinds₀ at₀ low₀ left₀ i₀ least firsts kinds at low left i = g - i
 
 loop-holds : tie.Need-loop-holds Inv-loop μ-loop
-loop-holds c = (omega arith, refl, groups-start _ _ _ _ _ _ _ _)
+loop-holds c = (omega arith, refl, groups-start _ _ _ _ _ _ _ _ (c .before .before .before .before .pre .0) (c .before .before .before .before .pre .3) (c .before .before .before .before .pre .4))
 
 take-group-requires : tie.Need-take-group-requires Inv-loop μ-loop
-take-group-requires c κs = omega (arith, c .before .before .loop .inv .2 .marks .size)
+take-group-requires c κs = (c .before .before .before .before .before .before .before .pre .0, omega (arith, c .before .before .loop .inv .2 .nodes, c .before .before .before .before .before .before .before .pre .0))
 
-enum-known-clique : tie.Need-enum-known-clique Inv-loop μ-loop
-enum-known-clique c = c .match .keys1
+enum-known-kind : tie.Need-enum-known-kind Inv-loop μ-loop
+enum-known-kind c = c .match .keys1
 
 enum-told : tie.Need-enum-told Inv-loop μ-loop
 enum-told c = c .match .keys2
 
 same-length : tie.Need-same-length Inv-loop μ-loop
-same-length c = c .before .before .before .before .before .before .before .loop .inv .1
+same-length c = c .before .before .before .before .take-group .ensures .size ∙ c .before .before .before .before .before .before .before .loop .inv .2 .nodes ∙ sym (filled-size _ _ (c .before .before .before .before .before .before .before .before .before .before .before .before .pre .3))
 
 same-length-2 : tie.Need-same-length-2 Inv-loop μ-loop
-same-length-2 c = c .before .before .before .before .before .before .before .loop .inv .2 .drawn .size
+same-length-2 c = c .before .before .before .before .before .before .before .loop .inv .1
 
 same-length-3 : tie.Need-same-length-3 Inv-loop μ-loop
-same-length-3 c = c .before .before .before .before .take-group .ensures .size ∙ c .before .before .before .before .before .before .before .loop .inv .2 .marks .size
+same-length-3 c = c .before .before .before .before .before .before .before .loop .inv .2 .groups ∙ sym (filled-size _ _ (c .before .before .before .before .before .before .before .before .before .before .before .before .pre .4))
 
 returns : tie.Need-returns Inv-loop μ-loop
-returns c = groups-none _ _ _ _ _ _ _ _ _ _ _ (c .before .before .before .before .before .before .before .loop .inv .1) (c .before .before .before .before .before .before .before .loop .inv .2 .drawn .size) (c .before .before .before .before .take-group .ensures .size ∙ c .before .before .before .before .before .before .before .loop .inv .2 .marks .size) (groups-broken _ _ _ _ _ _ _ _ _ _ _ _ _ (c .before .before .before .before .before .before .loop-test .taken) (c .before .before .before .before .before .before .before .loop .inv .2) _ _ (c .before .before .before .before .take-group .ensures) (c .enum-told .given .1))
+returns c = groups-none _ _ _ _ _ _ _ _ _ (c .before .before .before .before .take-group .ensures .size ∙ c .before .before .before .before .before .before .before .loop .inv .2 .nodes) (c .before .before .before .before .before .before .before .loop .inv .2 .groups) (c .before .before .before .before .before .before .before .loop .inv .1) (groups-broken _ _ _ _ _ _ _ _ _ _ _ _ (c .before .before .before .before .before .before .loop-test .taken) (c .before .before .before .before .before .before .before .loop .inv .2) _ _ (c .before .before .before .before .take-group .ensures) (c .enum-told .given .1))
 
-draw-clique-requires : tie.Need-draw-clique-requires Inv-loop μ-loop
-draw-clique-requires c κs = (omega (arith, c .before .before .before .before .before .before .before .before .before .loop .inv .2 .drawn .size), here-most _ _ _ (c .before .before .before .before .before .before .before .before .before .before .before .before .before .before .pre .0) (group-here _ _ _ _ _ _ _ _ _ _ _ _ _ (c .before .before .before .before .before .before .before .before .loop-test .taken) (c .before .before .before .before .before .before .before .before .before .loop .inv .2) _ _ (c .before .before .before .before .before .before .take-group .ensures) _ _ _ (c .before .before .clique .given .1)))
+mul-kinds : tie.Need-mul-kinds Inv-loop μ-loop
+mul-kinds c = let small = first-small _ _ _ _ _ _ _ _ _ _ _ _ (c .before .before .before .before .before .before .before .loop-test .taken) (c .before .before .before .before .before .before .before .before .loop .inv .2) _ _ (c .before .before .before .before .before .take-group .ensures) (c .before .before .before .before .before .before .before .before .before .before .before .before .before .pre .0) _ _ _ _ (c .before .kind .given .1) in omega arith
 
-mul-starts : tie.Need-mul-starts Inv-loop μ-loop
-mul-starts c = omega (arith, c .before .before .before .before .before .before .before .before .before .before .before .before .loop .inv .1, c .before .before .before .before .before .before .before .before .before .before .before .before .before .before .before .before .before .pre .1)
+slice-write-kinds : tie.Need-slice-write-kinds Inv-loop μ-loop
+slice-write-kinds c = let small = first-small _ _ _ _ _ _ _ _ _ _ _ _ (c .before .before .before .before .before .before .before .loop-test .taken) (c .before .before .before .before .before .before .before .before .loop .inv .2) _ _ (c .before .before .before .before .before .take-group .ensures) (c .before .before .before .before .before .before .before .before .before .before .before .before .before .pre .0) _ _ _ _ (c .before .kind .given .1) in omega (arith, c .before .before .before .before .before .before .before .before .loop .inv .2 .groups)
 
-slice-write-starts : tie.Need-slice-write-starts Inv-loop μ-loop
-slice-write-starts c = omega (arith, c .before .before .before .before .before .before .before .before .before .before .before .before .loop .inv .1, c .before .before .before .before .before .before .before .before .before .before .before .before .before .before .before .before .before .pre .1)
+cast-firsts : tie.Need-cast-firsts Inv-loop μ-loop
+cast-firsts c = let small = first-small _ _ _ _ _ _ _ _ _ _ _ _ (c .before .before .before .before .before .before .before .loop-test .taken) (c .before .before .before .before .before .before .before .before .loop .inv .2) _ _ (c .before .before .before .before .before .take-group .ensures) (c .before .before .before .before .before .before .before .before .before .before .before .before .before .pre .0) _ _ _ _ (c .before .kind .given .1) in omega arith
+
+mul-firsts : tie.Need-mul-firsts Inv-loop μ-loop
+mul-firsts c = omega (arith, c .before .before .before .before .before .before .before .before .loop .inv .1, c .before .before .before .before .before .before .before .before .before .before .before .before .before .pre .2, c .before .before .before .before .before .before .before .loop-test .taken)
+
+slice-write-firsts : tie.Need-slice-write-firsts Inv-loop μ-loop
+slice-write-firsts c = omega (arith, c .before .before .before .before .before .before .before .before .loop .inv .1, c .before .before .before .before .before .before .before .before .before .before .before .before .before .pre .2, c .before .before .before .before .before .before .before .loop-test .taken)
+
+add-low : tie.Need-add-low Inv-loop μ-loop
+add-low c = let small = first-small _ _ _ _ _ _ _ _ _ _ _ _ (c .before .before .before .before .before .before .before .loop-test .taken) (c .before .before .before .before .before .before .before .before .loop .inv .2) _ _ (c .before .before .before .before .before .take-group .ensures) (c .before .before .before .before .before .before .before .before .before .before .before .before .before .pre .0) _ _ _ _ (c .before .kind .given .1) in omega arith
 
 add-i : tie.Need-add-i Inv-loop μ-loop
 add-i c = search needs
@@ -57,19 +65,19 @@ loop-less : tie.Need-loop-less Inv-loop μ-loop
 loop-less c = search needs
 
 loop-again : tie.Need-loop-again Inv-loop μ-loop
-loop-again c = (omega arith, simp length-set (c .before .before .before .before .before .before .before .before .before .before .before .before .loop .inv .1), groups-more _ _ _ _ _ _ _ _ _ _ _ _ _ (c .before .before .before .before .before .before .before .before .before .before .before .loop-test .taken) (c .before .before .before .before .before .before .before .before .before .before .before .before .loop .inv .2) _ _ (c .before .before .before .before .before .before .before .before .before .take-group .ensures) _ _ _ (c .before .before .before .before .before .clique .given .1) _ (omega (arith, c .before .before .before .before .before .before .before .before .before .before .before .before .loop .inv .1, c .before .before .before .before .before .before .before .before .before .before .before .before .before .before .before .before .before .pre .1)) (c .before .before .draw-clique .ensures))
+loop-again c = (omega arith, simp length-set (c .before .before .before .before .before .before .before .before .loop .inv .1), groups-more _ _ _ _ _ _ _ _ _ _ _ _ (c .before .before .before .before .before .before .before .loop-test .taken) (c .before .before .before .before .before .before .before .before .loop .inv .2) _ _ (c .before .before .before .before .before .take-group .ensures) (c .before .before .before .before .before .before .before .before .before .before .before .before .before .pre .0) _ _ _ _ (c .before .kind .given .1) (omega (arith, c .before .before .before .before .before .before .before .before .loop .inv .1, c .before .before .before .before .before .before .before .before .before .before .before .before .before .pre .2, c .before .before .before .before .before .before .before .loop-test .taken)))
 
 same-length-4 : tie.Need-same-length-4 Inv-loop μ-loop
-same-length-4 c = c .before .loop .inv .1
+same-length-4 c = c .before .loop .inv .2 .nodes ∙ sym (filled-size _ _ (c .before .before .before .before .before .before .pre .3))
 
 same-length-5 : tie.Need-same-length-5 Inv-loop μ-loop
-same-length-5 c = c .before .loop .inv .2 .drawn .size
+same-length-5 c = c .before .loop .inv .1
 
 same-length-6 : tie.Need-same-length-6 Inv-loop μ-loop
-same-length-6 c = c .before .loop .inv .2 .marks .size
+same-length-6 c = c .before .loop .inv .2 .groups ∙ sym (filled-size _ _ (c .before .before .before .before .before .before .pre .4))
 
 returns-2 : tie.Need-returns-2 Inv-loop μ-loop
-returns-2 c = groups-all _ _ _ _ _ _ _ _ _ _ _ _ _ _ (omega arith) (c .before .loop .inv .1) (c .before .loop .inv .2)
+returns-2 c = groups-all _ _ _ _ _ _ _ _ _ _ _ _ _ (omega arith) (c .before .loop .inv .1) (c .before .loop .inv .2)
 
 pub read-groups-spec : {M : Type 1} → statement M
 read-groups-spec =
@@ -79,15 +87,18 @@ read-groups-spec =
     μ-loop
     loop-holds
     take-group-requires
-    enum-known-clique
+    enum-known-kind
     enum-told
     same-length
     same-length-2
     same-length-3
     returns
-    draw-clique-requires
-    mul-starts
-    slice-write-starts
+    mul-kinds
+    slice-write-kinds
+    cast-firsts
+    mul-firsts
+    slice-write-firsts
+    add-low
     add-i
     loop-less
     loop-again

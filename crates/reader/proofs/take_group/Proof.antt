@@ -1,42 +1,53 @@
 -- `reader::take_group` meets its contract.
 use borrow.Author.Needs.{needs}
-use borrow.Author.Tests.{not-false, not-true}
-use mathlib.Core.Path.{_∙_, refl, sym}
+use denote.Enum.Declared.{tagOf}
+use mathlib.Core.Bool.{Bool}
+use mathlib.Core.List.{[], _∷_}
+use mathlib.Core.Logic.{⊎-elim}
+use mathlib.Core.Path.{_≡_}
 use native.Mathlib.Omega.{arith}
-use Rattle.reader.specs.DecodingLaws.{all-members, group-missing, no-group, no-group-here, no-members, no-room}
-use Rattle.reader.specs.RecordLaws.{group-read, group-room}
+use Prim.Native.Nat.{ℕ}
+use types.Run.{OneOf}
+use Rattle.records.specs.declared.Record.{Record}
+use Rattle.records.specs.declared.Record.the-variants.{Group}
+use Rattle.records.proofs.Record.{the-type}
+use Rattle.reader.specs.GroupLaws.{all-members, few-members, group-told, members-room, no-group, no-members, no-room, other-record}
 use Rattle.reader.proofs.take_group.Statement.{statement}
 use Rattle.reader.proofs.take_group.Tie as tie
 
-is-group-requires : tie.Need-is-group-requires
-is-group-requires c κs = search needs
+-- a record of another kind, by the numbers of the variants
+not-a-group : (r : Record) → OneOf (0 ∷ 2 ∷ 3 ∷ 4 ∷ []) (tagOf the-type r) → (q : Bool) (count : ℕ) → r ≡ Group q count → ⊥
+not-a-group r t q count e = go (rw e at t)
+  where
+    go : OneOf (0 ∷ 2 ∷ 3 ∷ 4 ∷ []) (tagOf the-type (Group q count)) → ⊥
+    go = ⊎-elim (λ x. omega arith) (⊎-elim (λ x. omega arith) (⊎-elim (λ x. omega arith) (λ x. omega arith)))
+
+record-at-requires : tie.Need-record-at-requires
+record-at-requires c κs = search needs
+
+enum-known-item : tie.Need-enum-known-item
+enum-known-item c = search needs
 
 returns : tie.Need-returns
-returns c = group-missing _ _ _ _ _ _ refl (no-group-here _ _ _ _ (sym (not-true _ (c .if1 .taken)) ∙ c .before .is-group .ensures))
-
-is-mark-requires : tie.Need-is-mark-requires
-is-mark-requires c κs = let room = group-room _ _ (sym (not-false _ (c .before .if1 .left)) ∙ c .before .before .is-group .ensures) in omega arith
-
-add-u16-at : tie.Need-add-u16-at
-add-u16-at c = let room = group-room _ _ (sym (not-false _ (c .before .before .if1 .left)) ∙ c .before .before .before .is-group .ensures) in omega arith
-
-u16-at-requires : tie.Need-u16-at-requires
-u16-at-requires c κs = let room = group-room _ _ (sym (not-false _ (c .before .before .if1 .left)) ∙ c .before .before .before .is-group .ensures) in omega arith
+returns c = other-record _ _ _ _ _ _ _ (c .before .record-at .ensures) (not-a-group _ (c .match .keys2))
 
 cast-members : tie.Need-cast-members
 cast-members c = search needs
 
-add-from : tie.Need-add-from
-add-from c = let room = group-room _ _ (sym (not-false _ (c .before .before .before .if1 .left)) ∙ c .before .before .before .before .is-group .ensures) in omega arith
+least-count-requires : tie.Need-least-count-requires
+least-count-requires c κs = search needs
+
+returns-2 : tie.Need-returns-2
+returns-2 c = few-members _ _ _ _ _ _ _ (c .before .before .before .before .before .record-at .ensures) _ _ (c .before .before .before .item .given .1) _ (c .before .least-count .ensures) (c .if1 .taken)
 
 sub-if2 : tie.Need-sub-if2
-sub-if2 c = let room = group-room _ _ (sym (not-false _ (c .before .before .before .if1 .left)) ∙ c .before .before .before .before .is-group .ensures) in omega arith
+sub-if2 c = let told = group-told _ _ _ (c .before .before .before .before .before .record-at .ensures) _ _ (c .before .before .before .item .given .1) in omega arith
 
 mul-if2 : tie.Need-mul-if2
 mul-if2 c = search needs
 
-returns-2 : tie.Need-returns-2
-returns-2 c = let read = group-read _ _ _ _ (sym (not-false _ (c .before .before .before .before .if1 .left)) ∙ c .before .before .before .before .before .is-group .ensures) (c .before .before .is-mark .ensures) (c .before .u16-at .ensures) in no-room _ _ _ read _ _ _ _ _ refl (c .if2 .taken)
+returns-3 : tie.Need-returns-3
+returns-3 c = no-room _ _ _ _ _ _ _ (c .before .before .before .before .before .before .record-at .ensures) _ _ (c .before .before .before .before .item .given .1) _ (c .before .before .least-count .ensures) (c .before .if1 .left) (c .if2 .taken)
 
 group-requires : tie.Need-group-requires
 group-requires c κs = search needs
@@ -47,11 +58,11 @@ enum-known-c c = search needs
 enum-told : tie.Need-enum-told
 enum-told c = search needs
 
-returns-3 : tie.Need-returns-3
-returns-3 c = let read = group-read _ _ _ _ (sym (not-false _ (c .before .before .before .before .before .before .before .if1 .left)) ∙ c .before .before .before .before .before .before .before .before .is-group .ensures) (c .before .before .before .before .before .is-mark .ensures) (c .before .before .before .before .u16-at .ensures) in no-group _ _ _ read _ _ _ _ _ refl _ (c .before .before .before .if2 .left) (c .before .before .group .ensures) (c .enum-told .given .1)
+returns-4 : tie.Need-returns-4
+returns-4 c = no-group _ _ _ _ _ _ _ (c .before .before .before .before .before .before .before .before .before .record-at .ensures) _ _ (c .before .before .before .before .before .before .before .item .given .1) _ (c .before .before .before .before .before .least-count .ensures) _ (c .before .before .before .before .if1 .left) (c .before .before .before .if2 .left) (c .before .before .group .ensures) (c .enum-told .given .1)
 
 read-members-requires : tie.Need-read-members-requires
-read-members-requires c κs = let room = group-room _ _ (sym (not-false _ (c .before .before .before .before .before .before .before .before .before .if1 .left)) ∙ c .before .before .before .before .before .before .before .before .before .before .is-group .ensures) in (omega (arith, c .before .before .before .before .before .if2 .left), omega arith)
+read-members-requires c κs = let room = members-room _ _ _ (c .before .before .before .before .before .before .before .before .before .before .before .record-at .ensures) _ _ (c .before .before .before .before .before .before .before .before .before .item .given .1) _ (c .before .before .before .before .before .before .before .least-count .ensures) (c .before .before .before .before .before .before .if1 .left) (c .before .before .before .before .before .if2 .left) in (c .before .before .before .before .before .before .before .before .before .before .before .before .before .before .pre .0, room .0, room .1, c .before .before .before .before .before .before .before .before .before .before .before .before .before .before .pre .1)
 
 enum-known-left : tie.Need-enum-known-left
 enum-known-left c = search needs
@@ -62,45 +73,52 @@ enum-told-2 c = search needs
 same-length : tie.Need-same-length
 same-length c = search needs
 
-returns-4 : tie.Need-returns-4
-returns-4 c = let read = group-read _ _ _ _ (sym (not-false _ (c .before .before .before .before .before .before .before .before .before .before .before .before .before .before .if1 .left)) ∙ c .before .before .before .before .before .before .before .before .before .before .before .before .before .before .before .is-group .ensures) (c .before .before .before .before .before .before .before .before .before .before .before .before .is-mark .ensures) (c .before .before .before .before .before .before .before .before .before .before .before .u16-at .ensures) in no-members _ _ _ read _ _ _ _ _ refl _ (c .before .before .before .before .before .before .before .before .before .before .if2 .left) (c .before .before .before .before .before .before .before .before .before .group .ensures) _ (c .before .before .before .before .before .before .before .c .given .1) _ _ (c .before .before .before .before .read-members .ensures) (c .enum-told2 .given .1)
+returns-5 : tie.Need-returns-5
+returns-5 c = no-members _ _ _ _ _ _ _ (c .before .before .before .before .before .before .before .before .before .before .before .before .before .before .before .before .record-at .ensures) _ _ (c .before .before .before .before .before .before .before .before .before .before .before .before .before .before .item .given .1) _ (c .before .before .before .before .before .before .before .before .before .before .before .before .least-count .ensures) _ (c .before .before .before .before .before .before .before .before .before .before .before .if1 .left) (c .before .before .before .before .before .before .before .before .before .before .if2 .left) (c .before .before .before .before .before .before .before .before .before .group .ensures) _ (c .before .before .before .before .before .before .before .c .given .1) _ _ (c .before .before .before .before .read-members .ensures) (c .enum-told2 .given .1)
 
-mul-t16 : tie.Need-mul-t16
-mul-t16 c = search needs
+kind-of-requires : tie.Need-kind-of-requires
+kind-of-requires c κs = search needs
 
-add-t17 : tie.Need-add-t17
-add-t17 c = let room = group-room _ _ (sym (not-false _ (c .before .before .before .before .before .before .before .before .before .before .before .before .before .before .before .if1 .left)) ∙ c .before .before .before .before .before .before .before .before .before .before .before .before .before .before .before .before .is-group .ensures) in omega (arith, c .before .before .before .before .before .before .before .before .before .before .before .if2 .left)
+node-at-requires : tie.Need-node-at-requires
+node-at-requires c κs = let room = members-room _ _ _ (c .before .before .before .before .before .before .before .before .before .before .before .before .before .before .before .before .before .before .record-at .ensures) _ _ (c .before .before .before .before .before .before .before .before .before .before .before .before .before .before .before .before .item .given .1) _ (c .before .before .before .before .before .before .before .before .before .before .before .before .before .before .least-count .ensures) (c .before .before .before .before .before .before .before .before .before .before .before .before .before .if1 .left) (c .before .before .before .before .before .before .before .before .before .before .before .before .if2 .left) in omega arith
+
+mul-t17 : tie.Need-mul-t17
+mul-t17 c = search needs
+
+add-t18 : tie.Need-add-t18
+add-t18 c = let room = members-room _ _ _ (c .before .before .before .before .before .before .before .before .before .before .before .before .before .before .before .before .before .before .before .record-at .ensures) _ _ (c .before .before .before .before .before .before .before .before .before .before .before .before .before .before .before .before .before .item .given .1) _ (c .before .before .before .before .before .before .before .before .before .before .before .before .before .before .before .least-count .ensures) (c .before .before .before .before .before .before .before .before .before .before .before .before .before .before .if1 .left) (c .before .before .before .before .before .before .before .before .before .before .before .before .before .if2 .left) in omega (arith, c .before .before .before .before .before .before .before .before .before .before .before .before .before .before .before .before .before .before .before .before .before .before .good .0 .0)
 
 same-length-2 : tie.Need-same-length-2
 same-length-2 c = search needs
 
-returns-5 : tie.Need-returns-5
-returns-5 c = let read = group-read _ _ _ _ (sym (not-false _ (c .before .before .before .before .before .before .before .before .before .before .before .before .before .before .before .if1 .left)) ∙ c .before .before .before .before .before .before .before .before .before .before .before .before .before .before .before .before .is-group .ensures) (c .before .before .before .before .before .before .before .before .before .before .before .before .before .is-mark .ensures) (c .before .before .before .before .before .before .before .before .before .before .before .before .u16-at .ensures) in all-members _ _ _ read _ _ _ _ _ refl _ (c .before .before .before .before .before .before .before .before .before .before .before .if2 .left) (c .before .before .before .before .before .before .before .before .before .before .group .ensures) _ (c .before .before .before .before .before .before .before .before .c .given .1) _ _ (c .before .before .before .before .before .read-members .ensures) _ (c .before .left .given .1)
+returns-6 : tie.Need-returns-6
+returns-6 c = all-members _ _ _ _ _ _ _ (c .before .before .before .before .before .before .before .before .before .before .before .before .before .before .before .before .before .before .before .record-at .ensures) _ _ (c .before .before .before .before .before .before .before .before .before .before .before .before .before .before .before .before .before .item .given .1) _ (c .before .before .before .before .before .before .before .before .before .before .before .before .before .before .before .least-count .ensures) _ (c .before .before .before .before .before .before .before .before .before .before .before .before .before .before .if1 .left) (c .before .before .before .before .before .before .before .before .before .before .before .before .before .if2 .left) (c .before .before .before .before .before .before .before .before .before .before .before .before .group .ensures) _ (c .before .before .before .before .before .before .before .before .before .before .c .given .1) _ _ (c .before .before .before .before .before .before .before .read-members .ensures) _ _ _ (c .before .before .before .left .given .1) (c .before .kind-of .ensures) (c .node-at .ensures)
 
 pub take-group-spec : {M : Type 1} → statement M
 take-group-spec =
     tie.close
     (tie.spec
-    is-group-requires
+    record-at-requires
+    enum-known-item
     returns
-    is-mark-requires
-    add-u16-at
-    u16-at-requires
     cast-members
-    add-from
+    least-count-requires
+    returns-2
     sub-if2
     mul-if2
-    returns-2
+    returns-3
     group-requires
     enum-known-c
     enum-told
-    returns-3
+    returns-4
     read-members-requires
     enum-known-left
     enum-told-2
     same-length
-    returns-4
-    mul-t16
-    add-t17
+    returns-5
+    kind-of-requires
+    node-at-requires
+    mul-t17
+    add-t18
     same-length-2
-    returns-5)
+    returns-6)

@@ -1,15 +1,10 @@
-use Rattle.release.specs.ReadLaws.{judged-holds}
-use borrow.Author.Tests.{not-true, not-false}
-use Rattle.tables.specs.LentLaws.{sized}
-use Rattle.release.specs.ReadLaws.{read-size, read-none, read-other, read-done}
+-- `release::read` meets its contract.
 use borrow.Author.Needs.{needs}
+use borrow.Author.Tests.{not-false, not-true}
+use Rattle.tables.specs.LentLaws.{sized}
+use Rattle.release.specs.ReadLaws.{judged-exact, read-done, read-none, read-other, read-size}
 use Rattle.release.proofs.read.Statement.{statement}
 use Rattle.release.proofs.read.Tie as tie
-use Rattle.release.proofs.read.Reads as reads
-use Rattle.release.proofs.read.Lts as lts
-use Rattle.tables.proofs.right_size.Reads as right-size-reads
-use Rattle.release.proofs.judging.judge.Reads as judge-reads
-use Rattle.release.proofs.reading.fill.Reads as fill-reads
 
 right-size-requires : tie.Need-right-size-requires
 right-size-requires c κs = search needs
@@ -32,6 +27,9 @@ slice-aggregate-judge c = search needs
 slice-aggregate-judge-2 : tie.Need-slice-aggregate-judge-2
 slice-aggregate-judge-2 c = search needs
 
+slice-aggregate-judge-3 : tie.Need-slice-aggregate-judge-3
+slice-aggregate-judge-3 c = search needs
+
 judge-requires : tie.Need-judge-requires
 judge-requires c κs = search needs
 
@@ -51,10 +49,7 @@ same-length-6 : tie.Need-same-length-6
 same-length-6 c = search needs
 
 returns-2 : tie.Need-returns-2
-returns-2 c =
-    let j = c .before .before .before .before in
-    let i = j .before .before .before in
-    read-none _ _ _ _ (i .before .right-size .ensures) (not-false _ (i .if1 .left)) (j .judge .ensures) (c .enum-told .given .1)
+returns-2 c = read-none _ _ _ _ (c .before .before .before .before .before .before .before .before .before .before .right-size .ensures) (not-false _ (c .before .before .before .before .before .before .before .before .before .if1 .left)) (c .before .before .before .before .before .judge .ensures) (c .enum-told .given .1)
 
 same-length-7 : tie.Need-same-length-7
 same-length-7 c = search needs
@@ -66,10 +61,7 @@ same-length-9 : tie.Need-same-length-9
 same-length-9 c = search needs
 
 returns-3 : tie.Need-returns-3
-returns-3 c =
-    let j = c .before .before .before .before .before .before in
-    let i = j .before .before .before in
-    read-other _ _ _ _ (i .before .right-size .ensures) (not-false _ (i .if1 .left)) (j .judge .ensures) _ (c .before .before .judged .given .1) (c .if2 .taken)
+returns-3 c = read-other _ _ _ _ (c .before .before .before .before .before .before .before .before .before .before .before .before .right-size .ensures) (not-false _ (c .before .before .before .before .before .before .before .before .before .before .before .if1 .left)) (c .before .before .before .before .before .before .before .judge .ensures) _ (c .before .before .judged .given .1) (c .if2 .taken)
 
 slice-aggregate-fill : tie.Need-slice-aggregate-fill
 slice-aggregate-fill c = search needs
@@ -77,12 +69,11 @@ slice-aggregate-fill c = search needs
 slice-aggregate-fill-2 : tie.Need-slice-aggregate-fill-2
 slice-aggregate-fill-2 c = search needs
 
+slice-aggregate-fill-3 : tie.Need-slice-aggregate-fill-3
+slice-aggregate-fill-3 c = search needs
+
 fill-requires : tie.Need-fill-requires
-fill-requires c κs =
-    let t = c .before .before .before .before .before .before .before in
-    let j = t .before .before .before .before in
-    let i = j .before .before .before in
-    (judged-holds (j .judge .ensures) _ (t .judged .given .1) _ (c .before .before .before .before .before .if2 .left), j .judge .ensures .rows, j .judge .ensures .size, sized _ _ _ (i .before .right-size .ensures) (not-false _ (i .if1 .left)))
+fill-requires c κs = (judged-exact (c .before .before .before .before .before .before .before .before .before .before .before .before .before .judge .ensures) _ (c .before .before .before .before .before .before .before .before .judged .given .1) _ (c .before .before .before .before .before .before .if2 .left), sized _ _ _ (c .before .before .before .before .before .before .before .before .before .before .before .before .before .before .before .before .before .before .right-size .ensures) (not-false _ (c .before .before .before .before .before .before .before .before .before .before .before .before .before .before .before .before .before .if1 .left)))
 
 same-length-10 : tie.Need-same-length-10
 same-length-10 c = search needs
@@ -94,12 +85,7 @@ same-length-12 : tie.Need-same-length-12
 same-length-12 c = search needs
 
 returns-4 : tie.Need-returns-4
-returns-4 c =
-    let f = c .before .before .before .before .before .before in
-    let t = f .before .before .before .before .before .before .before .before in
-    let j = t .before .before .before .before in
-    let i = j .before .before .before in
-    read-done _ _ _ _ (i .before .right-size .ensures) (not-false _ (i .if1 .left)) (j .judge .ensures) _ (t .judged .given .1) (f .before .before .before .before .before .before .if2 .left) (f .fill .ensures)
+returns-4 c = read-done _ _ _ _ (c .before .before .before .before .before .before .before .before .before .before .before .before .before .before .before .before .before .before .before .before .before .before .before .before .before .before .right-size .ensures) (not-false _ (c .before .before .before .before .before .before .before .before .before .before .before .before .before .before .before .before .before .before .before .before .before .before .before .before .before .if1 .left)) (c .before .before .before .before .before .before .before .before .before .before .before .before .before .before .before .before .before .before .before .before .before .judge .ensures) _ (c .before .before .before .before .before .before .before .before .before .before .before .before .before .before .before .before .judged .given .1) (c .before .before .before .before .before .before .before .before .before .before .before .before .before .before .if2 .left) (c .before .before .before .before .before .before .before .fill .ensures)
 
 pub read-spec : {M : Type 1} → statement M
 read-spec =
@@ -112,6 +98,7 @@ read-spec =
     returns
     slice-aggregate-judge
     slice-aggregate-judge-2
+    slice-aggregate-judge-3
     judge-requires
     enum-known-judged
     enum-told
@@ -125,6 +112,7 @@ read-spec =
     returns-3
     slice-aggregate-fill
     slice-aggregate-fill-2
+    slice-aggregate-fill-3
     fill-requires
     same-length-10
     same-length-11

@@ -1,38 +1,29 @@
-use mathlib.Core.Path.{sym}
+-- `release::asking::answer` meets its contract.
 use native.Mathlib.Omega.{arith}
-use Rattle.queries.specs.QueryLaws.{scan-small}
-use Rattle.release.specs.ReadLaws.{row-short, row-done, rows-size}
 use borrow.Author.Needs.{needs}
+use Rattle.queries.specs.QueryLaws.{scan-small}
+use Rattle.release.specs.ReadLaws.{row-done, row-short}
 use Rattle.release.proofs.asking.answer.Statement.{statement}
 use Rattle.release.proofs.asking.answer.Tie as tie
-use Rattle.release.proofs.asking.answer.Reads as reads
-use Rattle.release.proofs.asking.answer.Lts as lts
-use Rattle.queries.proofs.count_neighbours.Reads as count-neighbours-reads
-use Rattle.queries.proofs.write_neighbours.Reads as write-neighbours-reads
-
-mul-end : tie.Need-mul-end
-mul-end c = search needs
-
-slice-aggregate-rows : tie.Need-slice-aggregate-rows
-slice-aggregate-rows c = let pre = c .before .before .before .pre in rows-size _ _ (pre .0) (pre .1)
 
 count-neighbours-requires : tie.Need-count-neighbours-requires
-count-neighbours-requires c κs = let pre = c .before .before .before .pre in (pre .0, sym (rows-size _ _ (pre .0) (pre .1)), pre .2)
+count-neighbours-requires c κs = search needs
+
+refused-requires : tie.Need-refused-requires
+refused-requires c κs = search needs
 
 returns : tie.Need-returns
 returns c =
-    let pre = c .before .before .before .before .before .pre in
-    row-short _ _ _ _ (pre .0) (pre .2) _ (c .before .count-neighbours .ensures) (c .if1 .taken)
+    let e = c .refused .ensures in
+    rw (e .0, e .1) (row-short _ _ _ (c .before .before .count-neighbours .ensures) (c .before .if1 .taken))
 
 write-neighbours-requires : tie.Need-write-neighbours-requires
-write-neighbours-requires c κs =
-    let pre = c .before .before .before .before .before .before .pre in
-    (pre .0, sym (rows-size _ _ (pre .0) (pre .1)), pre .2, rw (c .before .before .count-neighbours .ensures) at (c .before .if1 .left))
+write-neighbours-requires c κs = search needs
 
-cast-t14 : tie.Need-cast-t14
-cast-t14 c =
+cast-t10 : tie.Need-cast-t10
+cast-t10 c =
     let k = c .before .before .before .before .before in
-    let s = k .before .before .before .before .pre .0 in
+    let s = c .before .before .before .before .before .before .before .before .pre .0 in
     let b = scan-small _ _ _ (k .count-neighbours .ensures) in
     omega arith
 
@@ -40,20 +31,16 @@ same-length : tie.Need-same-length
 same-length c = search needs
 
 returns-2 : tie.Need-returns-2
-returns-2 c =
-    let k = c .before .before .before .before .before in
-    let pre = k .before .before .before .before .pre in
-    row-done _ _ _ _ (pre .0) (pre .2) _ (k .count-neighbours .ensures) (c .before .before .before .before .if1 .left) (c .before .before .write-neighbours .ensures)
+returns-2 c = row-done _ _ _ (c .before .before .before .before .before .count-neighbours .ensures) (c .before .before .before .before .if1 .left) (c .before .before .write-neighbours .ensures)
 
 pub answer-spec : {M : Type 1} → statement M
 answer-spec =
     tie.close
     (tie.spec
-    mul-end
-    slice-aggregate-rows
     count-neighbours-requires
+    refused-requires
     returns
     write-neighbours-requires
-    cast-t14
+    cast-t10
     same-length
     returns-2)

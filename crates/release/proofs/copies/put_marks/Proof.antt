@@ -1,36 +1,38 @@
+-- `release::copies::put_marks` meets its contract.
 use Prim.Native.Nat.{_-_, _≤_}
 use native.Mathlib.Omega.{arith}
-use mathlib.Core.Path.{refl}
+use borrow.Author.Needs.{needs}
 use Rattle.release.specs.Fill.{MarksPut}
-use Rattle.release.specs.FillLaws.{put-none, put-more, put-all}
+use Rattle.release.specs.FillLaws.{put-all, put-more, put-none}
 use Rattle.release.proofs.copies.put_marks.Statement.{statement}
 use Rattle.release.proofs.copies.put_marks.Tie as tie
-use Rattle.release.proofs.copies.put_marks.Reads as reads
-use Rattle.release.proofs.copies.put_marks.Lts as lts
 
 abbrev Inv-loop : tie.InvT-loop
-Inv-loop hidden n nodes₀ p₀ nodes p = MarksPut p hidden nodes₀ nodes × (p ≤ n)
+Inv-loop least n nodes₀ p₀ nodes p = MarksPut p least nodes₀ nodes × (p ≤ n)
 
 abbrev μ-loop : tie.MeasureT-loop
-μ-loop hidden n nodes₀ p₀ nodes p = n - p
+μ-loop least n nodes₀ p₀ nodes p = n - p
 
 loop-holds : tie.Need-loop-holds Inv-loop μ-loop
 loop-holds c = (put-none _ _, omega arith)
 
+mul-mark-for : tie.Need-mul-mark-for Inv-loop μ-loop
+mul-mark-for c = omega arith
+
+shared-slice-read-mark-for : tie.Need-shared-slice-read-mark-for Inv-loop μ-loop
+shared-slice-read-mark-for c = omega arith
+
+mark-for-requires : tie.Need-mark-for-requires Inv-loop μ-loop
+mark-for-requires c κs = search needs
+
 mul-nodes : tie.Need-mul-nodes Inv-loop μ-loop
 mul-nodes c = omega arith
-
-shared-slice-read-nodes : tie.Need-shared-slice-read-nodes Inv-loop μ-loop
-shared-slice-read-nodes c = omega arith
-
-mul-nodes-2 : tie.Need-mul-nodes-2 Inv-loop μ-loop
-mul-nodes-2 c = omega arith
 
 add-nodes : tie.Need-add-nodes Inv-loop μ-loop
 add-nodes c = omega arith
 
-mul-nodes-3 : tie.Need-mul-nodes-3 Inv-loop μ-loop
-mul-nodes-3 c = omega arith
+mul-nodes-2 : tie.Need-mul-nodes-2 Inv-loop μ-loop
+mul-nodes-2 c = omega arith
 
 slice-write-nodes : tie.Need-slice-write-nodes Inv-loop μ-loop
 slice-write-nodes c = omega arith
@@ -42,7 +44,7 @@ loop-less : tie.Need-loop-less Inv-loop μ-loop
 loop-less c = omega arith
 
 loop-again : tie.Need-loop-again Inv-loop μ-loop
-loop-again c = (put-more (c .before .before .loop .inv .0) (omega arith) refl, omega arith)
+loop-again c = (put-more (c .before .before .before .loop .inv .0) (omega arith) (c .mark-for .ensures), omega arith)
 
 same-length : tie.Need-same-length Inv-loop μ-loop
 same-length c = c .before .loop .inv .0 .size
@@ -57,11 +59,12 @@ put-marks-spec =
     Inv-loop
     μ-loop
     loop-holds
+    mul-mark-for
+    shared-slice-read-mark-for
+    mark-for-requires
     mul-nodes
-    shared-slice-read-nodes
-    mul-nodes-2
     add-nodes
-    mul-nodes-3
+    mul-nodes-2
     slice-write-nodes
     add-p
     loop-less

@@ -1,0 +1,269 @@
+-- Hidden nodes, which have no edges, share the group of the nodes without edges; the others' groups are those of the visible nodes.
+use mathlib.Core.Path.{_≡_, refl, sym, ap, _∙_}
+use mathlib.Core.Bool.{Bool, true, false, not, cond, _&&_, and-false}
+use mathlib.Core.List.{List}
+use mathlib.Core.Logic.{_⊎_, inl, inr}
+use Prim.Native.Nat.{ℕ, zero, suc, _+_, _*_, _/_, _%_, _≤_, _<_}
+use native.Mathlib.Omega.{arith}
+use lib.Dec.{eqb, ltb}
+use lib.ListN.{getD}
+use borrow.Author.Tests.{eqb-false, eqb-true, eq-eqb, lt-ltb, ltb-false, ltb-true, ne-eqb, not-true}
+use Rattle.model.specs.Lists.{_∈_, nodes}
+use Rattle.model.specs.Graph.{Graph, Proper, whole}
+use Rattle.model.specs.Grouping.{least, similar}
+use Rattle.model.specs.Tables.{bitAt, edgeBit, word}
+use Rattle.model.specs.Release.{isVisible, visible}
+use Rattle.model.specs.TestLaws.{and-fst, and-snd, and-true, decide, differ}
+use Rattle.model.specs.ListLaws.{Ascending}
+use Rattle.model.specs.TwinLaws.{similar-refl, similar-sym}
+use Rattle.model.specs.ClassLaws.{Equivalence, least-eq, least-in, least-le, least-least, least-rel}
+use Rattle.model.specs.ReleaseLaws.{visible-ascending}
+use Rattle.model.specs.HiddenLaws.{least-lone, least-visible, lone-similar, seen-equivalence, seen-in, seen-out, similar-lone, similar-seen}
+use Rattle.rows.specs.BitLaws.{bit-zero, word-cong}
+use Rattle.rows.specs.EdgeLaws.{edges-at}
+use Rattle.search.specs.Search.{Within, edgesIn, graphIn}
+use Rattle.keys.specs.KeySums.{LeastTold}
+use Rattle.compressed.specs.Compressed.{leads}
+use Rattle.adopting.specs.Adopting.{First, Renamed, VisibleTold, emptyTo, hiding, isHidden, isIsolated}
+use Rattle.adopting.specs.LoopLaws.{hidden-here}
+
+-- an empty row is that of a node without edges
+module _ {n : ℕ} {edges : List ℕ} (in-table : Within n edges) where
+  empty-words : (p w : ℕ) → emptyTo edges p w ≡ true → (k : ℕ) → k < w → getD edges (8 * p + k) 0 ≡ 0
+  unfolding emptyTo
+  empty-words p zero h k l = absurd (omega arith)
+  empty-words p (suc w) h k l = step (decide (eqb k w)) (empty-words p w (and-fst (emptyTo edges p w) (eqb (getD edges (8 * p + w) 0) 0) h) k)
+    where
+      step : (eqb k w ≡ true) ⊎ (eqb k w ≡ false) → (k < w → getD edges (8 * p + k) 0 ≡ 0) → getD edges (8 * p + k) 0 ≡ 0
+      step (inl e) below = rw (eqb-true k w e) (eqb-true (getD edges (8 * p + w) 0) 0 (and-snd (emptyTo edges p w) (eqb (getD edges (8 * p + w) 0) 0) h))
+      step (inr e) below = let d : k ≡ w → ⊥ = eqb-false k w e in below (omega arith)
+
+  words-empty : (p w : ℕ) → ((k : ℕ) → k < w → getD edges (8 * p + k) 0 ≡ 0) → emptyTo edges p w ≡ true
+  unfolding emptyTo
+  words-empty p zero h = refl
+  words-empty p (suc w) h = and-true (words-empty p w (λ k l. h k (omega arith))) (eq-eqb (getD edges (8 * p + w) 0) 0 (h w (omega arith)))
+
+  pub empty-lone : (p : ℕ) → emptyTo edges p 8 ≡ true → (q : ℕ) → edgesIn n edges p q ≡ false
+  unfolding edgesIn edgeBit
+  empty-lone p h q = step (decide (ltb q n))
+    where
+      step : (ltb q n ≡ true) ⊎ (ltb q n ≡ false) → (ltb p n && (ltb q n && bitAt (getD edges (8 * p + q / 64) 0) (q % 64))) ≡ false
+      step (inl t) =
+          let l : q < n = ltb-true q n t in
+          rw (empty-words p 8 h (q / 64) (omega (arith, in-table .small)), bit-zero (q % 64), t) (and-false (ltb p n))
+      step (inr t) = rw t (and-false (ltb p n))
+
+  no-word : (k : ℕ) → word k (λ i. false) ≡ 0
+  unfolding word
+  no-word zero = refl
+  no-word (suc k) = rw (no-word k)
+
+  pub lone-empty : (p : ℕ) → p < n → ((q : ℕ) → edgesIn n edges p q ≡ false) → emptyTo edges p 8 ≡ true
+  lone-empty p l h = words-empty p 8 (λ k b. ap (λ (t : List ℕ). getD t (8 * p + k) 0) (in-table .edges-of) ∙ edges-at (graphIn n edges) p k l b ∙ word-cong 64 (λ i. edgesIn n edges p (64 * k + i)) (λ i. false) (λ j m. h (64 * k + j)) ∙ no-word 64)
+
+-- the groups of all nodes
+module _ {n : ℕ} {edges first : List ℕ} (a : VisibleTold n edges first) where
+  abbrev g : Graph
+  g = hiding n edges first
+
+  unhidden : (p : ℕ) → p < n → (getD first p 0 ≡ 65535 → ⊥) → isVisible (hiding n edges first) p ≡ true
+  unfolding isVisible hiding
+  unhidden p l d = rw (lt-ltb p n l, ne-eqb (getD first p 0) 65535 d)
+
+  shown : (p : ℕ) → isVisible (hiding n edges first) p ≡ true → (p < n) × (getD first p 0 ≡ 65535 → ⊥)
+  unfolding isVisible hiding
+  shown p v =
+      let l : p < n = ltb-true p n (and-fst (ltb p n) (not (ltb p n && eqb (getD first p 0) 65535)) v) in
+      let h = and-snd (ltb p n) (not (ltb p n && eqb (getD first p 0) 65535)) v in
+      (l, eqb-false (getD first p 0) 65535 (not-true (eqb (getD first p 0) 65535) (rw (lt-ltb p n l) at h)))
+
+  hidden-first : (p : ℕ) → p < n → isVisible (hiding n edges first) p ≡ false → getD first p 0 ≡ 65535
+  hidden-first p l v = step (decide (eqb (getD first p 0) 65535))
+    where
+      step : (eqb (getD first p 0) 65535 ≡ true) ⊎ (eqb (getD first p 0) 65535 ≡ false) → getD first p 0 ≡ 65535
+      step (inl e) = eqb-true (getD first p 0) 65535 e
+      step (inr e) = differ (unhidden p l (eqb-false (getD first p 0) 65535 e)) v
+
+  proper-hiding : Proper (hiding n edges first)
+  unfolding hiding
+  proper-hiding = record {
+    small = a .proper .small;
+    symmetric = a .proper .symmetric;
+    irreflexive = a .proper .irreflexive;
+    inside = a .proper .inside;
+    held = λ p h. ltb-true p n (and-fst (ltb p n) (eqb (getD first p 0) 65535) h);
+  }
+
+  no-edge : (p q : ℕ) → isVisible (hiding n edges first) q ≡ false → hiding n edges first .edge p q ≡ false
+  unfolding hiding
+  no-edge p q v = step (decide (ltb q n))
+    where
+      step : (ltb q n ≡ true) ⊎ (ltb q n ≡ false) → edgesIn n edges p q ≡ false
+      step (inl t) = a .proper .symmetric p q ∙ a .none q p (ltb-true q n t) (hidden-first q (ltb-true q n t) v)
+      step (inr t) = unfold edgesIn in rw t (and-false (ltb p n))
+
+  both-seen : (p q : ℕ) → isVisible (hiding n edges first) p ≡ true → isVisible (hiding n edges first) q ≡ true → similar (whole (graphIn n edges)) p q ≡ similar (visible (hiding n edges first)) p q
+  unfolding hiding
+  both-seen p q x y = similar-seen g no-edge p q x y
+
+  both-alone : (p q : ℕ) → ((x : ℕ) → edgesIn n edges p x ≡ false) → ((x : ℕ) → edgesIn n edges q x ≡ false) → similar (whole (graphIn n edges)) p q ≡ true
+  unfolding hiding
+  both-alone p q x y = lone-similar g proper-hiding p q x y
+
+  alike-alone : (p q : ℕ) → q < n → ((x : ℕ) → edgesIn n edges p x ≡ false) → similar (whole (graphIn n edges)) p q ≡ true → (x : ℕ) → edgesIn n edges q x ≡ false
+  unfolding hiding
+  alike-alone p q l b t = similar-lone g proper-hiding p q l b t
+
+  -- a node whose group is all visible
+  told-all : (p : ℕ) → isVisible (hiding n edges first) p ≡ true → ((q : ℕ) → q < n → similar (whole (graphIn n edges)) p q ≡ true → isVisible (hiding n edges first) q ≡ true)
+      → getD first p 0 ≡ least (nodes n) (similar (whole (graphIn n edges))) p
+  told-all p v h = a .told p v ∙ (unfold hiding in least-visible g proper-hiding no-edge p v h)
+
+  -- no node is hidden
+  pub told-none : {h : ℕ} → First (isHidden first) n h → h ≡ 65535 → LeastTold n edges first
+  told-none {h} f e = record { size = a .size; told = λ p l. told-all p (seen p l) (λ q m s. seen q m) }
+    where
+      seen : (p : ℕ) → p < n → isVisible (hiding n edges first) p ≡ true
+      seen p l = unhidden p l (λ z. differ (hidden-here first p z) (f .miss p l (omega (arith, a .within .small))))
+
+  -- the first hidden node h, and i, the first member of the group without edges
+  module _ {h i : ℕ} (fh : First (isHidden first) n h) (d : h ≡ 65535 → ⊥) (fi : First (isIsolated edges first) n i) where
+    hidden-alone : (p : ℕ) → p < n → getD first p 0 ≡ 65535 → (q : ℕ) → edgesIn n edges p q ≡ false
+    hidden-alone p l z q = a .none p q l z
+
+    hidden-below : (p : ℕ) → p < n → getD first p 0 ≡ 65535 → h ≤ p
+    hidden-below p l z = step (decide (ltb p h))
+      where
+        step : (ltb p h ≡ true) ⊎ (ltb p h ≡ false) → h ≤ p
+        step (inl t) = differ (hidden-here first p z) (fh .miss p l (ltb-true p h t))
+        step (inr t) = ltb-false p h t
+
+    h-here : (h < n) × (getD first h 0 ≡ 65535)
+    unfolding isHidden
+    h-here = let t = fh .hit d in (t .0, eqb-true (getD first h 0) 65535 (t .1))
+
+    i-here : i < n → (getD first i 0 ≡ i) × ((q : ℕ) → edgesIn n edges i q ≡ false)
+    unfolding isIsolated leads
+    i-here l =
+        let t = fi .hit (λ z. omega (arith, a .within .small)) .1 in
+        (eqb-true (getD first i 0) i (and-fst (eqb (getD first i 0) i) (emptyTo edges i 8) t), empty-lone (a .within) i (and-snd (eqb (getD first i 0) i) (emptyTo edges i 8) t))
+
+    -- what is told of a visible node: a visible one of its group
+    module _ (p : ℕ) (v : isVisible (hiding n edges first) p ≡ true) where
+      abbrev m : ℕ
+      m = least (visible (hiding n edges first) .nodes) (similar (visible (hiding n edges first))) p
+
+      abbrev ws : List ℕ
+      ws = visible (hiding n edges first) .nodes
+
+      abbrev s : ℕ → ℕ → Bool
+      s = similar (visible (hiding n edges first))
+
+      eqv : Equivalence (visible (hiding n edges first) .nodes) (similar (visible (hiding n edges first)))
+      eqv = seen-equivalence g proper-hiding
+
+      up : Ascending (visible (hiding n edges first) .nodes)
+      up = visible-ascending g
+
+      p-in : p ∈ visible (hiding n edges first) .nodes
+      p-in = seen-in g p v
+
+      m-in : m ∈ visible (hiding n edges first) .nodes
+      m-in = least-in ws s eqv up p p-in
+
+      m-seen : isVisible (hiding n edges first) m ≡ true
+      m-seen = seen-out g m m-in
+
+      m-like : similar (whole (graphIn n edges)) p m ≡ true
+      m-like = both-seen p m v m-seen ∙ least-rel ws s eqv up p p-in
+
+      m-own : getD first m 0 ≡ m
+      m-own = a .told m m-seen ∙ least-least ws s eqv up p p-in
+
+      m-low : m ≤ p
+      m-low = least-le ws s eqv up p p p-in (similar-refl (visible g) p)
+
+    -- a visible node without edges
+    lone-first : (p : ℕ) → isVisible (hiding n edges first) p ≡ true → ((x : ℕ) → edgesIn n edges p x ≡ false) → (getD first p 0 ≡ i) × (i < n)
+    unfolding isIsolated leads
+    lone-first p v b =
+        let k = m p v in
+        let lk : k < n = shown k (m-seen p v) .0 in
+        let bk = alike-alone p k lk b (m-like p v) in
+        let found : isIsolated edges first k ≡ true = and-true (eq-eqb (getD first k 0) k (m-own p v)) (lone-empty (a .within) k lk bk) in
+        let li : i < n = below k lk found (decide (ltb k i)) in
+        let vi : isVisible (hiding n edges first) i ≡ true = unhidden i li (λ z. omega (arith, i-here li .0, a .within .small)) in
+        let like : similar (visible (hiding n edges first)) p i ≡ true = sym (both-seen p i v vi) ∙ both-alone p i b (i-here li .1) in
+        (a .told p v ∙ least-eq (visible (hiding n edges first) .nodes) (similar (visible (hiding n edges first))) (eqv p v) (up p v) p i (p-in p v) (p-in i vi) like ∙ sym (a .told i vi) ∙ i-here li .0, li)
+      where
+        below : (k : ℕ) → k < n → isIsolated edges first k ≡ true → (ltb k i ≡ true) ⊎ (ltb k i ≡ false) → i < n
+        below k l t (inl z) = differ t (fi .miss k l (ltb-true k i z))
+        below k l t (inr z) = omega (arith, ltb-false k i z)
+
+    -- a node with an edge
+    pub edge-first : (p : ℕ) → p < n → emptyTo edges p 8 ≡ false → (getD first p 0 ≡ least (nodes n) (similar (whole (graphIn n edges))) p) × (getD first p 0 ≡ 65535 → ⊥) × (getD first p 0 ≡ i → ⊥)
+    edge-first p l e = (told-all p v group-seen, shown p v .1, apart)
+      where
+        clash : {X : Type 0} → ((x : ℕ) → edgesIn n edges p x ≡ false) → X
+        clash b = differ (lone-empty (a .within) p l b) e
+
+        v : isVisible (hiding n edges first) p ≡ true
+        v = unhidden p l (λ z. clash (hidden-alone p l z))
+
+        group-seen : (q : ℕ) → q < n → similar (whole (graphIn n edges)) p q ≡ true → isVisible (hiding n edges first) q ≡ true
+        group-seen q k t = unhidden q k (λ z. clash (alike-alone q p l (hidden-alone q k z) (similar-sym (whole (graphIn n edges)) p q t)))
+
+        apart : getD first p 0 ≡ i → ⊥
+        apart z =
+            let y : m p v ≡ i = sym (a .told p v) ∙ z in
+            let li : i < n = omega (arith, shown (m p v) (m-seen p v) .0) in
+            clash (alike-alone i p l (i-here li .1) (ap (λ (x : ℕ). similar (whole (graphIn n edges)) x p) (sym y) ∙ similar-sym (whole (graphIn n edges)) p (m p v) (m-like p v)))
+
+    -- a node without edges, where k is the lesser of h and i
+    module _ (k : ℕ) (lk : k < n) (bk : (x : ℕ) → edgesIn n edges k x ≡ false) (kh : k ≤ h) (ki : i < n → k ≤ i) where
+      pub lone-least : (p : ℕ) → p < n → emptyTo edges p 8 ≡ true → k ≡ least (nodes n) (similar (whole (graphIn n edges))) p
+      lone-least p l e = unfold hiding in least-lone g proper-hiding p k l (empty-lone (a .within) p e) lk bk low
+        where
+          low : (q : ℕ) → q < n → ((x : ℕ) → edgesIn n edges q x ≡ false) → k ≤ q
+          low q y b = step (decide (isVisible (hiding n edges first) q))
+            where
+              step : (isVisible (hiding n edges first) q ≡ true) ⊎ (isVisible (hiding n edges first) q ≡ false) → k ≤ q
+              step (inl v) =
+                  let t = lone-first q v b in
+                  omega (arith, a .told q v, m-low q v, t .0, ki (t .1))
+              step (inr v) = omega (arith, hidden-below q y (hidden-first q y v))
+
+    pub told-low : {after : List ℕ} → i < h → Renamed n 65535 i first after → LeastTold n edges after
+    told-low {after} b t = record { size = omega (arith, a .size, t .size); told = λ p l. t .names p l ∙ at p l (decide (emptyTo edges p 8)) (decide (eqb (getD first p 0) 65535)) }
+      where
+        li : i < n
+        li = omega (arith, h-here .0)
+
+        at : (p : ℕ) → p < n → (emptyTo edges p 8 ≡ true) ⊎ (emptyTo edges p 8 ≡ false) → (eqb (getD first p 0) 65535 ≡ true) ⊎ (eqb (getD first p 0) 65535 ≡ false)
+            → cond (eqb (getD first p 0) 65535) i (getD first p 0) ≡ least (nodes n) (similar (whole (graphIn n edges))) p
+        at p l (inl e) (inl z) = rw z (lone-least i li (i-here li .1) (omega arith) (λ y. omega arith) p l e)
+        at p l (inl e) (inr z) = rw z (lone-first p (unhidden p l (eqb-false (getD first p 0) 65535 z)) (empty-lone (a .within) p e) .0 ∙ lone-least i li (i-here li .1) (omega arith) (λ y. omega arith) p l e)
+        at p l (inr e) (inl z) = absurd (edge-first p l e .1 (eqb-true (getD first p 0) 65535 z))
+        at p l (inr e) (inr z) = rw z (edge-first p l e .0)
+
+    pub told-high : {mid after : List ℕ} → h ≤ i → Renamed n 65535 h first mid → Renamed n i h mid after → LeastTold n edges after
+    told-high {mid} {after} b t u = record {
+      size = omega (arith, a .size, t .size, u .size);
+      told = λ p l. u .names p l ∙ ap (λ (x : ℕ). cond (eqb x i) h x) (t .names p l) ∙ at p l (decide (emptyTo edges p 8)) (decide (eqb (getD first p 0) 65535));
+    }
+      where
+        low : (p : ℕ) → p < n → emptyTo edges p 8 ≡ true → h ≡ least (nodes n) (similar (whole (graphIn n edges))) p
+        low p l e = lone-least h (h-here .0) (hidden-alone h (h-here .0) (h-here .1)) (omega arith) (λ y. b) p l e
+
+        same : (x : Bool) → cond x h h ≡ h
+        same true = refl
+        same false = refl
+
+        at : (p : ℕ) → p < n → (emptyTo edges p 8 ≡ true) ⊎ (emptyTo edges p 8 ≡ false) → (eqb (getD first p 0) 65535 ≡ true) ⊎ (eqb (getD first p 0) 65535 ≡ false)
+            → cond (eqb (cond (eqb (getD first p 0) 65535) h (getD first p 0)) i) h (cond (eqb (getD first p 0) 65535) h (getD first p 0)) ≡ least (nodes n) (similar (whole (graphIn n edges))) p
+        at p l (inl e) (inl z) = rw z (same (eqb h i) ∙ low p l e)
+        at p l (inl e) (inr z) =
+            let y = lone-first p (unhidden p l (eqb-false (getD first p 0) 65535 z)) (empty-lone (a .within) p e) .0 in
+            rw (z, eq-eqb (getD first p 0) i y) (low p l e)
+        at p l (inr e) (inl z) = absurd (edge-first p l e .1 (eqb-true (getD first p 0) 65535 z))
+        at p l (inr e) (inr z) = rw (z, ne-eqb (getD first p 0) i (edge-first p l e .2)) (edge-first p l e .0)

@@ -1,0 +1,3 @@
+pub mod Adopting
+pub mod LoopLaws
+pub mod HidingLaws

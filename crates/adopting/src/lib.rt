@@ -1,0 +1,79 @@
+// Hidden nodes, which have no edges, put into the group of the nodes without edges.
+ghost use mathlib.Core.Path.{_≡_};
+ghost use Prim.Native.Nat.{_+_, _*_, _≤_, _<_};
+ghost use lib.ListN.{length};
+ghost use Rattle.model.specs.Graph.{maxNodes, rowWords};
+ghost use Rattle.keys.specs.KeySums.{LeastTold};
+ghost use Rattle.adopting.specs.Adopting.{First, Renamed, VisibleTold, emptyRow, isHidden, isIsolated};
+use rows::Graph;
+
+// Whether p's row is empty.
+fn is_empty(edges: &[u64], p: usize) -> bool
+    requires { ⌜ (p < maxNodes) × (rowWords * p + rowWords ≤ length (now edges)) ⌝ }
+    ensures { λ r. ⌜ r ≡ emptyRow (now (edges .entry)) p ⌝ }
+{
+    let a = Graph::ROW_WORDS * p;
+    let mut any = 0u64;
+    for w in 0..Graph::ROW_WORDS {
+        any = any | edges[a + w];
+    }
+    any == 0
+}
+
+// The first member of the group without edges, NONE if there is none.
+fn find_isolated(edges: &[u64], least: &[u16], n: usize) -> u16
+    requires { ⌜ (n ≤ maxNodes) × (n ≤ length (now least)) × (rowWords * n ≤ length (now edges)) ⌝ }
+    ensures { λ r. ⌜ First (isIsolated (now (edges .entry)) (now (least .entry))) n r ⌝ }
+{
+    for p in 0..n {
+        if rows::wide(least[p]) == p {
+            if is_empty(edges, p) {
+                return p as u16;
+            }
+        }
+    }
+    Graph::NONE
+}
+
+// The first hidden node, NONE if there is none.
+fn find_hidden(least: &[u16], n: usize) -> u16
+    requires { ⌜ (n ≤ maxNodes) × (n ≤ length (now least)) ⌝ }
+    ensures { λ r. ⌜ First (isHidden (now (least .entry))) n r ⌝ }
+{
+    for p in 0..n {
+        if least[p] == Graph::NONE {
+            return p as u16;
+        }
+    }
+    Graph::NONE
+}
+
+// Whoever has x for its first member has y.
+fn rename(least: &mut [u16], n: usize, x: u16, y: u16)
+    requires { ⌜ n ≤ length (now least) ⌝ }
+    ensures { λ _. ⌜ Renamed n x y (now (least .entry)) (now (least .exit)) ⌝ }
+{
+    for p in 0..n {
+        if least[p] == x {
+            least[p] = y;
+        }
+    }
+}
+
+// The least members of the groups of all nodes, from those of the visible ones: hidden nodes join the group without edges.
+pub fn adopt_hidden(edges: &[u64], n: usize, least: &mut [u16])
+    requires { ⌜ VisibleTold n (now edges) (now least) ⌝ }
+    ensures { λ _. ⌜ LeastTold n (now (edges .entry)) (now (least .exit)) ⌝ }
+{
+    let hidden = find_hidden(least, n);
+    if hidden == Graph::NONE {
+        return;
+    }
+    let isolated = find_isolated(edges, least, n);
+    if isolated < hidden {
+        rename(least, n, Graph::NONE, isolated);
+        return;
+    }
+    rename(least, n, Graph::NONE, hidden);
+    rename(least, n, isolated, hidden);
+}

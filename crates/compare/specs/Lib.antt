@@ -1,9 +1,0 @@
-pub mod Agree
-pub mod AgreeLaws
-pub mod PairLaws
-pub mod ToldGroupLaws
-pub mod Told
-pub mod WalkLaws
-pub mod SameLaws
-pub mod ToldLeast
-pub mod ToldLeastLaws

@@ -1,0 +1,107 @@
+-- A graph held by its groups: for each node the first member of its group, for each first member the group's kind and a row of the
+-- first members that it is joined to.
+use mathlib.Core.Path.{_≡_}
+use mathlib.Core.Bool.{Bool, true, false, not, _&&_, _||_, cond}
+use mathlib.Core.List.{List, [], _∷_}
+use Prim.Native.Nat.{ℕ, _*_, _≤_, _<_}
+use lib.Dec.{eqb, ltb}
+use lib.ListN.{length, getD}
+use Rattle.model.specs.Lists.{all, headOr, member, nodes}
+use Rattle.model.specs.Graph.{Graph, maxNodes, rowWords}
+use Rattle.model.specs.Tables.{edgeBit}
+use Rattle.model.specs.InOrder.{membersAt}
+use Rattle.rows.specs.Rows.{noNode}
+use Rattle.search.specs.Search.{meets, rowIn}
+
+-- the kinds of a group: of one node, independent, a clique
+abbrev pub single : ℕ
+single = 0
+
+abbrev pub independent : ℕ
+independent = 1
+
+abbrev pub clique : ℕ
+clique = 2
+
+unfoldable pub kindBy : Bool → ℕ → ℕ
+kindBy marked count = cond marked clique (cond (eqb count 1) single independent)
+
+-- the first member of p's group; the kind of the group that p is the first member of
+unfoldable pub firstOf : List (Bool × List ℕ) → ℕ → ℕ
+firstOf [] p = noNode
+firstOf (g ∷ gs) p = cond (member p (g .1)) (headOr 0 (g .1)) (firstOf gs p)
+
+unfoldable pub kindLed : List (Bool × List ℕ) → ℕ → ℕ
+kindLed [] p = single
+kindLed (g ∷ gs) p = cond (eqb p (headOr 0 (g .1))) (kindBy (g .0) (length (g .1))) (kindLed gs p)
+
+-- the first member of the group at a position
+unfoldable pub firstAt : List (Bool × List ℕ) → ℕ → ℕ
+firstAt gs i = headOr 0 (membersAt gs i)
+
+-- the first members of two groups with a superedge
+unfoldable pub joinedBy : List (Bool × List ℕ) → List (ℕ × ℕ) → ℕ → ℕ → Bool
+joinedBy gs [] a b = false
+joinedBy gs (x ∷ xs) a b =
+    ((eqb a (firstAt gs (x .0)) && eqb b (firstAt gs (x .1))) || (eqb a (firstAt gs (x .1)) && eqb b (firstAt gs (x .0))))
+    || joinedBy gs xs a b
+
+-- arrays that tell groups and superedges
+pub record Told (gs : List (Bool × List ℕ)) (js : List (ℕ × ℕ)) (least kinds joined : List ℕ) : Type 0 where
+  pub first : (p : ℕ) → p < maxNodes → getD least p 0 ≡ firstOf gs p
+  pub kind : (p : ℕ) → p < maxNodes → getD kinds p 0 ≡ kindLed gs p
+  pub bits : (a b : ℕ) → b < maxNodes → edgeBit joined a b ≡ joinedBy gs js a b
+
+-- the graph that such arrays unfold to
+unfoldable pub placed : ℕ → List ℕ → ℕ → Bool
+placed n least p = ltb p n && not (eqb (getD least p 0) noNode)
+
+unfoldable pub unfoldedEdge : List ℕ → List ℕ → List ℕ → ℕ → ℕ → Bool
+unfoldedEdge least kinds joined p q =
+    cond (eqb (getD least p 0) (getD least q 0))
+    (eqb (getD kinds (getD least p 0) 0) clique && not (eqb p q))
+    (edgeBit joined (getD least p 0) (getD least q 0))
+
+unfoldable pub unfolded : ℕ → List ℕ → List ℕ → List ℕ → Graph
+unfolded n least kinds joined = record {
+  nodeCount = n;
+  edge = λ p q. placed n least p && (placed n least q && unfoldedEdge least kinds joined p q);
+  hidden = λ p. ltb p n && eqb (getD least p 0) noNode;
+}
+
+-- p is the first member of its group
+unfoldable pub leads : List ℕ → ℕ → Bool
+leads least p = eqb (getD least p 0) p
+
+-- what such arrays keep to
+pub record Compressed (n : ℕ) (least kinds joined : List ℕ) : Type 0 where
+  pub small : n ≤ maxNodes
+  pub nodes : length least ≡ maxNodes
+  pub groups : length kinds ≡ maxNodes
+  pub rows : length joined ≡ rowWords * maxNodes
+  -- a node of the graph has no group, or a first member at or before it, which is its own
+  pub outside : (p : ℕ) → n ≤ p → p < maxNodes → getD least p 0 ≡ noNode
+  pub before : (p : ℕ) → placed n least p ≡ true → getD least p 0 ≤ p
+  pub first : (p : ℕ) → placed n least p ≡ true → leads least (getD least p 0) ≡ true
+  -- only first members are joined, without direction, none to itself
+  pub joins : (p q : ℕ) → q < maxNodes → edgeBit joined p q ≡ true → (p < n) × (q < n) × (leads least p ≡ true) × (leads least q ≡ true)
+  pub symmetric : (p q : ℕ) → p < maxNodes → q < maxNodes → edgeBit joined p q ≡ edgeBit joined q p
+  pub irreflexive : (p : ℕ) → p < maxNodes → edgeBit joined p p ≡ false
+  -- a kind other than `single` is that of a first member; a group of that kind has no other member
+  pub kind : (p : ℕ) → p < maxNodes → (getD kinds p 0 ≡ single → ⊥) → (p < n) × (leads least p ≡ true)
+  pub most : (p : ℕ) → p < maxNodes → getD kinds p 0 ≤ clique
+  pub alone : (p : ℕ) → placed n least p ≡ true → getD kinds (getD least p 0) 0 ≡ single → getD least p 0 ≡ p
+
+-- the rows of u and q agree, as open or as closed ones
+unfoldable pub alike : List ℕ → Bool → ℕ → ℕ → Bool
+alike edges closed u q = meets closed u q (rowIn edges u) (rowIn edges q) rowWords
+
+-- the groups that u and q lead could be one: of no clique with open rows that agree, or of no independent group with closed ones
+unfoldable pub merges : List ℕ → List ℕ → ℕ → ℕ → Bool
+merges kinds joined u q =
+    (not (eqb (getD kinds u 0) clique) && (not (eqb (getD kinds q 0) clique) && alike joined false u q))
+    || (not (eqb (getD kinds u 0) independent) && (not (eqb (getD kinds q 0) independent) && alike joined true u q))
+
+-- no two groups could be one
+unfoldable pub apart : ℕ → List ℕ → List ℕ → List ℕ → Bool
+apart n least kinds joined = all (nodes n) (λ u. not (leads least u) || all (nodes u) (λ q. not (leads least q && merges kinds joined u q)))

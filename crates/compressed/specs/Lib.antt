@@ -1,0 +1,5 @@
+pub mod Compressed
+pub mod ToldLaws
+pub mod RowLaws
+pub mod ApartLaws
+pub mod ReleasedLaws

@@ -1,0 +1,36 @@
+-- Bits put into the rows of an edge table.
+use mathlib.Core.Path.{_≡_}
+use mathlib.Core.Bool.{Bool, not, _&&_, _||_}
+use mathlib.Core.List.{List}
+use Prim.Native.Nat.{ℕ, _/_, _<_}
+use lib.Dec.{eqb, ltb}
+use lib.ListN.{length}
+use Rattle.model.specs.Graph.{maxNodes}
+use Rattle.model.specs.Tables.{edgeBit}
+
+-- the bits of f are put in, everything else is as it was
+pub record Added (f : ℕ → ℕ → Bool) (t after : List ℕ) : Type 0 where
+  pub size : length after ≡ length t
+  pub bits : (a b : ℕ) → b < maxNodes → edgeBit after a b ≡ (edgeBit t a b || f a b)
+
+-- underway: with the rest put in, all will have been put in
+pub record Adding (all rest : ℕ → ℕ → Bool) (t now : List ℕ) : Type 0 where
+  pub size : length now ≡ length t
+  pub bits : (a b : ℕ) → b < maxNodes → (edgeBit now a b || rest a b) ≡ (edgeBit t a b || all a b)
+
+-- the bit for q in p's row, and that for p in q's row too
+unfoldable pub oneBit : ℕ → ℕ → ℕ → ℕ → Bool
+oneBit p q a b = eqb a p && eqb b q
+
+unfoldable pub onePair : ℕ → ℕ → ℕ → ℕ → Bool
+onePair p q a b = oneBit p q a b || oneBit q p a b
+
+-- a set in p's row; its word w; its words from w on
+unfoldable pub rowTo : ℕ → List ℕ → ℕ → ℕ → Bool
+rowTo p set a b = eqb a p && edgeBit set 0 b
+
+unfoldable pub rowWord : ℕ → List ℕ → ℕ → ℕ → ℕ → Bool
+rowWord p set w a b = eqb (b / 64) w && rowTo p set a b
+
+unfoldable pub rowFrom : ℕ → List ℕ → ℕ → ℕ → ℕ → Bool
+rowFrom p set w a b = not (ltb (b / 64) w) && rowTo p set a b

@@ -1,0 +1,3 @@
+pub mod Drawing
+pub mod BitLaws
+pub mod DrawingLaws

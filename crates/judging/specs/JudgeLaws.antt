@@ -1,0 +1,139 @@
+-- A file that was read is a release exactly if no two of its groups could be one.
+use mathlib.Core.Path.{_≡_, refl, sym, ap, subst, _∙_}
+use mathlib.Core.Bool.{Bool, true, false, cond, not}
+use mathlib.Core.List.{List, [], _∷_}
+use mathlib.Core.Logic.{_⊎_, inl, inr}
+use Prim.Native.Nat.{ℕ, _*_, _≤_, _<_}
+use native.Mathlib.Omega.{arith}
+use lib.Dec.{eqb}
+use lib.ListN.{length}
+use Rattle.model.specs.Graph.{Graph, maxNodes, rowWords}
+use Rattle.model.specs.Refusals.{firstOf}
+use Rattle.model.specs.Release.{isVisible}
+use Rattle.model.specs.Reading.{decode, graphBy, isRelease, summaryBy, u16At}
+use Rattle.model.specs.InOrder.{fileBy, groupsFit, inOrder, superedgesFit, toldGroups, toldSuperedges}
+use Rattle.model.specs.InOrderLaws.{in-order-parts}
+use Rattle.model.specs.ReleaseOrderLaws.{release-in-order}
+use Rattle.model.specs.ToldGraphLaws.{decode-file, told-proper}
+use Rattle.model.specs.MergeLaws.{in-order-release}
+use Rattle.model.specs.ReadBackLaws.{visible-inside}
+use Rattle.model.specs.TestLaws.{decide}
+use Rattle.rows.specs.Rows.{Words}
+use Rattle.compressed.specs.Compressed.{Told, apart, unfolded}
+use Rattle.compressed.specs.ToldLaws.{told-compressed, told-unfolded}
+use Rattle.compressed.specs.ApartLaws.{told-apart}
+use Rattle.compressed.specs.ReleasedLaws.{release-least}
+use Rattle.reader.specs.declared.Decoded.{Decoded}
+use Rattle.reader.specs.declared.Decoded.the-variants as answer
+use Rattle.reader.specs.Decoding.{Decodes, accepted, decoded}
+use Rattle.reader.specs.Bytes.{Bytes}
+use Rattle.reader.specs.BytesLaws.{accepted-in-order}
+use Rattle.reader.specs.AcceptLaws.{in-order-accepted}
+use Rattle.judging.specs.Numbers.{askedNumber, readNumber}
+use Rattle.judging.specs.Judging.{Exact, Judged}
+
+-- a release is accepted
+release-accepted : (s : List ℕ) → isRelease s ≡ true → accepted s ≡ true
+release-accepted s t =
+    let o = release-in-order s t in
+    ap accepted (o .1) ∙ in-order-accepted (u16At s 2) (toldGroups s) (toldSuperedges s) (o .0)
+
+-- what the answer says of the bytes
+answer-accepts : (s : List ℕ) (n : ℕ) → answer.Graph n ≡ decoded s → (accepted s ≡ true) × (n ≡ u16At s 2)
+unfolding decoded
+answer-accepts s n e = step (decide (accepted s))
+  where
+    step : (accepted s ≡ true) ⊎ (accepted s ≡ false) → (accepted s ≡ true) × (n ≡ u16At s 2)
+    step (inl t) = let f : answer.Graph n ≡ answer.Graph (u16At s 2) = rw t at e in (t, cc)
+    step (inr t) = let f : answer.Graph n ≡ answer.NoRelease = rw t at e in let z : _≡_ {A = ℕ} 0 1 = cc in absurd (omega arith)
+
+answer-none : (s : List ℕ) → answer.NoRelease ≡ decoded s → isRelease s ≡ false
+unfolding decoded
+answer-none s e = step (decide (isRelease s))
+  where
+    step : (isRelease s ≡ true) ⊎ (isRelease s ≡ false) → isRelease s ≡ false
+    step (inl t) = let f : answer.NoRelease ≡ answer.Graph (u16At s 2) = rw (release-accepted s t) at e in let z : _≡_ {A = ℕ} 0 1 = cc in absurd (omega arith)
+    step (inr t) = t
+
+-- no release, by its number
+judged-no : (s : List ℕ) {first kinds joined : List ℕ} → isRelease s ≡ false → Judged s first kinds joined answer.NoRelease
+judged-no s z = record {
+  asked = unfold askedNumber firstOf in rw z;
+  read = λ n. unfold readNumber firstOf in rw z;
+  graph = λ n w. never n w;
+  exact = λ n w. never n w;
+}
+  where
+    never : {X : Type 0} (n : ℕ) → answer.NoRelease ≡ answer.Graph n → X
+    never n w = let x : _≡_ {A = ℕ} 0 1 = cc in absurd (omega arith)
+
+pub judged-none : (s : List ℕ) {first kinds joined : List ℕ} {r : Decoded} → Decodes s first kinds joined r → r ≡ answer.NoRelease → Judged s first kinds joined answer.NoRelease
+judged-none s d e = judged-no s (answer-none s (sym e ∙ d .result))
+
+-- the number of the release of a graph of n nodes
+release-number : (s : List ℕ) (n : ℕ) → isRelease s ≡ true → decode s .nodeCount ≡ n → (m : ℕ) → readNumber m (answer.Graph n) ≡ firstOf ((not (isRelease s), 19) ∷ (not (eqb (decode s .nodeCount) m), 20) ∷ [])
+unfolding readNumber firstOf
+release-number s n t count m = rw (t, count) (step (eqb n m))
+  where
+    step : (b : Bool) → _≡_ {A = ℕ} (cond b 0 20) (cond (not b) 20 0)
+    step true = refl
+    step false = refl
+
+module _ (s : List ℕ) (bytes : Bytes s) {first kinds joined : List ℕ} (n : ℕ) {r : Decoded} (d : Decodes s first kinds joined r) (e : r ≡ answer.Graph n) (w : Words joined) where
+  abbrev gs : List (Bool × List ℕ)
+  gs = toldGroups s
+
+  abbrev js : List (ℕ × ℕ)
+  js = toldSuperedges s
+
+  known : (accepted s ≡ true) × (n ≡ u16At s 2)
+  known = answer-accepts s n (sym e ∙ d .result)
+
+  ordered : inOrder n (toldGroups s) (toldSuperedges s) ≡ true
+  ordered = subst (λ (k : ℕ). inOrder k (toldGroups s) (toldSuperedges s) ≡ true) (sym (known .1)) (accepted-in-order s bytes (known .0) .0)
+
+  parts : (n ≤ maxNodes) × (groupsFit n (λ p. false) 0 (toldGroups s) ≡ true) × (superedgesFit (length (toldGroups s)) 0 (toldSuperedges s) ≡ true)
+  parts = in-order-parts n (toldGroups s) (toldSuperedges s) ordered
+
+  -- what is asked of the arrays whose groups are told apart
+  pub apart-asked : (n ≤ maxNodes) × (length joined ≡ rowWords * maxNodes) × (n ≤ length first) × (n ≤ length kinds)
+  apart-asked = (parts .0, d .rows, omega (arith, parts .0, d .nodes), omega (arith, parts .0, d .groups))
+
+  file : s ≡ fileBy n (toldGroups s) (toldSuperedges s)
+  file = accepted-in-order s bytes (known .0) .1 ∙ ap (λ (k : ℕ). fileBy k (toldGroups s) (toldSuperedges s)) (sym (known .1))
+
+  told : Told (toldGroups s) (toldSuperedges s) first kinds joined
+  told = d .told (known .0)
+
+  graph : unfolded n first kinds joined ≡ decode s
+  graph = told-unfolded n (toldGroups s) (toldSuperedges s) ordered told (d .nodes) (d .groups) (d .rows) ∙ sym (ap decode file ∙ decode-file n (toldGroups s) (toldSuperedges s))
+
+  same : apart n first kinds joined ≡ isRelease s
+  same = told-apart n (toldGroups s) (toldSuperedges s) ordered told (d .nodes) (d .groups) (d .rows) w ∙ sym (ap isRelease file ∙ in-order-release n (toldGroups s) (toldSuperedges s) ordered)
+
+  pub judged-other : {b : Bool} → b ≡ apart n first kinds joined → b ≡ false → Judged s first kinds joined answer.NoRelease
+  judged-other c z = judged-no s (sym same ∙ sym c ∙ z)
+
+  pub judged-release : {b : Bool} → b ≡ apart n first kinds joined → b ≡ true → Judged s first kinds joined (answer.Graph n)
+  judged-release {b} c z = record {
+    asked = unfold askedNumber firstOf in rw is;
+    read = release-number s n is (sym (ap (λ (g : Graph). g .nodeCount) graph) ∙ unfold unfolded in refl);
+    graph = λ m x. let q : n ≡ m = cc in ap (λ (k : ℕ). unfolded k first kinds joined) (sym q) ∙ graph;
+    exact = λ m x. let q : n ≡ m = cc in subst (λ (k : ℕ). Exact k first kinds joined) q exact;
+  }
+    where
+      is : isRelease s ≡ true
+      is = sym same ∙ sym c ∙ z
+
+      by-groups : unfolded n first kinds joined ≡ graphBy n (summaryBy (toldGroups s) (toldSuperedges s))
+      by-groups = told-unfolded n (toldGroups s) (toldSuperedges s) ordered told (d .nodes) (d .groups) (d .rows)
+
+      below : (p : ℕ) → isVisible (unfolded n first kinds joined) p ≡ true → p < maxNodes
+      below p v = let l : p < n = unfold unfolded in visible-inside (unfolded n first kinds joined) p v in omega (arith, parts .0)
+
+      exact : Exact n first kinds joined
+      exact = record {
+        compressed = told-compressed n (toldGroups s) (toldSuperedges s) ordered told (d .nodes) (d .groups) (d .rows);
+        proper = rw by-groups (told-proper n (toldGroups s) (toldSuperedges s) (parts .0) (parts .1));
+        told = λ p v. rw by-groups (told .first p (below p v) ∙ release-least n (toldGroups s) (toldSuperedges s) ordered (sym (ap isRelease file) ∙ is) p (rw by-groups at v));
+      }

@@ -1,0 +1,36 @@
+-- Rows unfolded from groups.
+use mathlib.Core.Path.{_≡_}
+use mathlib.Core.Bool.{Bool, not, _&&_, cond}
+use mathlib.Core.List.{List}
+use Prim.Native.Nat.{ℕ, _<_}
+use lib.Dec.{eqb}
+use lib.ListN.{length, getD}
+use Rattle.model.specs.Graph.{maxNodes, rowWords}
+use Rattle.model.specs.Tables.{edgeBit}
+use Rattle.rows.specs.Rows.{noNode}
+use Rattle.compressed.specs.Compressed.{placed, unfolded}
+
+-- a row has the bits of p's neighbours in the graph that arrays unfold to
+pub record NeighbourRow (n : ℕ) (first kinds joined : List ℕ) (p : ℕ) (row : List ℕ) : Type 0 where
+  pub bits : (q : ℕ) → q < maxNodes → edgeBit row 0 q ≡ unfolded n first kinds joined .edge p q
+
+-- first members have bits in a row
+abbrev pub Fitting : ℕ → List ℕ → Type 0
+Fitting n first = (q : ℕ) → q < n → (getD first q 0 ≡ noNode → ⊥) → getD first q 0 < maxNodes
+
+-- whether a row has the bit of a first member
+unfoldable pub joinBit : List ℕ → ℕ → Bool
+joinBit row l = not (eqb l noNode) && edgeBit row 0 l
+
+-- q is one of n nodes, and its first member is chosen
+unfoldable pub reached : ℕ → List ℕ → (ℕ → Bool) → ℕ → Bool
+reached n first P q = placed n first q && P (getD first q 0)
+
+-- a row has the bits of the nodes whose first members are chosen
+pub record Spread (n : ℕ) (first : List ℕ) (P : ℕ → Bool) (row : List ℕ) : Type 0 where
+  pub size : length row ≡ rowWords
+  pub bits : (q : ℕ) → q < maxNodes → edgeBit row 0 q ≡ reached n first P q
+
+-- and p's bit is the other way
+pub record SpreadBut (p n : ℕ) (first : List ℕ) (P : ℕ → Bool) (row : List ℕ) : Type 0 where
+  pub bits : (q : ℕ) → q < maxNodes → edgeBit row 0 q ≡ cond (eqb q p) (not (reached n first P q)) (reached n first P q)
