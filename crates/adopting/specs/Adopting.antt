@@ -9,8 +9,7 @@ use Rattle.model.specs.Graph.{Graph, Proper, rowWords}
 use Rattle.model.specs.Grouping.{least, similar}
 use Rattle.model.specs.Release.{isVisible, visible}
 use Rattle.search.specs.Search.{Within, edgesIn, graphIn, graphWith}
-use Rattle.rows.specs.Rows.{noNode}
-use Rattle.compressed.specs.Compressed.{leads}
+use Rattle.rows.specs.Rows.{leads, noNode}
 
 -- the graph of an edge table, in which nodes without a first member are hidden
 unfoldable pub hiding : ℕ → List ℕ → List ℕ → Graph
@@ -45,6 +44,6 @@ pub record First (P : ℕ → Bool) (n r : ℕ) : Type 0 where
   pub miss : (p : ℕ) → p < n → p < r → P p ≡ false
 
 -- of the first n numbers, those that were x are y
-pub record Renamed (n x y : ℕ) (t after : List ℕ) : Type 0 where
+pub record NumbersRenamed (n x y : ℕ) (t after : List ℕ) : Type 0 where
   pub size : length after ≡ length t
   pub names : (p : ℕ) → p < n → getD after p 0 ≡ cond (eqb (getD t p 0) x) y (getD t p 0)

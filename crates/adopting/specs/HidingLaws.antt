@@ -18,13 +18,13 @@ use Rattle.model.specs.ListLaws.{Ascending}
 use Rattle.model.specs.TwinLaws.{similar-refl, similar-sym}
 use Rattle.model.specs.ClassLaws.{Equivalence, least-eq, least-in, least-le, least-least, least-rel}
 use Rattle.model.specs.ReleaseLaws.{visible-ascending}
-use Rattle.model.specs.HiddenLaws.{least-lone, least-visible, lone-similar, seen-equivalence, seen-in, seen-out, similar-lone, similar-seen}
+use Rattle.model.specs.HiddenLaws.{isolated-similar, least-isolated, least-visible, seen-equivalence, seen-in, seen-out, similar-isolated, similar-seen}
+use Rattle.rows.specs.Rows.{leads}
 use Rattle.rows.specs.BitLaws.{bit-zero, word-cong}
 use Rattle.rows.specs.EdgeLaws.{edges-at}
 use Rattle.search.specs.Search.{Within, edgesIn, graphIn}
 use Rattle.keys.specs.KeySums.{LeastTold}
-use Rattle.compressed.specs.Compressed.{leads}
-use Rattle.adopting.specs.Adopting.{First, Renamed, VisibleTold, emptyTo, hiding, isHidden, isIsolated}
+use Rattle.adopting.specs.Adopting.{First, NumbersRenamed, VisibleTold, emptyTo, hiding, isHidden, isIsolated}
 use Rattle.adopting.specs.LoopLaws.{hidden-here}
 
 -- an empty row is that of a node without edges
@@ -43,9 +43,9 @@ module _ {n : ℕ} {edges : List ℕ} (in-table : Within n edges) where
   words-empty p zero h = refl
   words-empty p (suc w) h = and-true (words-empty p w (λ k l. h k (omega arith))) (eq-eqb (getD edges (8 * p + w) 0) 0 (h w (omega arith)))
 
-  pub empty-lone : (p : ℕ) → emptyTo edges p 8 ≡ true → (q : ℕ) → edgesIn n edges p q ≡ false
+  pub empty-isolated : (p : ℕ) → emptyTo edges p 8 ≡ true → (q : ℕ) → edgesIn n edges p q ≡ false
   unfolding edgesIn edgeBit
-  empty-lone p h q = step (decide (ltb q n))
+  empty-isolated p h q = step (decide (ltb q n))
     where
       step : (ltb q n ≡ true) ⊎ (ltb q n ≡ false) → (ltb p n && (ltb q n && bitAt (getD edges (8 * p + q / 64) 0) (q % 64))) ≡ false
       step (inl t) =
@@ -58,8 +58,8 @@ module _ {n : ℕ} {edges : List ℕ} (in-table : Within n edges) where
   no-word zero = refl
   no-word (suc k) = rw (no-word k)
 
-  pub lone-empty : (p : ℕ) → p < n → ((q : ℕ) → edgesIn n edges p q ≡ false) → emptyTo edges p 8 ≡ true
-  lone-empty p l h = words-empty p 8 (λ k b. ap (λ (t : List ℕ). getD t (8 * p + k) 0) (in-table .edges-of) ∙ edges-at (graphIn n edges) p k l b ∙ word-cong 64 (λ i. edgesIn n edges p (64 * k + i)) (λ i. false) (λ j m. h (64 * k + j)) ∙ no-word 64)
+  pub isolated-empty : (p : ℕ) → p < n → ((q : ℕ) → edgesIn n edges p q ≡ false) → emptyTo edges p 8 ≡ true
+  isolated-empty p l h = words-empty p 8 (λ k b. ap (λ (t : List ℕ). getD t (8 * p + k) 0) (in-table .edges-of) ∙ edges-at (graphIn n edges) p k l b ∙ word-cong 64 (λ i. edgesIn n edges p (64 * k + i)) (λ i. false) (λ j m. h (64 * k + j)) ∙ no-word 64)
 
 -- the groups of all nodes
 module _ {n : ℕ} {edges first : List ℕ} (a : VisibleTold n edges first) where
@@ -108,11 +108,11 @@ module _ {n : ℕ} {edges first : List ℕ} (a : VisibleTold n edges first) wher
 
   both-alone : (p q : ℕ) → ((x : ℕ) → edgesIn n edges p x ≡ false) → ((x : ℕ) → edgesIn n edges q x ≡ false) → similar (whole (graphIn n edges)) p q ≡ true
   unfolding hiding
-  both-alone p q x y = lone-similar g proper-hiding p q x y
+  both-alone p q x y = isolated-similar g proper-hiding p q x y
 
   alike-alone : (p q : ℕ) → q < n → ((x : ℕ) → edgesIn n edges p x ≡ false) → similar (whole (graphIn n edges)) p q ≡ true → (x : ℕ) → edgesIn n edges q x ≡ false
   unfolding hiding
-  alike-alone p q l b t = similar-lone g proper-hiding p q l b t
+  alike-alone p q l b t = similar-isolated g proper-hiding p q l b t
 
   -- a node whose group is all visible
   told-all : (p : ℕ) → isVisible (hiding n edges first) p ≡ true → ((q : ℕ) → q < n → similar (whole (graphIn n edges)) p q ≡ true → isVisible (hiding n edges first) q ≡ true)
@@ -146,7 +146,7 @@ module _ {n : ℕ} {edges first : List ℕ} (a : VisibleTold n edges first) wher
     unfolding isIsolated leads
     i-here l =
         let t = fi .hit (λ z. omega (arith, a .within .small)) .1 in
-        (eqb-true (getD first i 0) i (and-fst (eqb (getD first i 0) i) (emptyTo edges i 8) t), empty-lone (a .within) i (and-snd (eqb (getD first i 0) i) (emptyTo edges i 8) t))
+        (eqb-true (getD first i 0) i (and-fst (eqb (getD first i 0) i) (emptyTo edges i 8) t), empty-isolated (a .within) i (and-snd (eqb (getD first i 0) i) (emptyTo edges i 8) t))
 
     -- what is told of a visible node: a visible one of its group
     module _ (p : ℕ) (v : isVisible (hiding n edges first) p ≡ true) where
@@ -184,13 +184,13 @@ module _ {n : ℕ} {edges first : List ℕ} (a : VisibleTold n edges first) wher
       m-low = least-le ws s eqv up p p p-in (similar-refl (visible g) p)
 
     -- a visible node without edges
-    lone-first : (p : ℕ) → isVisible (hiding n edges first) p ≡ true → ((x : ℕ) → edgesIn n edges p x ≡ false) → (getD first p 0 ≡ i) × (i < n)
+    isolated-first : (p : ℕ) → isVisible (hiding n edges first) p ≡ true → ((x : ℕ) → edgesIn n edges p x ≡ false) → (getD first p 0 ≡ i) × (i < n)
     unfolding isIsolated leads
-    lone-first p v b =
+    isolated-first p v b =
         let k = m p v in
         let lk : k < n = shown k (m-seen p v) .0 in
         let bk = alike-alone p k lk b (m-like p v) in
-        let found : isIsolated edges first k ≡ true = and-true (eq-eqb (getD first k 0) k (m-own p v)) (lone-empty (a .within) k lk bk) in
+        let found : isIsolated edges first k ≡ true = and-true (eq-eqb (getD first k 0) k (m-own p v)) (isolated-empty (a .within) k lk bk) in
         let li : i < n = below k lk found (decide (ltb k i)) in
         let vi : isVisible (hiding n edges first) i ≡ true = unhidden i li (λ z. omega (arith, i-here li .0, a .within .small)) in
         let like : similar (visible (hiding n edges first)) p i ≡ true = sym (both-seen p i v vi) ∙ both-alone p i b (i-here li .1) in
@@ -205,7 +205,7 @@ module _ {n : ℕ} {edges first : List ℕ} (a : VisibleTold n edges first) wher
     edge-first p l e = (told-all p v group-seen, shown p v .1, apart)
       where
         clash : {X : Type 0} → ((x : ℕ) → edgesIn n edges p x ≡ false) → X
-        clash b = differ (lone-empty (a .within) p l b) e
+        clash b = differ (isolated-empty (a .within) p l b) e
 
         v : isVisible (hiding n edges first) p ≡ true
         v = unhidden p l (λ z. clash (hidden-alone p l z))
@@ -221,19 +221,19 @@ module _ {n : ℕ} {edges first : List ℕ} (a : VisibleTold n edges first) wher
 
     -- a node without edges, where k is the lesser of h and i
     module _ (k : ℕ) (lk : k < n) (bk : (x : ℕ) → edgesIn n edges k x ≡ false) (kh : k ≤ h) (ki : i < n → k ≤ i) where
-      pub lone-least : (p : ℕ) → p < n → emptyTo edges p 8 ≡ true → k ≡ least (nodes n) (similar (whole (graphIn n edges))) p
-      lone-least p l e = unfold hiding in least-lone g proper-hiding p k l (empty-lone (a .within) p e) lk bk low
+      pub isolated-least : (p : ℕ) → p < n → emptyTo edges p 8 ≡ true → k ≡ least (nodes n) (similar (whole (graphIn n edges))) p
+      isolated-least p l e = unfold hiding in least-isolated g proper-hiding p k l (empty-isolated (a .within) p e) lk bk low
         where
           low : (q : ℕ) → q < n → ((x : ℕ) → edgesIn n edges q x ≡ false) → k ≤ q
           low q y b = step (decide (isVisible (hiding n edges first) q))
             where
               step : (isVisible (hiding n edges first) q ≡ true) ⊎ (isVisible (hiding n edges first) q ≡ false) → k ≤ q
               step (inl v) =
-                  let t = lone-first q v b in
+                  let t = isolated-first q v b in
                   omega (arith, a .told q v, m-low q v, t .0, ki (t .1))
               step (inr v) = omega (arith, hidden-below q y (hidden-first q y v))
 
-    pub told-low : {after : List ℕ} → i < h → Renamed n 65535 i first after → LeastTold n edges after
+    pub told-low : {after : List ℕ} → i < h → NumbersRenamed n 65535 i first after → LeastTold n edges after
     told-low {after} b t = record { size = omega (arith, a .size, t .size); told = λ p l. t .names p l ∙ at p l (decide (emptyTo edges p 8)) (decide (eqb (getD first p 0) 65535)) }
       where
         li : i < n
@@ -241,19 +241,19 @@ module _ {n : ℕ} {edges first : List ℕ} (a : VisibleTold n edges first) wher
 
         at : (p : ℕ) → p < n → (emptyTo edges p 8 ≡ true) ⊎ (emptyTo edges p 8 ≡ false) → (eqb (getD first p 0) 65535 ≡ true) ⊎ (eqb (getD first p 0) 65535 ≡ false)
             → cond (eqb (getD first p 0) 65535) i (getD first p 0) ≡ least (nodes n) (similar (whole (graphIn n edges))) p
-        at p l (inl e) (inl z) = rw z (lone-least i li (i-here li .1) (omega arith) (λ y. omega arith) p l e)
-        at p l (inl e) (inr z) = rw z (lone-first p (unhidden p l (eqb-false (getD first p 0) 65535 z)) (empty-lone (a .within) p e) .0 ∙ lone-least i li (i-here li .1) (omega arith) (λ y. omega arith) p l e)
+        at p l (inl e) (inl z) = rw z (isolated-least i li (i-here li .1) (omega arith) (λ y. omega arith) p l e)
+        at p l (inl e) (inr z) = rw z (isolated-first p (unhidden p l (eqb-false (getD first p 0) 65535 z)) (empty-isolated (a .within) p e) .0 ∙ isolated-least i li (i-here li .1) (omega arith) (λ y. omega arith) p l e)
         at p l (inr e) (inl z) = absurd (edge-first p l e .1 (eqb-true (getD first p 0) 65535 z))
         at p l (inr e) (inr z) = rw z (edge-first p l e .0)
 
-    pub told-high : {mid after : List ℕ} → h ≤ i → Renamed n 65535 h first mid → Renamed n i h mid after → LeastTold n edges after
+    pub told-high : {mid after : List ℕ} → h ≤ i → NumbersRenamed n 65535 h first mid → NumbersRenamed n i h mid after → LeastTold n edges after
     told-high {mid} {after} b t u = record {
       size = omega (arith, a .size, t .size, u .size);
       told = λ p l. u .names p l ∙ ap (λ (x : ℕ). cond (eqb x i) h x) (t .names p l) ∙ at p l (decide (emptyTo edges p 8)) (decide (eqb (getD first p 0) 65535));
     }
       where
         low : (p : ℕ) → p < n → emptyTo edges p 8 ≡ true → h ≡ least (nodes n) (similar (whole (graphIn n edges))) p
-        low p l e = lone-least h (h-here .0) (hidden-alone h (h-here .0) (h-here .1)) (omega arith) (λ y. b) p l e
+        low p l e = isolated-least h (h-here .0) (hidden-alone h (h-here .0) (h-here .1)) (omega arith) (λ y. b) p l e
 
         same : (x : Bool) → cond x h h ≡ h
         same true = refl
@@ -263,7 +263,7 @@ module _ {n : ℕ} {edges first : List ℕ} (a : VisibleTold n edges first) wher
             → cond (eqb (cond (eqb (getD first p 0) 65535) h (getD first p 0)) i) h (cond (eqb (getD first p 0) 65535) h (getD first p 0)) ≡ least (nodes n) (similar (whole (graphIn n edges))) p
         at p l (inl e) (inl z) = rw z (same (eqb h i) ∙ low p l e)
         at p l (inl e) (inr z) =
-            let y = lone-first p (unhidden p l (eqb-false (getD first p 0) 65535 z)) (empty-lone (a .within) p e) .0 in
+            let y = isolated-first p (unhidden p l (eqb-false (getD first p 0) 65535 z)) (empty-isolated (a .within) p e) .0 in
             rw (z, eq-eqb (getD first p 0) i y) (low p l e)
         at p l (inr e) (inl z) = absurd (edge-first p l e .1 (eqb-true (getD first p 0) 65535 z))
         at p l (inr e) (inr z) = rw (z, ne-eqb (getD first p 0) i (edge-first p l e .2)) (edge-first p l e .0)

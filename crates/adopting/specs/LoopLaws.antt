@@ -12,8 +12,8 @@ use lib.ListN.{getD, length, length-set, set}
 use lib.Seq.{getD-set-other, getD-set-same}
 use borrow.Author.Tests.{eqb-false, eqb-true, eq-eqb, ne-eqb}
 use Rattle.model.specs.TestLaws.{and-fst, and-snd, decide, iff-eq}
-use Rattle.compressed.specs.Compressed.{leads}
-use Rattle.adopting.specs.Adopting.{First, Renamed, emptyTo, isHidden, isIsolated}
+use Rattle.rows.specs.Rows.{leads}
+use Rattle.adopting.specs.Adopting.{First, NumbersRenamed, emptyTo, isHidden, isIsolated}
 
 -- words of a row gathered
 or-none : (a b : ℕ) → eqb (bitOr a b) 0 ≡ (eqb a 0 && eqb b 0)
@@ -65,16 +65,16 @@ module _ (edges first : List ℕ) (p : ℕ) where
   isolated-if e h z = rw (eq-eqb (getD first p 0) p (sym e ∙ h)) (sym z)
 
 -- the numbers below p renamed
-pub record Renaming (p x y : ℕ) (t now : List ℕ) : Type 0 where
+pub record NumbersRenaming (p x y : ℕ) (t now : List ℕ) : Type 0 where
   pub size : length now ≡ length t
   pub names : (k : ℕ) → k < p → getD now k 0 ≡ cond (eqb (getD t k 0) x) y (getD t k 0)
   pub rest : (k : ℕ) → p ≤ k → getD now k 0 ≡ getD t k 0
 
-pub renaming-none : (x y : ℕ) (t : List ℕ) → Renaming 0 x y t t
-renaming-none x y t = record { size = refl; names = λ k l. absurd (omega arith); rest = λ k l. refl }
+pub numbers-none : (x y : ℕ) (t : List ℕ) → NumbersRenaming 0 x y t t
+numbers-none x y t = record { size = refl; names = λ k l. absurd (omega arith); rest = λ k l. refl }
 
-module _ {p x y : ℕ} {t now : List ℕ} (h : Renaming p x y t now) where
-  pub renaming-yes : p < length t → getD now p 0 ≡ x → Renaming (p + 1) x y t (set now p y)
+module _ {p x y : ℕ} {t now : List ℕ} (h : NumbersRenaming p x y t now) where
+  pub renaming-yes : p < length t → getD now p 0 ≡ x → NumbersRenaming (p + 1) x y t (set now p y)
   renaming-yes l e = record { size = length-set now p y ∙ h .size; names = λ k b. at k b (decide (eqb k p)); rest = λ k b. getD-set-other now p k y 0 (λ z. omega arith) ∙ h .rest k (omega arith) }
     where
       at : (k : ℕ) → k < p + 1 → (eqb k p ≡ true) ⊎ (eqb k p ≡ false) → getD (set now p y) k 0 ≡ cond (eqb (getD t k 0) x) y (getD t k 0)
@@ -83,7 +83,7 @@ module _ {p x y : ℕ} {t now : List ℕ} (h : Renaming p x y t now) where
           rw (z, getD-set-same now p y 0 (omega (arith, h .size)), eq-eqb (getD t p 0) x (sym (h .rest p (omega arith)) ∙ e))
       at k b (inr s) = let d : k ≡ p → ⊥ = eqb-false k p s in getD-set-other now p k y 0 d ∙ h .names k (omega arith)
 
-  pub renaming-no : (getD now p 0 ≡ x → ⊥) → Renaming (p + 1) x y t now
+  pub renaming-no : (getD now p 0 ≡ x → ⊥) → NumbersRenaming (p + 1) x y t now
   renaming-no e = record { size = h .size; names = λ k b. at k b (decide (eqb k p)); rest = λ k b. h .rest k (omega arith) }
     where
       at : (k : ℕ) → k < p + 1 → (eqb k p ≡ true) ⊎ (eqb k p ≡ false) → getD now k 0 ≡ cond (eqb (getD t k 0) x) y (getD t k 0)
@@ -93,5 +93,5 @@ module _ {p x y : ℕ} {t now : List ℕ} (h : Renaming p x y t now) where
           rw (z, ne-eqb (getD t p 0) x (λ i. e (same ∙ i))) same
       at k b (inr s) = let d : k ≡ p → ⊥ = eqb-false k p s in h .names k (omega arith)
 
-  pub renaming-done : {n : ℕ} → n ≤ p → Renamed n x y t now
+  pub renaming-done : {n : ℕ} → n ≤ p → NumbersRenamed n x y t now
   renaming-done l = record { size = h .size; names = λ k b. h .names k (omega arith) }

@@ -4,7 +4,7 @@ ghost use Prim.Native.Nat.{_+_, _*_, _≤_, _<_};
 ghost use lib.ListN.{length};
 ghost use Rattle.model.specs.Graph.{maxNodes, rowWords};
 ghost use Rattle.keys.specs.KeySums.{LeastTold};
-ghost use Rattle.adopting.specs.Adopting.{First, Renamed, VisibleTold, emptyRow, isHidden, isIsolated};
+ghost use Rattle.adopting.specs.Adopting.{First, NumbersRenamed, VisibleTold, emptyRow, isHidden, isIsolated};
 use rows::Graph;
 
 // Whether p's row is empty.
@@ -51,7 +51,7 @@ fn find_hidden(least: &[u16], n: usize) -> u16
 // Whoever has x for its first member has y.
 fn rename(least: &mut [u16], n: usize, x: u16, y: u16)
     requires { ⌜ n ≤ length (now least) ⌝ }
-    ensures { λ _. ⌜ Renamed n x y (now (least .entry)) (now (least .exit)) ⌝ }
+    ensures { λ _. ⌜ NumbersRenamed n x y (now (least .entry)) (now (least .exit)) ⌝ }
 {
     for p in 0..n {
         if least[p] == x {

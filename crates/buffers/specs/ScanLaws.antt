@@ -6,7 +6,7 @@ use mathlib.Core.Logic.{_⊎_, inl, inr}
 use Prim.Native.Nat.{ℕ, suc, zero, _+_, _-_, _≤_, _<_}
 use native.Mathlib.Omega.{arith}
 use lib.ListN.{length, getD, length-append}
-use Rattle.model.specs.Lists.{_∈_, concat, filter, from}
+use Rattle.model.specs.Lists.{_∈_, concat, filter, from, nodes}
 use Rattle.model.specs.TestLaws.{decide}
 use Rattle.model.specs.ListLaws.{Ascending, filter-ascending, filter-cong, from-ascending, from-out}
 use Rattle.buffers.specs.Scan.{Counting, Summing, flat, scan}
@@ -146,3 +146,8 @@ summing-step {f} {n} {total} {c} {p} s h k e = record { sum = omega (arith, s .s
 
 pub summing-done : {f : ℕ → List ℕ} {n total c p : ℕ} → Summing f n total c p → n ≤ p → c ≡ total
 summing-done {f} {n} {total} {c} {p} s h = omega (arith, s .sum, ap length (flat-end f n p h))
+
+-- a scan from the start is a choice among the nodes
+pub scan-nodes : (P : ℕ → Bool) (n : ℕ) → scan P n 0 ≡ filter P (nodes n)
+unfolding scan nodes
+scan-nodes P n = let e : n - 0 ≡ n = omega arith in ap (λ (k : ℕ). filter P (from 0 k)) e

@@ -56,12 +56,12 @@ unfoldable pub leadersApart : ℕ → List ℕ → List ℕ → Bool
 leadersApart n edges table = all (nodes n) (alone n edges table)
 
 -- a is a member of p's group, p follows a, and a is below p unless p leads the group
-unfoldable pub follows : ℕ → List ℕ → ℕ → ℕ → Bool
-follows n table p a = ltb a n && (eqb (nodeNumber table a 0) (nodeNumber table p 0) && (eqb (nodeNumber table a 1) p && (eqb (nodeNumber table p 0) p || ltb a p)))
+unfoldable pub linkHolds : ℕ → List ℕ → ℕ → ℕ → Bool
+linkHolds n table p a = ltb a n && (eqb (nodeNumber table a 0) (nodeNumber table p 0) && (eqb (nodeNumber table a 1) p && (eqb (nodeNumber table p 0) p || ltb a p)))
 
 -- the previous member and the mark of p
 unfoldable pub nodeHolds : ℕ → List ℕ → ℕ → Bool
-nodeHolds n table p = follows n table p (nodeNumber table p 2) && ltb (nodeNumber table p 3) 2
+nodeHolds n table p = linkHolds n table p (nodeNumber table p 2) && ltb (nodeNumber table p 3) 2
 
 unfoldable pub nodesHold : ℕ → List ℕ → Bool
 nodesHold n table = all (nodes n) (nodeHolds n table)

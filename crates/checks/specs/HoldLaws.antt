@@ -26,9 +26,9 @@ use Rattle.search.specs.TwinRowLaws.{false-meet, meet-false, meet-true, true-me
 use Rattle.rings.specs.Ring.{Of, Parts, Table}
 use Rattle.rings.specs.Steps.{Follows}
 use Rattle.rings.specs.NodesLaws.{graph-parts, is-nodes, mark-read, of-nodes}
-use Rattle.rings.specs.CertificateLaws.{Led, certified, led, ringed}
+use Rattle.rings.specs.CertificateLaws.{LedByClass, certified, led, ringed}
 use Rattle.groups.specs.GroupLaws.{first-cases}
-use Rattle.checks.specs.Checks.{agrees, alone, bitHolds, follows, keysHold, leadersApart, mirrored, nodeHolds, nodesHold, rowHolds, rowsHold, twinOf, twinsHold}
+use Rattle.checks.specs.Checks.{agrees, alone, bitHolds, keysHold, leadersApart, linkHolds, mirrored, nodeHolds, nodesHold, rowHolds, rowsHold, twinOf, twinsHold}
 
 both-false : (a b : Bool) {c : Bool} → c ≡ false → (a && (b && c)) ≡ false
 both-false true true e = e
@@ -225,7 +225,7 @@ module _ (n : ℕ) (edges table keys : List ℕ) (r : Ready n edges keys) where
         step (inl x) = absurd (omega (arith, x .0, none))
         step (inr x) = x .1 q (omega arith) (omega arith)
 
-    pub led-by-tests : Led n (Of n (similar (whole (graphIn n edges)))) table
+    pub led-by-tests : LedByClass n (Of n (similar (whole (graphIn n edges)))) table
     unfolding joins
     led-by-tests = record {
       low = twin-low n edges table twins;
@@ -237,7 +237,7 @@ module _ (n : ℕ) (edges table keys : List ℕ) (r : Ready n edges keys) where
         other : (u q : ℕ) → q < u → not (eqb q u) ≡ true
         other u q l = ap not (ne-eqb q u (omega arith))
 
-  module _ (simple-graph : Simple (whole (graphIn n edges))) (a : Led n (Of n (similar (whole (graphIn n edges)))) table) where
+  module _ (simple-graph : Simple (whole (graphIn n edges))) (a : LedByClass n (Of n (similar (whole (graphIn n edges)))) table) where
     bit-is : (p q : ℕ) → p < n → q < n → edgeBit edges p q ≡ edgesIn n edges p q
     unfolding edgesIn
     bit-is p q hp hq = rw (lt-ltb p n hp, lt-ltb q n hq)
@@ -290,9 +290,9 @@ module _ (n : ℕ) (table : List ℕ) where
     node p hp = all-elim (nodes n) (nodeHolds n table) h p (nodes-in n p hp)
 
     pub rings-by-tests : (p : ℕ) → p < n → Follows n table p
-    unfolding nodeHolds follows
+    unfolding nodeHolds linkHolds
     rings-by-tests p hp =
-        let h₀ = and-fst (follows n table p (nodeNumber table p 2)) _ (node p hp) in
+        let h₀ = and-fst (linkHolds n table p (nodeNumber table p 2)) _ (node p hp) in
         let h₁ = and-snd (ltb (nodeNumber table p 2) n) _ h₀ in
         let h₂ = and-snd (eqb (nodeNumber table (nodeNumber table p 2) 0) (nodeNumber table p 0)) _ h₁ in
         let h₃ = and-snd (eqb (nodeNumber table (nodeNumber table p 2) 1) p) _ h₂ in
@@ -305,10 +305,10 @@ module _ (n : ℕ) (table : List ℕ) where
 
     pub marks-by-tests : (p : ℕ) → p < n → nodeNumber table p 3 < 2
     unfolding nodeHolds
-    marks-by-tests p hp = ltb-true (nodeNumber table p 3) 2 (and-snd (follows n table p (nodeNumber table p 2)) _ (node p hp))
+    marks-by-tests p hp = ltb-true (nodeNumber table p 3) 2 (and-snd (linkHolds n table p (nodeNumber table p 2)) _ (node p hp))
 
   pub nodes-told : ((p : ℕ) → p < n → Follows n table p) → ((p : ℕ) → p < n → nodeNumber table p 3 < 2) → nodesHold n table ≡ true
-  unfolding nodesHold nodeHolds follows
+  unfolding nodesHold nodeHolds linkHolds
   nodes-told f m =
       all-intro (nodes n) _
       (λ p k.

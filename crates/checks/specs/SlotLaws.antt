@@ -19,11 +19,11 @@ use Rattle.search.specs.Search.{Ready, firstFrom, joins, keyAgrees, graphIn}
 use Rattle.search.specs.SearchLaws.{first-none}
 use Rattle.search.specs.TwinRowLaws.{false-key, true-key}
 use Rattle.checks.specs.Checks.{alone}
-use Rattle.checks.specs.Slots.{Marked, Seen, slotOf}
+use Rattle.checks.specs.Slots.{Seen, SlotsMarked, keySlot}
 
-pub marked : (keys : List ℕ) (u : ℕ) (os cs : List ℕ) (a b x y : ℕ) → a ≡ slotOf (getD keys (2 * u) 0) → b ≡ slotOf (getD keys (2 * u + 1) 0) → x ≡ getD os a 0 → y ≡ getD cs b 0
-    → Marked keys u os cs (set os a 1) (set cs b 1) (eqb (x + y) 0)
-marked keys u os cs a b x y ea eb ex ey =
+pub slots-marked : (keys : List ℕ) (u : ℕ) (os cs : List ℕ) (a b x y : ℕ) → a ≡ keySlot (getD keys (2 * u) 0) → b ≡ keySlot (getD keys (2 * u + 1) 0) → x ≡ getD os a 0 → y ≡ getD cs b 0
+    → SlotsMarked keys u os cs (set os a 1) (set cs b 1) (eqb (x + y) 0)
+slots-marked keys u os cs a b x y ea eb ex ey =
     record {
       opened = rw ea;
       closed = rw eb;
@@ -58,12 +58,12 @@ module _ {table keys : List ℕ} where
             step (yes z) = absurd (d (rw z at e))
             step (no z) = omega arith
 
-    pub seen-leader : {os′ cs′ : List ℕ} {r : Bool} → Marked keys u os cs os′ cs′ r → Seen table keys (u + 1) os′ cs′
+    pub seen-leader : {os′ cs′ : List ℕ} {r : Bool} → SlotsMarked keys u os cs os′ cs′ r → Seen table keys (u + 1) os′ cs′
     seen-leader {os′} {cs′} m = record {
       open-size = ap length (m .opened) ∙ length-set os _ 1 ∙ s .open-size;
       closed-size = ap length (m .closed) ∙ length-set cs _ 1 ∙ s .closed-size;
-      opens = λ q l e. rw (m .opened) (one os (s .open-size) (slotOf (getD keys (2 * u) 0)) (omega arith) (λ i. slotOf (getD keys (2 * i) 0)) refl q l (λ h. s .opens q h e));
-      closeds = λ q l e. rw (m .closed) (one cs (s .closed-size) (slotOf (getD keys (2 * u + 1) 0)) (omega arith) (λ i. slotOf (getD keys (2 * i + 1) 0)) refl q l (λ h. s .closeds q h e));
+      opens = λ q l e. rw (m .opened) (one os (s .open-size) (keySlot (getD keys (2 * u) 0)) (omega arith) (λ i. keySlot (getD keys (2 * i) 0)) refl q l (λ h. s .opens q h e));
+      closeds = λ q l e. rw (m .closed) (one cs (s .closed-size) (keySlot (getD keys (2 * u + 1) 0)) (omega arith) (λ i. keySlot (getD keys (2 * i + 1) 0)) refl q l (λ h. s .closeds q h e));
     }
       where
         one : (os : List ℕ) → length os ≡ 8192 → (k : ℕ) → k < 8192 → (f : ℕ → ℕ) → f u ≡ k → (q : ℕ) → q < u + 1 → (q < u → getD os (f q) 0 ≡ 1) → getD (set os k 1) (f q) 0 ≡ 1
@@ -74,7 +74,7 @@ module _ {table keys : List ℕ} where
             step (no z) = stays os k (f q) (omega arith) (below (omega arith))
 
     -- where both slots were free, nobody below is similar
-    module _ {n : ℕ} {edges : List ℕ} (ready : Ready n edges keys) (inside : u < n) (leads : nodeNumber table u 0 ≡ u) {os′ cs′ : List ℕ} {r : Bool} (m : Marked keys u os cs os′ cs′ r) (fresh : r ≡ true) where
+    module _ {n : ℕ} {edges : List ℕ} (ready : Ready n edges keys) (inside : u < n) (leads : nodeNumber table u 0 ≡ u) {os′ cs′ : List ℕ} {r : Bool} (m : SlotsMarked keys u os cs os′ cs′ r) (fresh : r ≡ true) where
       no-twin : (q : ℕ) → q < u → nodeNumber table q 0 ≡ q → (falseTwins (whole (graphIn n edges)) u q ≡ true) ⊎ (trueTwins (whole (graphIn n edges)) u q ≡ true) → ⊥
       unfolding keyAgrees
       no-twin q l e (inl h) =
@@ -82,10 +82,10 @@ module _ {table keys : List ℕ} where
           let x : 2 * u + 0 ≡ 2 * u = omega arith in
           let y : 2 * q + 0 ≡ 2 * q = omega arith in
           let z : getD keys (2 * u) 0 ≡ getD keys (2 * q) 0 = rw (x, y) at same in
-          absurd (omega (arith, m .open-free fresh, s .opens q l e, ap (λ (k : ℕ). getD os (slotOf k) 0) z))
+          absurd (omega (arith, m .open-free fresh, s .opens q l e, ap (λ (k : ℕ). getD os (keySlot k) 0) z))
       no-twin q l e (inr h) =
           let same : getD keys (2 * u + 1) 0 ≡ getD keys (2 * q + 1) 0 = eqb-true _ _ (true-key n edges keys ready u q inside (omega arith) h) in
-          absurd (omega (arith, m .closed-free fresh, s .closeds q l e, ap (λ (k : ℕ). getD cs (slotOf k) 0) same))
+          absurd (omega (arith, m .closed-free fresh, s .closeds q l e, ap (λ (k : ℕ). getD cs (keySlot k) 0) same))
 
       no-join : (q : ℕ) → q < u → joins n edges table u u q ≡ false
       unfolding joins

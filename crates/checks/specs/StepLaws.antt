@@ -20,8 +20,8 @@ use Rattle.search.specs.SearchLaws.{meets-by}
 use Rattle.buffers.specs.AllLaws.{all-fail, all-pass, failed, passed}
 use Rattle.keys.specs.Walk.{ahead}
 use Rattle.keys.specs.WalkLaws.{ahead-end, ahead-next, ahead-start}
-use Rattle.keys.specs.SumLaws.{Adding, adding-done, adding-less, adding-next, adding-off, adding-on, adding-place, adding-set, adding-start}
-use Rattle.checks.specs.Checks.{agrees, alone, bitHolds, follows, keysHold, mirrored, nodeHolds, rowHolds, twinOf}
+use Rattle.keys.specs.SumLaws.{CubesSoFar, adding-done, adding-less, adding-next, adding-off, adding-on, adding-place, adding-set, adding-start}
+use Rattle.checks.specs.Checks.{agrees, alone, bitHolds, keysHold, linkHolds, mirrored, nodeHolds, rowHolds, twinOf}
 
 -- a bit and its mirror
 module _ (n : ℕ) (edges : List ℕ) (p q : ℕ) where
@@ -49,7 +49,7 @@ module _ (keys : List ℕ) (p sum : ℕ) where
 
 -- a walk over p's row: the bits passed are mirrored
 pub record Walking (n : ℕ) (edges : List ℕ) (p w x sum : ℕ) : Type 0 where
-  pub adding : Adding n edges p w x sum
+  pub adding : CubesSoFar n edges p w x sum
   pub passed : (q : ℕ) → q < 512 → ahead edges p w x q ≡ false → bitHolds n edges p q ≡ true
 
 module _ {n : ℕ} {edges : List ℕ} {p : ℕ} where
@@ -144,32 +144,32 @@ module _ (n : ℕ) (edges table : List ℕ) (u : ℕ) {x : ℕ} (e : x ≡ nodeN
 
 -- a node and the one before it in its group
 module _ (n : ℕ) (table : List ℕ) (p a : ℕ) where
-  pub follows-outside : n ≤ a → false ≡ follows n table p a
-  unfolding follows
+  pub follows-outside : n ≤ a → false ≡ linkHolds n table p a
+  unfolding linkHolds
   follows-outside h = rw (le-ltb a n h)
 
   module _ (inside : a < n) {l x : ℕ} (el : l ≡ nodeNumber table p 0) (ex : x ≡ nodeNumber table a 0) where
-    pub follows-other : (x ≡ l → ⊥) → false ≡ follows n table p a
-    unfolding follows
+    pub follows-other : (x ≡ l → ⊥) → false ≡ linkHolds n table p a
+    unfolding linkHolds
     follows-other d = rw (lt-ltb a n inside, ne-eqb (nodeNumber table a 0) (nodeNumber table p 0) (λ z. d (ex ∙ z ∙ sym el)))
 
     module _ (same : x ≡ l) {y : ℕ} (ey : y ≡ nodeNumber table a 1) where
       same-least : eqb (nodeNumber table a 0) (nodeNumber table p 0) ≡ true
       same-least = eq-eqb (nodeNumber table a 0) (nodeNumber table p 0) (sym ex ∙ same ∙ el)
 
-      pub follows-not : (y ≡ p → ⊥) → false ≡ follows n table p a
-      unfolding follows
+      pub follows-not : (y ≡ p → ⊥) → false ≡ linkHolds n table p a
+      unfolding linkHolds
       follows-not d = rw (lt-ltb a n inside, same-least, ne-eqb (nodeNumber table a 1) p (λ z. d (ey ∙ z)))
 
-      pub follows-leader : y ≡ p → l ≡ p → true ≡ follows n table p a
-      unfolding follows
+      pub follows-leader : y ≡ p → l ≡ p → true ≡ linkHolds n table p a
+      unfolding linkHolds
       follows-leader f g = rw (lt-ltb a n inside, same-least, eq-eqb (nodeNumber table a 1) p (sym ey ∙ f), eq-eqb (nodeNumber table p 0) p (sym el ∙ g))
 
-      pub follows-member : y ≡ p → (l ≡ p → ⊥) → ltb a p ≡ follows n table p a
-      unfolding follows
+      pub follows-member : y ≡ p → (l ≡ p → ⊥) → ltb a p ≡ linkHolds n table p a
+      unfolding linkHolds
       follows-member f d = rw (lt-ltb a n inside, same-least, eq-eqb (nodeNumber table a 1) p (sym ey ∙ f), ne-eqb (nodeNumber table p 0) p (λ z. d (el ∙ z)))
 
-module _ (n : ℕ) (table : List ℕ) (p : ℕ) {a : ℕ} (b : Bool) (ea : a ≡ nodeNumber table p 2) (e : b ≡ follows n table p a) where
+module _ (n : ℕ) (table : List ℕ) (p : ℕ) {a : ℕ} (b : Bool) (ea : a ≡ nodeNumber table p 2) (e : b ≡ linkHolds n table p a) where
   pub node-fails : not b ≡ true → false ≡ nodeHolds n table p
   unfolding nodeHolds
   node-fails f = rw (← ea, failed e f)

@@ -7,11 +7,11 @@ ghost use Rattle.model.specs.Graph.{maxNodes, rowWords, nodeNumbers};
 ghost use Rattle.model.specs.Tables.{holds};
 ghost use Rattle.rows.specs.Rows.{lent};
 ghost use Rattle.search.specs.Search.{Ready};
-ghost use Rattle.checks.specs.Slots.{Marked, Seen, slotOf};
+ghost use Rattle.checks.specs.Slots.{Seen, SlotsMarked, keySlot};
 ghost use Rattle.checks.specs.Checks.{
   agrees,
   alone,
-  follows,
+  linkHolds,
   keysHold,
   leadersApart,
   mirrored,
@@ -162,7 +162,7 @@ fn wide_byte(x: u8) -> usize
 
 // The slot of a key among the keys seen.
 fn slot(key: u32) -> usize
-    ensures { λ r. ⌜ r ≡ slotOf key ⌝ }
+    ensures { λ r. ⌜ r ≡ keySlot key ⌝ }
 {
     (key % 8191) as usize
 }
@@ -170,7 +170,7 @@ fn slot(key: u32) -> usize
 // Whether the slots of both keys of u were free; now they are taken.
 fn are_new(keys: &[u32], u: usize, opens: &mut [u8], closeds: &mut [u8]) -> bool
     requires { ⌜ (u < maxNodes) × (2 * u + 2 ≤ length (now keys)) × (length (now opens) ≡ 8192) × (length (now closeds) ≡ 8192) ⌝ }
-    ensures { λ r. ⌜ Marked (now (keys .entry)) u (now (opens .entry)) (now (closeds .entry)) (now (opens .exit)) (now (closeds .exit)) r ⌝ }
+    ensures { λ r. ⌜ SlotsMarked (now (keys .entry)) u (now (opens .entry)) (now (closeds .entry)) (now (opens .exit)) (now (closeds .exit)) r ⌝ }
 {
     let a = slot(keys[2 * u]);
     let b = slot(keys[2 * u + 1]);
@@ -222,7 +222,7 @@ fn leaders_apart(edges: &[u64], nodes: &[u16], keys: &[u32], n: usize) -> bool
 // Whether p follows a in its group.
 fn is_followed(nodes: &[u16], n: usize, p: usize, a: usize) -> bool
     requires { ⌜ (n ≤ maxNodes) × (length (now nodes) ≡ nodeNumbers * n) × (p < n) ⌝ }
-    ensures { λ r. ⌜ r ≡ follows n (now (nodes .entry)) p a ⌝ }
+    ensures { λ r. ⌜ r ≡ linkHolds n (now (nodes .entry)) p a ⌝ }
 {
     if a >= n {
         return false;

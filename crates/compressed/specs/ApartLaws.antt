@@ -18,9 +18,9 @@ use Rattle.model.specs.ListLaws.{all-elim, all-intro, nodes-in, nodes-out}
 use Rattle.model.specs.TwinLaws.{falseTwins-at, falseTwins-by, trueTwins-at, trueTwins-by}
 use Rattle.model.specs.InOrderLaws.{in-order-parts, placeOf}
 use Rattle.model.specs.MergeLaws.{irreducible-in, irreducible-out}
-use Rattle.rows.specs.Rows.{Words}
+use Rattle.rows.specs.Rows.{Words, leads}
 use Rattle.search.specs.TwinRowLaws.{or-xor, xor-none, xor-same, xor-swap}
-use Rattle.compressed.specs.Compressed.{Told, alike, apart, clique, firstAt, independent, leads, merges}
+use Rattle.compressed.specs.Compressed.{Told, alike, apart, clique, firstAt, independent, merges}
 use Rattle.compressed.specs.RowLaws.{Agree, alike-bits, bits-alike}
 use Rattle.compressed.specs.ToldLaws.{bit-told, clique-kind, closed-kind, first-below, firsts-order, firsts-same, group-joined, leads-told, place-first, told-bit, told-kind, told-leads}
 

@@ -10,7 +10,7 @@ use Rattle.model.specs.Lists.{all, headOr, member, nodes}
 use Rattle.model.specs.Graph.{Graph, maxNodes, rowWords}
 use Rattle.model.specs.Tables.{edgeBit}
 use Rattle.model.specs.InOrder.{membersAt}
-use Rattle.rows.specs.Rows.{noNode}
+use Rattle.rows.specs.Rows.{leads, noNode}
 use Rattle.search.specs.Search.{meets, rowIn}
 
 -- the kinds of a group: of one node, independent, a clique
@@ -23,17 +23,17 @@ independent = 1
 abbrev pub clique : ℕ
 clique = 2
 
-unfoldable pub kindBy : Bool → ℕ → ℕ
-kindBy marked count = cond marked clique (cond (eqb count 1) single independent)
+unfoldable pub kindMarked : Bool → ℕ → ℕ
+kindMarked marked count = cond marked clique (cond (eqb count 1) single independent)
 
 -- the first member of p's group; the kind of the group that p is the first member of
-unfoldable pub firstOf : List (Bool × List ℕ) → ℕ → ℕ
-firstOf [] p = noNode
-firstOf (g ∷ gs) p = cond (member p (g .1)) (headOr 0 (g .1)) (firstOf gs p)
+unfoldable pub firstMemberOf : List (Bool × List ℕ) → ℕ → ℕ
+firstMemberOf [] p = noNode
+firstMemberOf (g ∷ gs) p = cond (member p (g .1)) (headOr 0 (g .1)) (firstMemberOf gs p)
 
 unfoldable pub kindLed : List (Bool × List ℕ) → ℕ → ℕ
 kindLed [] p = single
-kindLed (g ∷ gs) p = cond (eqb p (headOr 0 (g .1))) (kindBy (g .0) (length (g .1))) (kindLed gs p)
+kindLed (g ∷ gs) p = cond (eqb p (headOr 0 (g .1))) (kindMarked (g .0) (length (g .1))) (kindLed gs p)
 
 -- the first member of the group at a position
 unfoldable pub firstAt : List (Bool × List ℕ) → ℕ → ℕ
@@ -48,7 +48,7 @@ joinedBy gs (x ∷ xs) a b =
 
 -- arrays that tell groups and superedges
 pub record Told (gs : List (Bool × List ℕ)) (js : List (ℕ × ℕ)) (least kinds joined : List ℕ) : Type 0 where
-  pub first : (p : ℕ) → p < maxNodes → getD least p 0 ≡ firstOf gs p
+  pub first : (p : ℕ) → p < maxNodes → getD least p 0 ≡ firstMemberOf gs p
   pub kind : (p : ℕ) → p < maxNodes → getD kinds p 0 ≡ kindLed gs p
   pub bits : (a b : ℕ) → b < maxNodes → edgeBit joined a b ≡ joinedBy gs js a b
 
@@ -68,10 +68,6 @@ unfolded n least kinds joined = record {
   edge = λ p q. placed n least p && (placed n least q && unfoldedEdge least kinds joined p q);
   hidden = λ p. ltb p n && eqb (getD least p 0) noNode;
 }
-
--- p is the first member of its group
-unfoldable pub leads : List ℕ → ℕ → Bool
-leads least p = eqb (getD least p 0) p
 
 -- what such arrays keep to
 pub record Compressed (n : ℕ) (least kinds joined : List ℕ) : Type 0 where

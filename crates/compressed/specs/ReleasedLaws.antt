@@ -20,7 +20,7 @@ use Rattle.model.specs.ReadBackLaws.{visible-inside}
 use Rattle.model.specs.InOrderLaws.{in-order-parts, placeOf}
 use Rattle.model.specs.ToldGraphLaws.{told-place, told-proper}
 use Rattle.model.specs.MergeLaws.{release-same, released-groups}
-use Rattle.compressed.specs.Compressed.{firstAt, firstOf}
+use Rattle.compressed.specs.Compressed.{firstAt, firstMemberOf}
 use Rattle.compressed.specs.ToldLaws.{first-placed}
 
 module _ (n : ℕ) (gs : List (Bool × List ℕ)) (js : List (ℕ × ℕ)) (small : n ≤ maxNodes) (fits : groupsFit n (λ p. false) 0 gs ≡ true) (ordered : superedgesFit (length gs) 0 js ≡ true) (released : isRelease (fileBy n gs js) ≡ true) where
@@ -43,7 +43,7 @@ module _ (n : ℕ) (gs : List (Bool × List ℕ)) (js : List (ℕ × ℕ)) (smal
   unfolding membersAt
   released-members p m = ap (λ (l : List (List ℕ)). getD l (position p l) []) members ∙ position-group v view-simple asc p m
 
-  released-first : (p : ℕ) → p ∈ v .nodes → firstOf gs p ≡ least (v .nodes) (similar v) p
+  released-first : (p : ℕ) → p ∈ v .nodes → firstMemberOf gs p ≡ least (v .nodes) (similar v) p
   unfolding firstAt least
   released-first p m =
       first-placed gs p (told-place n gs js small fits p m)
@@ -51,7 +51,7 @@ module _ (n : ℕ) (gs : List (Bool × List ℕ)) (js : List (ℕ × ℕ)) (smal
       ∙ headOr-any 0 p (group (v .nodes) (similar v) p) p (group-in (v .nodes) (similar v) p p m (similar-refl v p))
 
 pub release-least : (n : ℕ) (gs : List (Bool × List ℕ)) (js : List (ℕ × ℕ)) → inOrder n gs js ≡ true → isRelease (fileBy n gs js) ≡ true → (p : ℕ) → isVisible (graphBy n (summaryBy gs js)) p ≡ true
-    → firstOf gs p ≡ least (visible (graphBy n (summaryBy gs js)) .nodes) (similar (visible (graphBy n (summaryBy gs js)))) p
+    → firstMemberOf gs p ≡ least (visible (graphBy n (summaryBy gs js)) .nodes) (similar (visible (graphBy n (summaryBy gs js)))) p
 release-least n gs js o t p h =
     let s = in-order-parts n gs js o in
     let g : Graph = graphBy n (summaryBy gs js) in

@@ -19,30 +19,30 @@ use Rattle.model.specs.ListLaws.{headOr-le}
 use Rattle.model.specs.InOrderLaws.{first-in, firsts-ascend, in-order-parts, members-ascend, members-below, pair-fits, place-in, place-of, placeOf}
 use Rattle.model.specs.ToldGraphLaws.{place-below}
 use Rattle.model.specs.MergeLaws.{only-member}
-use Rattle.rows.specs.Rows.{noNode}
-use Rattle.compressed.specs.Compressed.{Compressed, Told, clique, firstAt, firstOf, independent, joinedBy, kindBy, kindLed, leads, placed, single, unfolded, unfoldedEdge}
+use Rattle.rows.specs.Rows.{leads, noNode}
+use Rattle.compressed.specs.Compressed.{Compressed, Told, clique, firstAt, firstMemberOf, independent, joinedBy, kindLed, kindMarked, placed, single, unfolded, unfoldedEdge}
 
 -- the first member of a node's group, by the group's position
-pub first-placed : (gs : List (Bool × List ℕ)) (p : ℕ) → placeOf gs p < length gs → firstOf gs p ≡ firstAt gs (placeOf gs p)
-unfolding firstOf firstAt membersAt position
+pub first-placed : (gs : List (Bool × List ℕ)) (p : ℕ) → placeOf gs p < length gs → firstMemberOf gs p ≡ firstAt gs (placeOf gs p)
+unfolding firstMemberOf firstAt membersAt position
 first-placed [] p l = absurd (omega arith)
 first-placed (g ∷ gs) p l = step (member p (g .1)) l (first-placed gs p)
   where
-    step : (b : Bool) → cond b 0 (suc (placeOf gs p)) < suc (length gs) → (placeOf gs p < length gs → firstOf gs p ≡ firstAt gs (placeOf gs p)) → cond b (headOr 0 (g .1)) (firstOf gs p) ≡ firstAt (g ∷ gs) (cond b 0 (suc (placeOf gs p)))
+    step : (b : Bool) → cond b 0 (suc (placeOf gs p)) < suc (length gs) → (placeOf gs p < length gs → firstMemberOf gs p ≡ firstAt gs (placeOf gs p)) → cond b (headOr 0 (g .1)) (firstMemberOf gs p) ≡ firstAt (g ∷ gs) (cond b 0 (suc (placeOf gs p)))
     step true h below = refl
     step false h below = below (omega arith)
 
-pub first-none : (gs : List (Bool × List ℕ)) (p : ℕ) → length gs ≤ placeOf gs p → firstOf gs p ≡ noNode
-unfolding firstOf position
-first-none [] p l = refl
-first-none (g ∷ gs) p l = step (member p (g .1)) l (first-none gs p)
+pub first-member-none : (gs : List (Bool × List ℕ)) (p : ℕ) → length gs ≤ placeOf gs p → firstMemberOf gs p ≡ noNode
+unfolding firstMemberOf position
+first-member-none [] p l = refl
+first-member-none (g ∷ gs) p l = step (member p (g .1)) l (first-member-none gs p)
   where
-    step : (b : Bool) → suc (length gs) ≤ cond b 0 (suc (placeOf gs p)) → (length gs ≤ placeOf gs p → firstOf gs p ≡ noNode) → cond b (headOr 0 (g .1)) (firstOf gs p) ≡ noNode
+    step : (b : Bool) → suc (length gs) ≤ cond b 0 (suc (placeOf gs p)) → (length gs ≤ placeOf gs p → firstMemberOf gs p ≡ noNode) → cond b (headOr 0 (g .1)) (firstMemberOf gs p) ≡ noNode
     step true h below = absurd (omega arith)
     step false h below = below (omega arith)
 
 -- the kind of a group, where no two groups have one first member
-kind-at : (gs : List (Bool × List ℕ)) → ((i j : ℕ) → i < length gs → j < length gs → firstAt gs i ≡ firstAt gs j → i ≡ j) → (i : ℕ) → i < length gs → kindLed gs (firstAt gs i) ≡ kindBy (cliqueAt gs i) (length (membersAt gs i))
+kind-at : (gs : List (Bool × List ℕ)) → ((i j : ℕ) → i < length gs → j < length gs → firstAt gs i ≡ firstAt gs j → i ≡ j) → (i : ℕ) → i < length gs → kindLed gs (firstAt gs i) ≡ kindMarked (cliqueAt gs i) (length (membersAt gs i))
 unfolding kindLed firstAt membersAt cliqueAt
 kind-at [] one i l = absurd (omega arith)
 kind-at (g ∷ gs) one zero l = rw (eq-eqb (headOr 0 (g .1)) (headOr 0 (g .1)) refl)
@@ -60,7 +60,7 @@ kind-other (g ∷ gs) p h = step (decide (eqb p (headOr 0 (g .1)))) (kind-other 
     step (inr t) below = let r = below (λ z. h (rw t z)) in (suc (r .0), omega (arith, r .1), r .2)
 
 kind-most : (gs : List (Bool × List ℕ)) (p : ℕ) → kindLed gs p ≤ clique
-unfolding kindLed kindBy
+unfolding kindLed kindMarked
 kind-most [] p = omega arith
 kind-most (g ∷ gs) p = step (eqb p (headOr 0 (g .1))) (g .0) (eqb (length (g .1)) 1) (kind-most gs p)
   where
@@ -71,8 +71,8 @@ kind-most (g ∷ gs) p = step (eqb p (headOr 0 (g .1))) (g .0) (eqb (length (g .
     step false b c h = h
 
 -- what a kind tells of a group's mark and size
-pub clique-kind : (c : Bool) (k : ℕ) → eqb (kindBy c k) clique ≡ c
-unfolding kindBy
+pub clique-kind : (c : Bool) (k : ℕ) → eqb (kindMarked c k) clique ≡ c
+unfolding kindMarked
 clique-kind true k = refl
 clique-kind false k = step (eqb k 1)
   where
@@ -80,8 +80,8 @@ clique-kind false k = step (eqb k 1)
     step true = refl
     step false = refl
 
-pub closed-kind : (c : Bool) (k : ℕ) → not (eqb (kindBy c k) independent) ≡ (c || eqb k 1)
-unfolding kindBy
+pub closed-kind : (c : Bool) (k : ℕ) → not (eqb (kindMarked c k) independent) ≡ (c || eqb k 1)
+unfolding kindMarked
 closed-kind true k = refl
 closed-kind false k = step (eqb k 1)
   where
@@ -89,8 +89,8 @@ closed-kind false k = step (eqb k 1)
     step true = refl
     step false = refl
 
-single-kind : (c : Bool) (k : ℕ) → kindBy c k ≡ single → k ≡ 1
-unfolding kindBy
+single-kind : (c : Bool) (k : ℕ) → kindMarked c k ≡ single → k ≡ 1
+unfolding kindMarked
 single-kind true k h = absurd (omega arith)
 single-kind false k h = step (decide (eqb k 1))
   where
@@ -178,7 +178,7 @@ module _ (n : ℕ) (gs : List (Bool × List ℕ)) (fits : groupsFit n (λ p. fal
   first-alone : (p : ℕ) → placeOf gs p < length gs → length (membersAt gs (placeOf gs p)) ≡ 1 → firstAt gs (placeOf gs p) ≡ p
   first-alone p l h = only-member (firstAt gs (placeOf gs p)) p (membersAt gs (placeOf gs p)) h (first-member (placeOf gs p) l) (place-in n gs fits p l)
 
-  kind-of : (i : ℕ) → i < length gs → kindLed gs (firstAt gs i) ≡ kindBy (cliqueAt gs i) (length (membersAt gs i))
+  kind-of : (i : ℕ) → i < length gs → kindLed gs (firstAt gs i) ≡ kindMarked (cliqueAt gs i) (length (membersAt gs i))
   kind-of = kind-at gs firsts-one
 
 -- superedges in order join different groups that are there
@@ -228,7 +228,7 @@ module _ (n : ℕ) (gs : List (Bool × List ℕ)) (js : List (ℕ × ℕ)) (smal
   told-first p l = told .first p (omega (arith, place-below n gs js small fits p l)) ∙ first-placed gs p l
 
   told-none : (p : ℕ) → p < maxNodes → length gs ≤ place p → getD least p 0 ≡ noNode
-  told-none p h l = told .first p h ∙ first-none gs p l
+  told-none p h l = told .first p h ∙ first-member-none gs p l
 
   told-some : (p : ℕ) → place p < length gs → eqb (getD least p 0) noNode ≡ false
   told-some p l = ne-eqb (getD least p 0) noNode (λ z. omega (arith, told-first p l, first-below n gs fits (place p) l))
@@ -264,7 +264,7 @@ module _ (n : ℕ) (gs : List (Bool × List ℕ)) (js : List (ℕ × ℕ)) (smal
       step (inl g) = let l = ltb-true (place p) (length gs) g in (place p, l, sym e ∙ told-first p l)
       step (inr g) = absurd (omega (arith, e, told-none p (omega arith) (ltb-false (place p) (length gs) g)))
 
-  pub told-kind : (i : ℕ) → i < length gs → getD kinds (firstAt gs i) 0 ≡ kindBy (cliqueAt gs i) (length (membersAt gs i))
+  pub told-kind : (i : ℕ) → i < length gs → getD kinds (firstAt gs i) 0 ≡ kindMarked (cliqueAt gs i) (length (membersAt gs i))
   told-kind i l = told .kind (firstAt gs i) (omega (arith, first-below n gs fits i l)) ∙ kind-of n gs fits i l
 
   -- joined are first members of groups with a superedge
@@ -291,7 +291,7 @@ module _ (n : ℕ) (gs : List (Bool × List ℕ)) (js : List (ℕ × ℕ)) (smal
     irreflexive = λ p h. told .bits p p h ∙ joined-loop n gs js fits ordered p;
     kind = λ p h s. let r = kind-other gs p (λ z. s (told .kind p h ∙ z)) in led p (r .0) (r .1) (r .2);
     most = λ p h. omega (arith, told .kind p h, kind-most gs p);
-    alone = λ p t s. lone p (told-in p t) s;
+    alone = λ p t s. single-first p (told-in p t) s;
   }
     where
       outer : (p : ℕ) → n ≤ p → (grouped p ≡ true) ⊎ (grouped p ≡ false) → length gs ≤ place p
@@ -304,9 +304,9 @@ module _ (n : ℕ) (gs : List (Bool × List ℕ)) (js : List (ℕ × ℕ)) (smal
       leading : (p q i j : ℕ) → i < length gs → j < length gs → p ≡ firstAt gs i → q ≡ firstAt gs j → (p < n) × (q < n) × (leads least p ≡ true) × (leads least q ≡ true)
       leading p q i j a b e f = let x = led p i a e in let y = led q j b f in (x .0, y .0, x .1, y .1)
 
-      lone : (p : ℕ) → place p < length gs → getD kinds (getD least p 0) 0 ≡ single → getD least p 0 ≡ p
-      lone p l s =
-          let k : kindBy (cliqueAt gs (place p)) (length (membersAt gs (place p))) ≡ single = sym (told-kind (place p) l) ∙ ap (λ (x : ℕ). getD kinds x 0) (sym (told-first p l)) ∙ s in
+      single-first : (p : ℕ) → place p < length gs → getD kinds (getD least p 0) 0 ≡ single → getD least p 0 ≡ p
+      single-first p l s =
+          let k : kindMarked (cliqueAt gs (place p)) (length (membersAt gs (place p))) ≡ single = sym (told-kind (place p) l) ∙ ap (λ (x : ℕ). getD kinds x 0) (sym (told-first p l)) ∙ s in
           told-first p l ∙ first-alone n gs fits p l (single-kind (cliqueAt gs (place p)) (length (membersAt gs (place p))) k)
 
   -- the edges that they unfold to

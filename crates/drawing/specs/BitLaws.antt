@@ -15,7 +15,7 @@ use borrow.Author.Tests.{eqb-true, eqb-false, eq-eqb}
 use Rattle.model.specs.Tables.{bitAt, edgeBit}
 use Rattle.model.specs.TestLaws.{decide, iff-eq}
 use Rattle.rows.specs.BitLaws.{bit-pow, bit-xor}
-use Rattle.drawing.specs.Drawing.{Added, oneBit, rowTo, rowWord}
+use Rattle.drawing.specs.Drawing.{Added, oneBit, rowTo, rowWordTo}
 
 max-bits : (x y : ℕ) → x < 2 → y < 2 → eqb (max x y) 1 ≡ (eqb x 1 || eqb y 1)
 max-bits zero zero hx hy = refl
@@ -77,8 +77,8 @@ bit-without x y k = bit-xor (bitOr x y) y k ∙ ap (λ (b : Bool). xor b (bitAt 
     each false false = refl
 
 -- the word of a set that the code has found
-pub word-drawn : (t st : List ℕ) (p w : ℕ) → w < 8 → 8 * p + 8 ≤ length t → Added (rowWord p st w) t (set t (8 * p + w) (bitOr (getD t (8 * p + w) 0) (getD st w 0)))
-unfolding edgeBit rowWord rowTo
+pub word-drawn : (t st : List ℕ) (p w : ℕ) → w < 8 → 8 * p + 8 ≤ length t → Added (rowWordTo p st w) t (set t (8 * p + w) (bitOr (getD t (8 * p + w) 0) (getD st w 0)))
+unfolding edgeBit rowWordTo rowTo
 word-drawn t st p w small fits = record { size = length-set t (8 * p + w) x; bits = λ a b l. at a b l (decide (eqb (8 * a + b / 64) (8 * p + w))) }
   where
     x : ℕ

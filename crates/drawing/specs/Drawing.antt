@@ -29,8 +29,8 @@ onePair p q a b = oneBit p q a b || oneBit q p a b
 unfoldable pub rowTo : ℕ → List ℕ → ℕ → ℕ → Bool
 rowTo p set a b = eqb a p && edgeBit set 0 b
 
-unfoldable pub rowWord : ℕ → List ℕ → ℕ → ℕ → ℕ → Bool
-rowWord p set w a b = eqb (b / 64) w && rowTo p set a b
+unfoldable pub rowWordTo : ℕ → List ℕ → ℕ → ℕ → ℕ → Bool
+rowWordTo p set w a b = eqb (b / 64) w && rowTo p set a b
 
 unfoldable pub rowFrom : ℕ → List ℕ → ℕ → ℕ → ℕ → Bool
 rowFrom p set w a b = not (ltb (b / 64) w) && rowTo p set a b

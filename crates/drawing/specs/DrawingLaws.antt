@@ -10,7 +10,7 @@ use lib.ListN.{set}
 use borrow.Author.Tests.{eqb-false, le-ltb, lt-ltb, ltb-false, ltb-true, ne-eqb}
 use Rattle.model.specs.Tables.{edgeBit}
 use Rattle.model.specs.TestLaws.{decide}
-use Rattle.drawing.specs.Drawing.{Added, Adding, oneBit, onePair, rowFrom, rowTo, rowWord}
+use Rattle.drawing.specs.Drawing.{Added, Adding, oneBit, onePair, rowFrom, rowTo, rowWordTo}
 
 split : (u v w : Bool) → ((u || v) && w) ≡ ((u && w) || (v && w))
 split true true true = refl
@@ -69,8 +69,8 @@ module _ (p : ℕ) (set : List ℕ) where
   unfolding rowFrom
   words-start t = adding-start (rowTo p set) (λ a b. not (ltb (b / 64) 0) && rowTo p set a b) t (λ a b. rw (le-ltb (b / 64) 0 (omega arith)))
 
-  pub words-step : (w : ℕ) {t now after : List ℕ} → Adding (rowTo p set) (rowFrom p set w) t now → Added (rowWord p set w) now after → Adding (rowTo p set) (rowFrom p set (w + 1)) t after
-  unfolding rowFrom rowWord
+  pub words-step : (w : ℕ) {t now after : List ℕ} → Adding (rowTo p set) (rowFrom p set w) t now → Added (rowWordTo p set w) now after → Adding (rowTo p set) (rowFrom p set (w + 1)) t after
+  unfolding rowFrom rowWordTo
   words-step w x y = adding-step x y (λ a b. ap (λ (z : Bool). z && rowTo p set a b) (next (b / 64) (decide (ltb (b / 64) w)) (decide (eqb (b / 64) w))) ∙ split (eqb (b / 64) w) (not (ltb (b / 64) (w + 1))) (rowTo p set a b))
     where
       next : (v : ℕ) → (ltb v w ≡ true) ⊎ (ltb v w ≡ false) → (eqb v w ≡ true) ⊎ (eqb v w ≡ false) → not (ltb v w) ≡ (eqb v w || not (ltb v (w + 1)))

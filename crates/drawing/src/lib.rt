@@ -2,7 +2,7 @@
 ghost use Prim.Native.Nat.{_+_, _*_, _≤_, _<_};
 ghost use lib.ListN.{length};
 ghost use Rattle.model.specs.Graph.{maxNodes, rowWords};
-ghost use Rattle.drawing.specs.Drawing.{Added, oneBit, onePair, rowTo, rowWord};
+ghost use Rattle.drawing.specs.Drawing.{Added, oneBit, onePair, rowTo, rowWordTo};
 use rows::Graph;
 
 // Node q's bit set in node p's row.
@@ -26,7 +26,7 @@ pub fn set_pair(edges: &mut [u64], p: usize, q: usize)
 // Word w of a set put into p's row.
 fn draw_word(edges: &mut [u64], p: usize, set: &[u64], w: usize)
     requires { ⌜ (p < maxNodes) × (rowWords * p + rowWords ≤ length (now edges)) × (rowWords ≤ length (now set)) × (w < rowWords) ⌝ }
-    ensures { λ _. ⌜ Added (rowWord p (now (set .entry)) w) (now (edges .entry)) (now (edges .exit)) ⌝ }
+    ensures { λ _. ⌜ Added (rowWordTo p (now (set .entry)) w) (now (edges .entry)) (now (edges .exit)) ⌝ }
 {
     let i = Graph::ROW_WORDS * p + w;
     edges[i] = edges[i] | set[w];

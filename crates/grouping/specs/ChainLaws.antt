@@ -19,7 +19,7 @@ use Rattle.rows.specs.BitLaws.{bit-xor, bit-zero}
 use Rattle.search.specs.TwinRowLaws.{own-bit, own-bit-lt, own-bits, words-eq, xor-swap}
 use Rattle.search.specs.SearchLaws.{meets-all, meets-differ, meets-words, row-length, row-part}
 use Rattle.compressed.specs.Compressed.{alike}
-use Rattle.grouping.specs.Chains.{Chains, Entered, Links, Met, rowWord, slotFor, slotOf, plain, rotated}
+use Rattle.grouping.specs.Chains.{Chains, Entered, Links, Met, rotated, rowSlot, rowWord, slotFor, unrotated}
 use Rattle.grouping.specs.HashLaws.{hash-same}
 
 -- rows that agree have one slot
@@ -57,9 +57,9 @@ module _ (edges : List ℕ) (fit : Words edges) (closed : Bool) (u q : ℕ) wher
           xor-swap (bitAt (getD edges (8 * u + w) 0) j) (bitAt (getD edges (8 * q + w) 0) j) (cond closed (eqb u (64 * w + j)) false) (cond closed (eqb q (64 * w + j)) false)
           (sym (bit-xor (getD edges (8 * u + w) 0) (getD edges (8 * q + w) 0) j) ∙ ap (λ (x : ℕ). bitAt x j) h ∙ own-bits closed u q w j l ∙ both closed (eqb u (64 * w + j)) (eqb q (64 * w + j)))
 
-  pub alike-slot : alike edges closed u q ≡ true → slotOf edges closed q ≡ slotOf edges closed u
-  unfolding alike slotOf
-  alike-slot h = ap₂ slotFor (hash-same rotated edges closed q u 8 words) (hash-same plain edges closed q u 8 words)
+  pub alike-slot : alike edges closed u q ≡ true → rowSlot edges closed q ≡ rowSlot edges closed u
+  unfolding alike rowSlot
+  alike-slot h = ap₂ slotFor (hash-same rotated edges closed q u 8 words) (hash-same unrotated edges closed q u 8 words)
     where
       words : (w : ℕ) → w < 8 → rowWord edges closed q w ≡ rowWord edges closed u w
       words w l = word-same w (meets-words closed u q edges h w l)

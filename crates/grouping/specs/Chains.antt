@@ -19,8 +19,8 @@ rowWord edges closed p w = bitXor (getD edges (rowWords * p + w) 0) (cond closed
 unfoldable pub rotated : ℕ → ℕ
 rotated h = bitXor (h * 2 ^ 9 % 2 ^ 64) (h / 2 ^ 55)
 
-abbrev pub plain : ℕ → ℕ
-plain h = h
+abbrev pub unrotated : ℕ → ℕ
+unrotated h = h
 
 -- the first k words of a row added up bit by bit, what is there rotated before each
 unfoldable pub hashOf : (ℕ → ℕ) → List ℕ → Bool → ℕ → ℕ → ℕ
@@ -42,8 +42,8 @@ unfoldable pub slotFor : ℕ → ℕ → ℕ
 slotFor h k = slotIn (bitXor (bitXor h (k / 2 ^ 5)) (k / 2 ^ 23))
 
 -- the slot of a row, by the words rotated and by the words as they stand
-unfoldable pub slotOf : List ℕ → Bool → ℕ → ℕ
-slotOf edges closed p = slotFor (hashOf rotated edges closed p rowWords) (hashOf plain edges closed p rowWords)
+unfoldable pub rowSlot : List ℕ → Bool → ℕ → ℕ
+rowSlot edges closed p = slotFor (hashOf rotated edges closed p rowWords) (hashOf unrotated edges closed p rowWords)
 
 -- a table of chains, of nodes counted from 1: for each slot the last node, and for each node the one before it in its slot
 pub record Links (u : ℕ) (t : List ℕ) : Type 0 where
@@ -72,5 +72,5 @@ pub record Entered (u s l : ℕ) (t after : List ℕ) : Type 0 where
 pub record Sought (n : ℕ) (edges marks : List ℕ) (u : ℕ) (opens closeds : List ℕ) : Type 0 where
   pub open-links : Links u opens
   pub closed-links : Links u closeds
-  pub open-chains : Chains (slotOf edges false) (leading (markedGraph n edges marks)) u opens
-  pub closed-chains : Chains (slotOf edges true) (leading (markedGraph n edges marks)) u closeds
+  pub open-chains : Chains (rowSlot edges false) (leading (markedGraph n edges marks)) u opens
+  pub closed-chains : Chains (rowSlot edges true) (leading (markedGraph n edges marks)) u closeds

@@ -16,7 +16,7 @@ use Rattle.model.specs.Tables.{bitAt}
 use Rattle.model.specs.ListLaws.{all-elim, nodes-in}
 use Rattle.search.specs.Search.{ownBit}
 use Rattle.rows.specs.BitLaws.{bit-xor, one-shl, word-bits, word-cong}
-use Rattle.grouping.specs.Chains.{hashOf, ownRotated, rowWord, slotFor, slotIn, slotOf, plain, rotated}
+use Rattle.grouping.specs.Chains.{hashOf, ownRotated, rotated, rowSlot, rowWord, slotFor, slotIn, unrotated}
 
 -- numbers with the same bits are equal
 below-pow : (x : ℕ) → x < 2 ^ x
@@ -91,27 +91,27 @@ pub own-at : (p : ℕ) → p < 512 → {w : ℕ} → w ≡ p / 64 → 1 * 2 ^ ((
 unfolding ownRotated
 own-at p l {w} e = rw e (one-shl ((p + 63 - 9 * (p / 64)) % 64) (omega arith))
 
-own-plain : (p : ℕ) → p < 512 → hashOf plain [] true p 8 ≡ 2 ^ (p % 64)
-own-plain p l = eqb-true _ _ (all-elim (nodes 512) (λ x. eqb (hashOf plain [] true x 8) (2 ^ (x % 64))) each p (nodes-in 512 p l))
+own-plain : (p : ℕ) → p < 512 → hashOf unrotated [] true p 8 ≡ 2 ^ (p % 64)
+own-plain p l = eqb-true _ _ (all-elim (nodes 512) (λ x. eqb (hashOf unrotated [] true x 8) (2 ^ (x % 64))) each p (nodes-in 512 p l))
   where
-    each : all (nodes 512) (λ x. eqb (hashOf plain [] true x 8) (2 ^ (x % 64))) ≡ true
+    each : all (nodes 512) (λ x. eqb (hashOf unrotated [] true x 8) (2 ^ (x % 64))) ≡ true
     each = unfold all nodes from hashOf rowWord ownBit in refl
 
 -- the slot, of the open and of the closed row
-module _ (edges : List ℕ) (closed : Bool) (p : ℕ) {h k r : ℕ} (eh : h ≡ hashOf rotated edges false p 8) (ek : k ≡ hashOf plain edges false p 8) where
-  pub slot-open : closed ≡ false → r ≡ slotFor h k → r ≡ slotOf edges closed p
-  unfolding slotOf
+module _ (edges : List ℕ) (closed : Bool) (p : ℕ) {h k r : ℕ} (eh : h ≡ hashOf rotated edges false p 8) (ek : k ≡ hashOf unrotated edges false p 8) where
+  pub slot-open : closed ≡ false → r ≡ slotFor h k → r ≡ rowSlot edges closed p
+  unfolding rowSlot
   slot-open c e = rw c (e ∙ ap₂ slotFor eh ek)
 
-  pub slot-closed : {o m : ℕ} → p < 512 → closed ≡ true → o ≡ ownRotated p → m ≡ 2 ^ (p % 64) → r ≡ slotFor (bitXor h o) (bitXor k m) → r ≡ slotOf edges closed p
-  unfolding slotOf
+  pub slot-closed : {o m : ℕ} → p < 512 → closed ≡ true → o ≡ ownRotated p → m ≡ 2 ^ (p % 64) → r ≡ slotFor (bitXor h o) (bitXor k m) → r ≡ rowSlot edges closed p
+  unfolding rowSlot
   slot-closed l c eo em e =
       rw c
       (e
       ∙ ap₂ slotFor
       (ap₂ bitXor eh (eo ∙ sym (own-rotated p l)) ∙ sym (hash-split rotated rotated-xor edges p 8))
-      (ap₂ bitXor ek (em ∙ sym (own-plain p l)) ∙ sym (hash-split plain (λ a b. refl) edges p 8)))
+      (ap₂ bitXor ek (em ∙ sym (own-plain p l)) ∙ sym (hash-split unrotated (λ a b. refl) edges p 8)))
 
-pub slot-lt : (edges : List ℕ) (closed : Bool) (p : ℕ) → slotOf edges closed p < 1024
-unfolding slotOf slotFor slotIn
+pub slot-lt : (edges : List ℕ) (closed : Bool) (p : ℕ) → rowSlot edges closed p < 1024
+unfolding rowSlot slotFor slotIn
 slot-lt edges closed p = omega arith

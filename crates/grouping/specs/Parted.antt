@@ -6,8 +6,9 @@ use Prim.Native.Nat.{ℕ, _+_, _<_}
 use lib.Dec.{eqb}
 use lib.ListN.{getD}
 use Rattle.model.specs.Lists.{all, nodes}
-use Rattle.compressed.specs.Compressed.{clique, independent, leads, merges}
-use Rattle.grouping.specs.Chains.{Chains, Links, slotOf, slots}
+use Rattle.rows.specs.Rows.{leads}
+use Rattle.compressed.specs.Compressed.{clique, independent, merges}
+use Rattle.grouping.specs.Chains.{Chains, Links, rowSlot, slots}
 
 -- the group that u leads, if it leads one, could be one with none before it
 unfoldable pub apartAt : List ℕ → List ℕ → List ℕ → ℕ → Bool
@@ -32,5 +33,5 @@ pub record New (twin : ℕ → Bool) (candidate : Bool) (u s : ℕ) (t after : L
 pub record Parted (least kinds joined : List ℕ) (u : ℕ) (opens closeds : List ℕ) : Type 0 where
   pub open-links : Links u opens
   pub closed-links : Links u closeds
-  pub open-chains : Chains (slotOf joined false) (chained least kinds false) u opens
-  pub closed-chains : Chains (slotOf joined true) (chained least kinds true) u closeds
+  pub open-chains : Chains (rowSlot joined false) (chained least kinds false) u opens
+  pub closed-chains : Chains (rowSlot joined true) (chained least kinds true) u closeds

@@ -12,9 +12,9 @@ use Rattle.model.specs.Lists.{nodes}
 use Rattle.model.specs.TestLaws.{and-fst, and-snd, and-true, decide, differ, or-cases, or-left, or-right}
 use Rattle.model.specs.ListLaws.{all-intro, nodes-out}
 use Rattle.buffers.specs.AllLaws.{all-fail, all-pass, failed}
-use Rattle.rows.specs.Rows.{Words}
-use Rattle.compressed.specs.Compressed.{alike, apart, leads, merges}
-use Rattle.grouping.specs.Chains.{Chains, Entered, Links, Met, slotOf}
+use Rattle.rows.specs.Rows.{Words, leads}
+use Rattle.compressed.specs.Compressed.{alike, apart, merges}
+use Rattle.grouping.specs.Chains.{Chains, Entered, Links, Met, rowSlot}
 use Rattle.grouping.specs.HashLaws.{slot-lt}
 use Rattle.grouping.specs.ChainLaws.{alike-slot, chains-keep, chains-none, links-keep}
 use Rattle.grouping.specs.Parted.{New, Parted, apartAt, candidate, chained}
@@ -102,11 +102,11 @@ module _ (least kinds joined : List ℕ) (u : ℕ) where
     found q l a m = rw leading (sym (all-fail (λ (p : ℕ). not (leads least p && merges kinds joined u p)) u q l (ap not (and-true a m))))
 
     -- the chains of open or of closed rows
-    module _ (closed : Bool) {t after : List ℕ} {s : ℕ} {a r : Bool} (k : Chains (slotOf joined closed) (chained least kinds closed) u t) (es : s ≡ slotOf joined closed u) (ea : candidate kinds closed u ≡ a) (w : New (alike joined closed u) a u s t after r) where
+    module _ (closed : Bool) {t after : List ℕ} {s : ℕ} {a r : Bool} (k : Chains (rowSlot joined closed) (chained least kinds closed) u t) (es : s ≡ rowSlot joined closed u) (ea : candidate kinds closed u ≡ a) (w : New (alike joined closed u) a u s t after r) where
       hit-apart : r ≡ false → apartAt least kinds joined u ≡ false
       hit-apart f =
           let i = w .hit f in
-          let h = i .1 (slotOf joined closed) (chained least kinds closed) (sym es) k in
+          let h = i .1 (rowSlot joined closed) (chained least kinds closed) (sym es) k in
           let c = both (h .0) (h .2) in
           found (h .0) (h .1) (c .0) (merges-by kinds joined u (h .0) closed (ea ∙ i .0) (c .1) (h .3))
         where
@@ -117,11 +117,11 @@ module _ (least kinds joined : List ℕ) (u : ℕ) where
       miss-apart fit e q l h cu cq = step (decide (alike joined closed u q))
         where
           step : (alike joined closed u q ≡ true) ⊎ (alike joined closed u q ≡ false) → alike joined closed u q ≡ false
-          step (inl y) = w .miss e (sym ea ∙ cu) (slotOf joined closed) (chained least kinds closed) (sym es) k q l (unfold chained in and-true h cq) (alike-slot joined fit closed u q y)
+          step (inl y) = w .miss e (sym ea ∙ cu) (rowSlot joined closed) (chained least kinds closed) (sym es) k q l (unfold chained in and-true h cq) (alike-slot joined fit closed u q y)
           step (inr y) = y
 
-      next : r ≡ true → Chains (slotOf joined closed) (chained least kinds closed) (u + 1) after
-      next e = w .chains e (slotOf joined closed) (chained least kinds closed) (slot-lt joined closed) (sym es) (chained-is closed ∙ ea) k
+      next : r ≡ true → Chains (rowSlot joined closed) (chained least kinds closed) (u + 1) after
+      next e = w .chains e (rowSlot joined closed) (chained least kinds closed) (slot-lt joined closed) (sym es) (chained-is closed ∙ ea) k
 
     open-candidate : candidate kinds false u ≡ not (eqb (getD kinds u 0) 2)
     unfolding candidate
@@ -131,11 +131,11 @@ module _ (least kinds joined : List ℕ) (u : ℕ) where
     unfolding candidate
     closed-candidate = refl
 
-    module _ {opens closeds opens₁ : List ℕ} {s : ℕ} {r : Bool} (h : Parted least kinds joined u opens closeds) (es : s ≡ slotOf joined false u) (w : New (alike joined false u) (not (eqb (getD kinds u 0) 2)) u s opens opens₁ r) where
+    module _ {opens closeds opens₁ : List ℕ} {s : ℕ} {r : Bool} (h : Parted least kinds joined u opens closeds) (es : s ≡ rowSlot joined false u) (w : New (alike joined false u) (not (eqb (getD kinds u 0) 2)) u s opens opens₁ r) where
       pub apart-refuted : not r ≡ true → false ≡ apartAt least kinds joined u
       apart-refuted n = sym (hit-apart false (h .open-chains) es open-candidate w (not-true r n))
 
-      module _ (n : not r ≡ false) {closeds₁ : List ℕ} {s′ : ℕ} {r′ : Bool} (es′ : s′ ≡ slotOf joined true u) (w′ : New (alike joined true u) (not (eqb (getD kinds u 0) 1)) u s′ closeds closeds₁ r′) where
+      module _ (n : not r ≡ false) {closeds₁ : List ℕ} {s′ : ℕ} {r′ : Bool} (es′ : s′ ≡ rowSlot joined true u) (w′ : New (alike joined true u) (not (eqb (getD kinds u 0) 1)) u s′ closeds closeds₁ r′) where
         pub apart-told : Words joined → r′ ≡ apartAt least kinds joined u
         apart-told fit = step (decide r′)
           where
@@ -169,8 +169,8 @@ pub parted-none : (least kinds joined : List ℕ) {opens closeds : List ℕ} →
 parted-none least kinds joined x y = record {
   open-links = x;
   closed-links = y;
-  open-chains = chains-none (slotOf joined false) (chained least kinds false) x;
-  closed-chains = chains-none (slotOf joined true) (chained least kinds true) y;
+  open-chains = chains-none (rowSlot joined false) (chained least kinds false) x;
+  closed-chains = chains-none (rowSlot joined true) (chained least kinds true) y;
 }
 
 -- all groups, or up to one that is not apart

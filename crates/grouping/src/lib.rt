@@ -9,7 +9,7 @@ ghost use Rattle.masking.specs.Masking.{Apart, markedGraph};
 ghost use Rattle.search.specs.Search.{rowIn};
 ghost use Rattle.compressed.specs.Compressed.{alike, apart};
 ghost use Rattle.grouping.specs.Least.{leastVisible};
-ghost use Rattle.grouping.specs.Chains.{Chains, Entered, Links, Met, Sought, hashOf, ownRotated, plain, rotated, slotFor, slotIn, slotOf, slots};
+ghost use Rattle.grouping.specs.Chains.{Chains, Entered, Links, Met, Sought, hashOf, ownRotated, rotated, rowSlot, slotFor, slotIn, slots, unrotated};
 ghost use Rattle.grouping.specs.Parted.{New, Parted, apartAt};
 use compressed::CLIQUE;
 use compressed::INDEPENDENT;
@@ -36,7 +36,7 @@ fn sum_rotated(edges: &[u64], p: usize) -> u64
 // The same without rotation.
 fn sum_plain(edges: &[u64], p: usize) -> u64
     requires { ⌜ (p < maxNodes) × (rowWords * p + rowWords ≤ length (now edges)) ⌝ }
-    ensures { λ r. ⌜ r ≡ hashOf plain (now (edges .entry)) false p rowWords ⌝ }
+    ensures { λ r. ⌜ r ≡ hashOf unrotated (now (edges .entry)) false p rowWords ⌝ }
 {
     let a = Graph::ROW_WORDS * p;
     let mut h = 0u64;
@@ -74,7 +74,7 @@ fn slot_for(h: u64, k: u64) -> usize
 // The slot of p's row, of the open or of the closed one, which has p's own bit too.
 fn slot_of(edges: &[u64], closed: bool, p: usize) -> usize
     requires { ⌜ (p < maxNodes) × (rowWords * p + rowWords ≤ length (now edges)) ⌝ }
-    ensures { λ r. ⌜ r ≡ slotOf (now (edges .entry)) closed p ⌝ }
+    ensures { λ r. ⌜ r ≡ rowSlot (now (edges .entry)) closed p ⌝ }
 {
     let h = sum_rotated(edges, p);
     let k = sum_plain(edges, p);
@@ -130,7 +130,7 @@ fn least_of(
     b: usize,
 ) -> usize
     requires { ⌜ Apart n (now edges) (now hidden) × Sought n (now edges) (now hidden) u (now opens) (now closeds) × (u < n) ⌝ }
-    requires { ⌜ (a ≡ slotOf (now edges) false u) × (b ≡ slotOf (now edges) true u) ⌝ }
+    requires { ⌜ (a ≡ rowSlot (now edges) false u) × (b ≡ rowSlot (now edges) true u) ⌝ }
     ensures { λ r. ⌜ r ≡ leastVisible (markedGraph n (now (edges .entry)) (now (hidden .entry))) u ⌝ }
 {
     if !masking::is_visible(hidden, u) {

@@ -19,13 +19,13 @@ use Rattle.model.specs.TwinLaws.{Simple}
 use Rattle.model.specs.ClassLaws.{Equivalence, group-in, group-out, least-in, least-rel, least-leads, same-group}
 use Rattle.model.specs.SummaryLaws.{equivalence, clique-law}
 use Rattle.model.specs.TableLaws.{proper-simple, least-at, group-told}
+use Rattle.buffers.specs.ScanLaws.{scan-nodes}
 use Rattle.rings.specs.Ring.{up, Best, Table, Of}
 use Rattle.rings.specs.RingLaws.{up-circle}
 use Rattle.rings.specs.NodesLaws.{of-nodes}
 use Rattle.buffers.specs.Scan.{scan}
 use Rattle.tables.specs.Lent.{Held}
 use Rattle.queries.specs.Query.{ledBy, kindBy}
-use Rattle.queries.specs.QueryLaws.{scan-nodes}
 
 -- the neighbours that a row tells
 pub row-neighbours : (n p : ℕ) (t : Tables) → p < n → scan (edgeBit (t .edges) p) n 0 ≡ neighbours (graphOf n t) p

@@ -21,7 +21,7 @@ use Rattle.model.specs.RefusalLaws.{first-none, judged-done, judged-refused}
 use Rattle.index.specs.Index.{opened, applied, listed, tiedOf, grouped}
 use Rattle.tables.specs.Lent.{tableReasons, Held}
 use Rattle.tables.specs.LentLaws.{sized, table-refused, table-rest, table-held}
-use Rattle.updates.specs.Batch.{Applied as BatchDone}
+use Rattle.updates.specs.Batch.{BatchApplied}
 use Rattle.updates.specs.BatchLaws.{whole-numbers}
 use Rattle.queries.specs.Query.{ledBy, kindBy}
 use Rattle.index.specs.GroupLaws.{row-neighbours, l-below, m-below, least-is, leader-told, led-group, kind-told}
@@ -86,7 +86,7 @@ module _ (n : ℕ) (t : Tables) (xs : List ℕ) (out : List ℤ) where
       let s = sized n t true (sym (ap not (w .0))) refl in
       (record { same = held-tables n t k; proper = held-proper n t k (s .small) }, whole-numbers xs (w .1), ltb-false (length out) (updateCount xs) (c .0))
 
-  pub apply-done : (r : ℕ) → r ≡ firstOf (applyReasons n t xs out) → r ≡ 0 → {t₁ : Tables} {out₁ : List ℤ} → BatchDone n xs t out t₁ out₁ → applied 0 t₁ out₁ ≡ applyCall n t xs out
+  pub apply-done : (r : ℕ) → r ≡ firstOf (applyReasons n t xs out) → r ≡ 0 → {t₁ : Tables} {out₁ : List ℤ} → BatchApplied n xs t out t₁ out₁ → applied 0 t₁ out₁ ≡ applyCall n t xs out
   unfolding applyCall
   apply-done r e d b = ap₂ (applied 0) (b .tables) (b .answered) ∙ call-done (applyReasons n t xs out) (applyRefused t out) _ (sym e ∙ d)
 

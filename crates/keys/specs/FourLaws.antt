@@ -18,10 +18,9 @@ use Rattle.model.specs.ListLaws.{from-out}
 use Rattle.buffers.specs.StoreLaws.{stored, stored-size}
 use Rattle.rows.specs.BitLaws.{word-bit}
 use Rattle.search.specs.Search.{edgesIn, graphIn}
-use Rattle.rows.specs.KeyLaws.{cube-le, cubes-cong}
+use Rattle.rows.specs.KeyLaws.{cube-le, cubes-cong, no-cubes}
 use Rattle.keys.specs.TotalLaws.{cubes-one, cubes-split}
-use Rattle.keys.specs.SumLaws.{no-cubes}
-use Rattle.keys.specs.KeySums.{Filled, Widened, eightCubes, fourCubes, rowCubes, wordCubes}
+use Rattle.keys.specs.KeySums.{FoursFilled, Widened, eightCubes, fourCubes, rowCubes, wordCubes}
 
 -- a digit chooses a cube
 pub chosen : (v x : ℕ) → v % 2 ≡ 1 → x ≡ v % 2 * x
@@ -69,15 +68,15 @@ four-more w x i =
     three = let s : 4 * i + 3 ≡ suc (suc (suc (4 * i))) = omega arith in let z : x / 2 ^ (4 * i) / 8 ≡ x / 2 ^ suc (suc (suc (4 * i))) = at 3 ∙ ap (λ (m : ℕ). x / 2 ^ m) s in omega arith
 
 -- the table of sums
-pub filled-none : (sums : List ℕ) → length sums ≡ 2048 → Filled 0 sums
-filled-none sums e = record { size = e; entries = λ k l. absurd (omega arith) }
+pub fours-none : (sums : List ℕ) → length sums ≡ 2048 → FoursFilled 0 sums
+fours-none sums e = record { size = e; entries = λ k l. absurd (omega arith) }
 
-pub filled-start : {m k : ℕ} {sums : List ℕ} → Filled m sums → k ≡ m → Filled k sums
-filled-start {m} {k} {sums} h e = subst (λ i. Filled i sums) (sym e) h
+pub filled-start : {m k : ℕ} {sums : List ℕ} → FoursFilled m sums → k ≡ m → FoursFilled k sums
+filled-start {m} {k} {sums} h e = subst (λ i. FoursFilled i sums) (sym e) h
 
-pub filled-more : {b v : ℕ} {sums : List ℕ} {x c d e f : ℕ} → Filled (16 * b + v) sums → b < 128 → v < 16 → c ≡ cube (4 * b) → d ≡ cube (4 * b + 1) → e ≡ cube (4 * b + 2) → f ≡ cube (4 * b + 3)
-    → x ≡ v % 2 * c + v / 2 % 2 * d + v / 4 % 2 * e + v / 8 % 2 * f → Filled (16 * b + (v + 1)) (set sums (16 * b + v) x)
-filled-more {b} {v} {sums} {x} {c} {d} {e} {f} h hb hv ec ed ee ef ex =
+pub fours-more : {b v : ℕ} {sums : List ℕ} {x c d e f : ℕ} → FoursFilled (16 * b + v) sums → b < 128 → v < 16 → c ≡ cube (4 * b) → d ≡ cube (4 * b + 1) → e ≡ cube (4 * b + 2) → f ≡ cube (4 * b + 3)
+    → x ≡ v % 2 * c + v / 2 % 2 * d + v / 4 % 2 * e + v / 8 % 2 * f → FoursFilled (16 * b + (v + 1)) (set sums (16 * b + v) x)
+fours-more {b} {v} {sums} {x} {c} {d} {e} {f} h hb hv ec ed ee ef ex =
     let i : (16 * b + v) / 16 ≡ b = omega arith in
     let j : (16 * b + v) % 16 ≡ v = omega arith in
     let s : 16 * b + v + 1 ≡ 16 * b + (v + 1) = omega arith in
@@ -97,7 +96,7 @@ digit-le zero x h = omega arith
 digit-le (suc zero) x h = omega arith
 digit-le (suc (suc d)) x h = absurd (omega arith)
 
-pub four-le : {sums : List ℕ} (e : ℕ) → Filled 2048 sums → e < 2048 → getD sums e 0 ≤ 536870912
+pub four-le : {sums : List ℕ} (e : ℕ) → FoursFilled 2048 sums → e < 2048 → getD sums e 0 ≤ 536870912
 four-le {sums} e h l =
     let b = e / 16 in
     let v = e % 16 in
@@ -110,7 +109,7 @@ widened-none sums e = record { size = e; entries = λ k l. absurd (omega arith) 
 pub widened-start : {m k : ℕ} {sums : List ℕ} → Widened m sums → k ≡ m → Widened k sums
 widened-start {m} {k} {sums} h e = subst (λ i. Widened i sums) (sym e) h
 
-pub widened-more : {b h l : ℕ} {fours sums : List ℕ} → Widened (256 * b + 16 * h + l) sums → Filled 2048 fours → b < 64 → h < 16 → l < 16
+pub widened-more : {b h l : ℕ} {fours sums : List ℕ} → Widened (256 * b + 16 * h + l) sums → FoursFilled 2048 fours → b < 64 → h < 16 → l < 16
     → Widened (256 * b + 16 * h + (l + 1)) (set sums (256 * b + 16 * h + l) (getD fours (32 * b + l) 0 + getD fours (32 * b + 16 + h) 0))
 unfolding eightCubes
 widened-more {b} {h} {l} {fours} {sums} w f hb hh hl =

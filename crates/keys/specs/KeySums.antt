@@ -28,7 +28,7 @@ abbrev pub fourCubes : ℕ → ℕ → ℕ
 fourCubes b v = v % 2 * cube (4 * b) + v / 2 % 2 * cube (4 * b + 1) + v / 4 % 2 * cube (4 * b + 2) + v / 8 % 2 * cube (4 * b + 3)
 
 -- the first m sums of four cubes
-pub record Filled (m : ℕ) (sums : List ℕ) : Type 0 where
+pub record FoursFilled (m : ℕ) (sums : List ℕ) : Type 0 where
   pub size : length sums ≡ 2048
   pub entries : (e : ℕ) → e < m → getD sums e 0 ≡ fourCubes (e / 16) (e % 16)
 

@@ -1,7 +1,7 @@
 -- A walk over the bits of a row that adds up what a function, as the cube, tells of its nodes.
-use mathlib.Core.Path.{_≡_, refl, sym, ap, _∙_}
+use mathlib.Core.Path.{_≡_, sym, ap, _∙_}
 use mathlib.Core.Bool.{Bool, true, false, cond, _&&_}
-use mathlib.Core.List.{List, [], _∷_}
+use mathlib.Core.List.{List}
 use Prim.Native.Nat.{ℕ, _+_, _*_, _-_, _%_, _^_, _≤_, _<_}
 use native.Mathlib.Omega.{arith}
 use lib.Bits.{bitAnd}
@@ -21,11 +21,6 @@ use Rattle.keys.specs.TotalLaws.{total-cong, total-cubes, total-none, to
 use Rattle.keys.specs.Walk.{ahead}
 use Rattle.keys.specs.WalkLaws.{ahead-end, ahead-gone, ahead-here, ahead-next, ahead-off, ahead-start, cleared-less, lowest-small}
 
-pub no-cubes : (l : List ℕ) → sumCubes (filter (λ q. false) l) ≡ 0
-unfolding filter sumCubes
-no-cubes [] = refl
-no-cubes (x ∷ xs) = no-cubes xs
-
 -- x is what is left of word w of p's row, sum what c tells of the bits so far, key what it tells of all of them
 pub record Weighing (c : ℕ → ℕ) (key n : ℕ) (edges : List ℕ) (p w x sum : ℕ) : Type 0 where
   pub small : x < 2 ^ 64
@@ -34,8 +29,8 @@ pub record Weighing (c : ℕ → ℕ) (key n : ℕ) (edges : List ℕ) (p w x su
   pub total : (sum + sumOf n (ahead edges p w x) c) % 2 ^ 32 ≡ key
 
 -- the cubes so far
-abbrev pub Adding : ℕ → List ℕ → ℕ → ℕ → ℕ → ℕ → Type 0
-Adding n edges p w x sum = Weighing (λ q. cube q) (openKey (whole (graphIn n edges)) p) n edges p w x sum
+abbrev pub CubesSoFar : ℕ → List ℕ → ℕ → ℕ → ℕ → ℕ → Type 0
+CubesSoFar n edges p w x sum = Weighing (λ q. cube q) (openKey (whole (graphIn n edges)) p) n edges p w x sum
 
 weights-cong : (n : ℕ) (f h : ℕ → Bool) (c : ℕ → ℕ) → ((q : ℕ) → q < n → f q ≡ h q) → sumOf n f c ≡ sumOf n h c
 weights-cong n f h c e = total-cong n (λ q. cond (f q) (c q) 0) (λ q. cond (h q) (c q) 0) (λ q l. ap (λ (b : Bool). cond b (c q) 0) (e q l))
@@ -114,7 +109,7 @@ module _ {c : ℕ → ℕ} {key n : ℕ} {edges : List ℕ} {p : ℕ} where
       empty = total-none n (λ q. cond (ahead edges p w x q) (c q) 0) (λ q k. ap (λ (b : Bool). cond b (c q) 0) (ap (λ (m : ℕ). ahead edges p m x q) e ∙ ahead-end edges p x q (omega arith)))
 
 module _ {n : ℕ} {edges : List ℕ} {p : ℕ} where
-  pub adding-start : p < n → Words edges → Adding n edges p 0 (getD edges (8 * p + 0) 0) 0
+  pub adding-start : p < n → Words edges → CubesSoFar n edges p 0 (getD edges (8 * p + 0) 0) 0
   unfolding openKey edgesIn
   adding-start hp words = weighing-start (ap (λ (s : ℕ). s % 2 ^ 32) sums) words
     where
@@ -123,5 +118,5 @@ module _ {n : ℕ} {edges : List ℕ} {p : ℕ} where
           weights-cong n (edgeBit edges p) (λ q. ltb p n && (ltb q n && edgeBit edges p q)) (λ q. cube q) (λ q l. rw (lt-ltb p n hp, lt-ltb q n l))
           ∙ sym (total-cubes n (λ q. ltb p n && (ltb q n && edgeBit edges p q)))
 
-  pub adding-done : {x sum w : ℕ} → Adding n edges p w x sum → w ≡ 8 → n ≤ 512 → sum ≡ openKey (whole (graphIn n edges)) p
+  pub adding-done : {x sum w : ℕ} → CubesSoFar n edges p w x sum → w ≡ 8 → n ≤ 512 → sum ≡ openKey (whole (graphIn n edges)) p
   adding-done h e l = weighing-done h e l

@@ -18,12 +18,12 @@ use Rattle.rows.specs.BitLaws.{bit-pow, bit-xor, bit-zero, xor-cond}
 use Rattle.keys.specs.Walk.{ahead}
 
 -- of k digits that are not all 0, the lowest that is set
-pub record Lowest (k x t : ℕ) : Type 0 where
+pub record LowestDigit (k x t : ℕ) : Type 0 where
   pub small : t < k
   pub below : x % 2 ^ t ≡ 0
   pub set : x / 2 ^ t % 2 ≡ 1
 
-lowest-of : (k x : ℕ) → (x % 2 ^ k ≡ 0 → ⊥) → Lowest k x (trailingZeros k x)
+lowest-of : (k x : ℕ) → (x % 2 ^ k ≡ 0 → ⊥) → LowestDigit k x (trailingZeros k x)
 unfolding trailingZeros
 lowest-of zero x h = absurd (h (omega arith))
 lowest-of (suc k) x h = step (x % 2) refl (lowest-of k (x / 2))
@@ -31,7 +31,7 @@ lowest-of (suc k) x h = step (x % 2) refl (lowest-of k (x / 2))
     halves : (j : ℕ) → x % 2 ^ suc j ≡ (x / 2 % 2 ^ j) * 2 + x % 2
     halves j = let s : j + 1 ≡ suc j = omega arith in rw (← s, mod-pow-add x j 1)
 
-    step : (d : ℕ) → x % 2 ≡ d → ((x / 2 % 2 ^ k ≡ 0 → ⊥) → Lowest k (x / 2) (trailingZeros k (x / 2))) → Lowest (suc k) x (under d (trailingZeros k (x / 2)))
+    step : (d : ℕ) → x % 2 ≡ d → ((x / 2 % 2 ^ k ≡ 0 → ⊥) → LowestDigit k (x / 2) (trailingZeros k (x / 2))) → LowestDigit (suc k) x (under d (trailingZeros k (x / 2)))
     step zero e below =
         let b = below (λ z. h (omega (arith, halves k))) in
         let t : ℕ = trailingZeros k (x / 2) in
@@ -42,7 +42,7 @@ lowest-of (suc k) x h = step (x % 2) refl (lowest-of k (x / 2))
 
 -- a word and its lowest bit
 module _ (x : ℕ) (small : x < 2 ^ 64) (some : x ≡ 0 → ⊥) where
-  lowest : Lowest 64 x (trailingZeros 64 x)
+  lowest : LowestDigit 64 x (trailingZeros 64 x)
   lowest = lowest-of 64 x (λ z. some (omega arith))
 
   abbrev t : ℕ

@@ -7,7 +7,7 @@ ghost use Rattle.model.specs.Grouping.{openKey};
 ghost use Rattle.model.specs.Tables.{keysOf};
 ghost use Rattle.search.specs.Search.{Within, graphIn};
 ghost use Rattle.keys.specs.KeySums.{
-  Filled,
+  FoursFilled,
   KeysPut,
   LeastTold,
   RowInside,
@@ -41,8 +41,8 @@ fn chosen_of(v: usize, c: u32, d: u32, e: u32, f: u32) -> u32
 
 // The cubes of four nodes from 4 * b on, for each choice among them.
 fn fill_four(sums: &mut [u32], b: usize)
-    requires { ⌜ (b < 128) × Filled (16 * b) (now sums) ⌝ }
-    ensures { λ _. ⌜ Filled (16 * (b + 1)) (now (sums .exit)) ⌝ }
+    requires { ⌜ (b < 128) × FoursFilled (16 * b) (now sums) ⌝ }
+    ensures { λ _. ⌜ FoursFilled (16 * (b + 1)) (now (sums .exit)) ⌝ }
 {
     let c = rows::cube_of(4 * b);
     let d = rows::cube_of(4 * b + 1);
@@ -56,7 +56,7 @@ fn fill_four(sums: &mut [u32], b: usize)
 // The sums of the cubes of any of four nodes, for all nodes.
 fn fill_fours(sums: &mut [u32])
     requires { ⌜ length (now sums) ≡ 2048 ⌝ }
-    ensures { λ _. ⌜ Filled 2048 (now (sums .exit)) ⌝ }
+    ensures { λ _. ⌜ FoursFilled 2048 (now (sums .exit)) ⌝ }
 {
     for b in 0..128 {
         fill_four(sums, b);
@@ -65,7 +65,7 @@ fn fill_fours(sums: &mut [u32])
 
 // Sixteen sums for the eight nodes from 8 * b on: choice h among the last four of them, and each choice among the first four.
 fn widen_row(fours: &[u32], sums: &mut [u32], b: usize, h: usize)
-    requires { ⌜ (b < 64) × (h < 16) × Filled 2048 (now fours) × Widened (256 * b + 16 * h) (now sums) ⌝ }
+    requires { ⌜ (b < 64) × (h < 16) × FoursFilled 2048 (now fours) × Widened (256 * b + 16 * h) (now sums) ⌝ }
     ensures { λ _. ⌜ Widened (256 * b + 16 * (h + 1)) (now (sums .exit)) ⌝ }
 {
     let x = fours[32 * b + 16 + h];
@@ -76,7 +76,7 @@ fn widen_row(fours: &[u32], sums: &mut [u32], b: usize, h: usize)
 
 // All sums for those nodes, in a loop of its own: the sums of the first four are read once.
 fn widen_rows(fours: &[u32], sums: &mut [u32], b: usize)
-    requires { ⌜ (b < 64) × Filled 2048 (now fours) × Widened (256 * b) (now sums) ⌝ }
+    requires { ⌜ (b < 64) × FoursFilled 2048 (now fours) × Widened (256 * b) (now sums) ⌝ }
     ensures { λ _. ⌜ Widened (256 * (b + 1)) (now (sums .exit)) ⌝ }
 {
     for h in 0..16 {
@@ -85,7 +85,7 @@ fn widen_rows(fours: &[u32], sums: &mut [u32], b: usize)
 }
 
 fn widen(fours: &[u32], sums: &mut [u32])
-    requires { ⌜ Filled 2048 (now fours) × (length (now sums) ≡ 16384) ⌝ }
+    requires { ⌜ FoursFilled 2048 (now fours) × (length (now sums) ≡ 16384) ⌝ }
     ensures { λ _. ⌜ Widened 16384 (now (sums .exit)) ⌝ }
 {
     for b in 0..64 {

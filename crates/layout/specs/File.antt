@@ -6,17 +6,14 @@ use mathlib.Core.List.{List, [], _∷_, _++_, map}
 use Prim.Native.Nat.{ℕ, suc, zero, _+_, _*_, _≤_, _<_}
 use lib.Dec.{eqb, ltb}
 use lib.ListN.{length, getD}
-use Rattle.rows.specs.Rows.{noNode}
+use Rattle.rows.specs.Rows.{leads, noNode}
 use Rattle.model.specs.Lists.{concat, headOr}
 use Rattle.model.specs.Tables.{edgeBit}
 use Rattle.model.specs.Release.{endRecord, headRecord, superedgeRecord, u16}
 use Rattle.model.specs.Calls.{Released, onto, releaseRefused}
 use Rattle.buffers.specs.Scan.{flat, scan}
 
--- p is the least of its group; the least member of q's group is l; p is in a group
-unfoldable pub leads : List ℕ → ℕ → Bool
-leads least p = eqb (getD least p 0) p
-
+-- the least member of q's group is l; p is in a group
 unfoldable pub belongs : List ℕ → ℕ → ℕ → Bool
 belongs least l q = eqb (getD least q 0) l
 
@@ -52,11 +49,11 @@ unfoldable pub groupsBytes : (ℕ → ℕ → Bool) → (ℕ → List ℕ) → L
 groupsBytes e members ls = flat (λ i. groupBytes e (members (getD ls i 0))) (length ls) 0
 
 -- superedges: the positions after i of the groups that the i-th has one to; their records
-unfoldable pub meets : (ℕ → ℕ → Bool) → List ℕ → ℕ → ℕ → Bool
-meets e ls i j = e (getD ls i 0) (getD ls j 0)
+unfoldable pub superedgeBetween : (ℕ → ℕ → Bool) → List ℕ → ℕ → ℕ → Bool
+superedgeBetween e ls i j = e (getD ls i 0) (getD ls j 0)
 
 unfoldable pub later : (ℕ → ℕ → Bool) → List ℕ → ℕ → List ℕ
-later e ls i = scan (meets e ls i) (length ls) (i + 1)
+later e ls i = scan (superedgeBetween e ls i) (length ls) (i + 1)
 
 unfoldable pub superedgesTo : ℕ → List ℕ → List ℕ
 superedgesTo i js = concat (map (λ j. superedgeRecord (i, j)) js)
@@ -79,7 +76,7 @@ pub record Rows (n : ℕ) (edges leaders : List ℕ) : Type 0 where
   pub few : length leaders ≤ n
   pub below : (i : ℕ) → i < length leaders → getD leaders i 0 < n
 
-pub record Linked (n : ℕ) (least next : List ℕ) : Type 0 where
+pub record NextLinked (n : ℕ) (least next : List ℕ) : Type 0 where
   pub size : n ≤ length next
   pub next-is : (q : ℕ) → q < n → getD next q 0 ≡ nextOf least n q
 

@@ -12,11 +12,12 @@ use Rattle.model.specs.Lists.{concat}
 use Rattle.model.specs.Tables.{edgeBit}
 use Rattle.model.specs.Release.{headRecord, superedgeRecord, u16}
 use Rattle.model.specs.ReleaseLaws.{length-u16s}
+use Rattle.rows.specs.Rows.{leads}
 use Rattle.buffers.specs.Wrote.{Left, Wrote}
 use Rattle.buffers.specs.WroteLaws.{left-done, left-room, left-start, left-step, wrote-before, wrote-length, wrote-then}
 use Rattle.buffers.specs.Scan.{flat, scan}
 use Rattle.buffers.specs.ScanLaws.{flat-step, scan-length, scan-yes}
-use Rattle.layout.specs.File.{chain, firstTwo, groupBytes, groupMark, inGroup, later, leads, meets, u16Bytes}
+use Rattle.layout.specs.File.{chain, firstTwo, groupBytes, groupMark, inGroup, later, superedgeBetween, u16Bytes}
 
 pub wrote-two : (s : List ℕ) (at a b : ℕ) → Wrote s at (a ∷ b ∷ []) (set (set s at a) (at + 1) b) (at + 2)
 wrote-two s at a b = record { bytes = rw (add-one at); place = refl }
@@ -161,7 +162,7 @@ collect-yes least n p l h t = left-step {bs = p ∷ []} l (record { bytes = refl
 
 pub later-length : (e : ℕ → ℕ → Bool) (ls : List ℕ) (i : ℕ) → length (later e ls i) ≤ length ls
 unfolding later
-later-length e ls i = omega (arith, scan-length (meets e ls i) (length ls) (i + 1))
+later-length e ls i = omega (arith, scan-length (superedgeBetween e ls i) (length ls) (i + 1))
 
 -- room for the parts of a group
 pub room-members : (e : ℕ → ℕ → Bool) (g : List ℕ) (at : ℕ) {k : ℕ} → at + length (groupBytes e g) ≤ k → at + 4 + length (u16Bytes g) ≤ k

@@ -14,7 +14,7 @@ use Rattle.model.specs.TestLaws.{decide}
 use Rattle.buffers.specs.Scan.{scan}
 use Rattle.buffers.specs.ScanLaws.{scan-end, scan-no, scan-yes, upward}
 use Rattle.rows.specs.Rows.{noNode}
-use Rattle.layout.specs.File.{Ahead, Linked, belongs, chain, inGroup, nextOf}
+use Rattle.layout.specs.File.{Ahead, NextLinked, belongs, chain, inGroup, nextOf}
 
 -- while the table is made, from the end: the nodes from p on are linked, and head has the first of each group among them
 pub record Linking (n : ℕ) (least head next : List ℕ) (p : ℕ) : Type 0 where
@@ -102,7 +102,7 @@ link-yes n least head next p l small e hl h k = link-on n least head next (p - 1
 pub link-no : (n : ℕ) (least head next : List ℕ) (p l : ℕ) → l ≡ getD least (p - 1) 0 → n ≤ l → 0 < p → Linking n least head next p → Linking n least head (set next (p - 1) noNode) (p - 1)
 link-no n least head next p l e hl h k = link-off n least head next (p - 1) l e hl (omega (arith, k .low)) (down h k)
 
-pub link-done : {n : ℕ} {least head next : List ℕ} {p : ℕ} → Linking n least head next p → p ≤ 0 → Linked n least next
+pub link-done : {n : ℕ} {least head next : List ℕ} {p : ℕ} → Linking n least head next p → p ≤ 0 → NextLinked n least next
 link-done k h = record { size = k .size; next-is = λ q b. k .next-is q (omega arith) b }
 
 -- what a scan begins with
@@ -132,7 +132,7 @@ head-above : (P : ℕ → Bool) (n p : ℕ) (l : List ℕ) → n ≤ 512 → p �
 head-above P n p [] s h e = omega arith
 head-above P n p (x ∷ xs) s h e = begins P n p x xs e .above
 
-pub linked-ahead : (n : ℕ) (least next : List ℕ) → n ≤ 512 → Linked n least next → Ahead n next
+pub linked-ahead : (n : ℕ) (least next : List ℕ) → n ≤ 512 → NextLinked n least next → Ahead n next
 unfolding nextOf
 linked-ahead n least next small k = record { small = small; size = k .size; ahead = λ q h. rw (k .next-is q h) (step q h (inGroup least n q)) }
   where
@@ -141,7 +141,7 @@ linked-ahead n least next small k = record { small = small; size = k .size; ahea
     step q h false = omega arith
 
 -- the members met on the way are the nodes of the group
-module _ (n : ℕ) (least next : List ℕ) (small : n ≤ 512) (k : Linked n least next) (l : ℕ) (hl : l < n) where
+module _ (n : ℕ) (least next : List ℕ) (small : n ≤ 512) (k : NextLinked n least next) (l : ℕ) (hl : l < n) where
   pub chain-scan : (f q : ℕ) → n ≤ q + f → q < n → belongs least l q ≡ true → chain f next n q ≡ scan (belongs least l) n q
   unfolding chain belongs inGroup
   chain-scan zero q e h t = absurd (omega arith)

@@ -10,7 +10,7 @@ use lib.Dec.{eqb, ltb}
 use lib.ListN.{length, getD, drop, drop-of-length-le}
 use lib.Seq.{drop-cons}
 use borrow.Author.Tests.{eqb-true, eq-eqb, ne-eqb, lt-ltb, le-ltb}
-use Rattle.model.specs.Lists.{_∈_, concat, filter, nodes}
+use Rattle.model.specs.Lists.{_∈_, concat, nodes}
 use Rattle.model.specs.Graph.{Graph}
 use Rattle.model.specs.Grouping.{Kind, adjacent, algorithm1, clique, group, independent, isClique, kindOf, leaders, least, similar, singleton}
 use Rattle.model.specs.Tables.{edgeBit}
@@ -25,15 +25,12 @@ use Rattle.model.specs.TableLaws.{map-cong}
 use Rattle.model.specs.ReleaseLaws.{length-concat-groups, length-superedge-records, visible-ascending, visible-simple}
 use Rattle.model.specs.UpdateLaws.{apart}
 use Rattle.model.specs.ReadBackLaws.{visible-inside}
+use Rattle.rows.specs.Rows.{leads}
 use Rattle.buffers.specs.Scan.{flat, scan}
-use Rattle.buffers.specs.ScanLaws.{filter-and, flat-end, flat-step, getD-ascending, getD-in, scan-end, scan-no, scan-skip, scan-yes, upward}
-use Rattle.layout.specs.File.{Partition, belongs, fileGroups, fileLength, fileNodes, fileOf, fileSuperedges, firstTwo, groupBytes, groupsBytes, inGroup, later, leadersOf, leads, meets, membersOf, superedgeBytes, superedgesTo, u16Bytes, visibleOf, writtenFile}
+use Rattle.buffers.specs.ScanLaws.{filter-and, flat-end, flat-step, getD-ascending, getD-in, scan-end, scan-no, scan-nodes, scan-skip, scan-yes, upward}
+use Rattle.layout.specs.File.{Partition, belongs, fileGroups, fileLength, fileNodes, fileOf, fileSuperedges, firstTwo, groupBytes, groupsBytes, inGroup, later, leadersOf, membersOf, superedgeBetween, superedgeBytes, superedgesTo, u16Bytes, visibleOf, writtenFile}
 use Rattle.layout.specs.WholeLaws.{groups-list, length-file, length-superedges}
 use Rattle.layout.specs.Truth.{Truth}
-
-scan-nodes : (P : ℕ → Bool) (n : ℕ) → scan P n 0 ≡ filter P (nodes n)
-unfolding scan nodes
-scan-nodes P n = let z : n - 0 ≡ n = omega arith in rw z
 
 kind-byte : (k : Kind) → kindByte k ≡ cond (isClique k) 0x43 0x49
 unfolding kindByte isClique
@@ -49,7 +46,7 @@ records-append (x ∷ xs) b =
     ap (λ (s : List ℕ). superedgeRecord x ++ s) (records-append xs b)
     ∙ sym (append-assoc (superedgeRecord x) (concat (map superedgeRecord xs)) (concat (map superedgeRecord b)))
 
-module _ (e d : ℕ → ℕ → Bool) (G : ℕ → List ℕ) (ls : List ℕ) (law : (i j : ℕ) → i < j → j < length ls → adjacent e (G (getD ls i 0)) (G (getD ls j 0)) ≡ meets d ls i j) where
+module _ (e d : ℕ → ℕ → Bool) (G : ℕ → List ℕ) (ls : List ℕ) (law : (i j : ℕ) → i < j → j < length ls → adjacent e (G (getD ls i 0)) (G (getD ls j 0)) ≡ superedgeBetween d ls i j) where
   -- the records of the i-th group's superedges to those from the j-th on, and of all from the i-th on
   abbrev recordsFrom : ℕ → ℕ → List ℕ
   recordsFrom i j = concat (map superedgeRecord (superedgesFrom e i (G (getD ls i 0)) j (map G (drop j ls))))
@@ -57,32 +54,32 @@ module _ (e d : ℕ → ℕ → Bool) (G : ℕ → List ℕ) (ls : List ℕ) (la
   abbrev recordsOn : ℕ → List ℕ
   recordsOn i = concat (map superedgeRecord (superedges e i (map G (drop i ls))))
 
-  from-is : (i j : ℕ) → i < j → recordsFrom i j ≡ superedgesTo i (scan (meets d ls i) (length ls) j)
+  from-is : (i j : ℕ) → i < j → recordsFrom i j ≡ superedgesTo i (scan (superedgeBetween d ls i) (length ls) j)
   unfolding superedgesFrom superedgesTo concat
   from-is i =
-      upward (λ j. i < j → recordsFrom i j ≡ superedgesTo i (scan (meets d ls i) (length ls) j)) (length ls)
-      (λ j h k. rw (drop-of-length-le ls h, scan-end (meets d ls i) (length ls) j h))
-      (λ j h below k. rw (drop-cons ls j 0 h, law i j k h) (step j h (below (omega arith)) (decide (meets d ls i j))))
+      upward (λ j. i < j → recordsFrom i j ≡ superedgesTo i (scan (superedgeBetween d ls i) (length ls) j)) (length ls)
+      (λ j h k. rw (drop-of-length-le ls h, scan-end (superedgeBetween d ls i) (length ls) j h))
+      (λ j h below k. rw (drop-cons ls j 0 h, law i j k h) (step j h (below (omega arith)) (decide (superedgeBetween d ls i j))))
     where
-      step : (j : ℕ) → j < length ls → recordsFrom i (j + 1) ≡ superedgesTo i (scan (meets d ls i) (length ls) (j + 1)) → (meets d ls i j ≡ true) ⊎ (meets d ls i j ≡ false)
-          → concat (map superedgeRecord (cond (meets d ls i j) ((i, j) ∷ superedgesFrom e i (G (getD ls i 0)) (suc j) (map G (drop (suc j) ls))) (superedgesFrom e i (G (getD ls i 0)) (suc j) (map G (drop (suc j) ls))))) ≡ superedgesTo i (scan (meets d ls i) (length ls) j)
-      step j h below (inl b) = rw (b, scan-yes (meets d ls i) (length ls) j h b) (ap (λ (x : List ℕ). superedgeRecord (i, j) ++ x) (ap (recordsFrom i) (sym (add-one j)) ∙ below))
-      step j h below (inr b) = rw (b, scan-no (meets d ls i) (length ls) j h b) (ap (recordsFrom i) (sym (add-one j)) ∙ below)
+      step : (j : ℕ) → j < length ls → recordsFrom i (j + 1) ≡ superedgesTo i (scan (superedgeBetween d ls i) (length ls) (j + 1)) → (superedgeBetween d ls i j ≡ true) ⊎ (superedgeBetween d ls i j ≡ false)
+          → concat (map superedgeRecord (cond (superedgeBetween d ls i j) ((i, j) ∷ superedgesFrom e i (G (getD ls i 0)) (suc j) (map G (drop (suc j) ls))) (superedgesFrom e i (G (getD ls i 0)) (suc j) (map G (drop (suc j) ls))))) ≡ superedgesTo i (scan (superedgeBetween d ls i) (length ls) j)
+      step j h below (inl b) = rw (b, scan-yes (superedgeBetween d ls i) (length ls) j h b) (ap (λ (x : List ℕ). superedgeRecord (i, j) ++ x) (ap (recordsFrom i) (sym (add-one j)) ∙ below))
+      step j h below (inr b) = rw (b, scan-no (superedgeBetween d ls i) (length ls) j h b) (ap (recordsFrom i) (sym (add-one j)) ∙ below)
 
   on-is : (i : ℕ) → recordsOn i ≡ flat (λ i. superedgesTo i (later d ls i)) (length ls) i
   unfolding superedges later concat
   on-is =
-      upward (λ i. recordsOn i ≡ flat (λ i. superedgesTo i (scan (meets d ls i) (length ls) (i + 1))) (length ls) i) (length ls)
-      (λ i h. rw (drop-of-length-le ls h, flat-end (λ i. superedgesTo i (scan (meets d ls i) (length ls) (i + 1))) (length ls) i h))
+      upward (λ i. recordsOn i ≡ flat (λ i. superedgesTo i (scan (superedgeBetween d ls i) (length ls) (i + 1))) (length ls) i) (length ls)
+      (λ i h. rw (drop-of-length-le ls h, flat-end (λ i. superedgesTo i (scan (superedgeBetween d ls i) (length ls) (i + 1))) (length ls) i h))
       step
     where
-      step : (i : ℕ) → i < length ls → recordsOn (i + 1) ≡ flat (λ i. superedgesTo i (scan (meets d ls i) (length ls) (i + 1))) (length ls) (i + 1) → recordsOn i ≡ flat (λ i. superedgesTo i (scan (meets d ls i) (length ls) (i + 1))) (length ls) i
+      step : (i : ℕ) → i < length ls → recordsOn (i + 1) ≡ flat (λ i. superedgesTo i (scan (superedgeBetween d ls i) (length ls) (i + 1))) (length ls) (i + 1) → recordsOn i ≡ flat (λ i. superedgesTo i (scan (superedgeBetween d ls i) (length ls) (i + 1))) (length ls) i
       step i h below =
           rw (drop-cons ls i 0 h)
           (ap (λ (x : ℕ). concat (map superedgeRecord (superedgesFrom e i (G (getD ls i 0)) x (map G (drop x ls)) ++ superedges e x (map G (drop x ls))))) (sym (add-one i))
           ∙ records-append (superedgesFrom e i (G (getD ls i 0)) (i + 1) (map G (drop (i + 1) ls))) (superedges e (i + 1) (map G (drop (i + 1) ls)))
           ∙ ap₂ (λ (x y : List ℕ). x ++ y) (from-is i (i + 1) (omega arith)) below
-          ∙ sym (flat-step (λ i. superedgesTo i (scan (meets d ls i) (length ls) (i + 1))) (length ls) i h))
+          ∙ sym (flat-step (λ i. superedgesTo i (scan (superedgeBetween d ls i) (length ls) (i + 1))) (length ls) i h))
 
   superedges-are : superedgeBytes d ls ≡ concat (map superedgeRecord (superedges e 0 (map G ls)))
   unfolding superedgeBytes
@@ -228,8 +225,8 @@ module _ (g : Graph) (lst edges : List ℕ) (t : Truth g lst edges) where
   groups-are = groups-list (edgeBit edges) (membersOf n lst) (leadersOf n lst) ∙ ap (λ (gs : List (List ℕ)). concat (map (groupBytes (edgeBit edges)) gs)) groups-is ∙ records-are
 
   -- leaders with an edge have adjacent groups
-  meets-law : (i j : ℕ) → i < j → j < length (leaders vs r) → adjacent (visible g .edge) (group vs r (getD (leaders vs r) i 0)) (group vs r (getD (leaders vs r) j 0)) ≡ meets (edgeBit edges) (leaders vs r) i j
-  unfolding meets
+  meets-law : (i j : ℕ) → i < j → j < length (leaders vs r) → adjacent (visible g .edge) (group vs r (getD (leaders vs r) i 0)) (group vs r (getD (leaders vs r) j 0)) ≡ superedgeBetween (edgeBit edges) (leaders vs r) i j
+  unfolding superedgeBetween
   meets-law i j h k =
       let p = getD (leaders vs r) i 0 in
       let q = getD (leaders vs r) j 0 in

@@ -13,11 +13,12 @@ use Rattle.model.specs.Tables.{edgeBit}
 use Rattle.model.specs.Release.{endRecord, headRecord, superedgeRecord, u16}
 use Rattle.model.specs.Calls.{onto, releaseRefused}
 use Rattle.model.specs.TestLaws.{decide}
+use Rattle.rows.specs.Rows.{leads}
 use Rattle.buffers.specs.Wrote.{Wrote}
 use Rattle.buffers.specs.WroteLaws.{sets-onto, wrote-length, wrote-then}
 use Rattle.buffers.specs.Scan.{flat, scan}
 use Rattle.buffers.specs.ScanLaws.{flat-end, flat-step, scan-below, scan-end, scan-length, scan-no, scan-yes, upward}
-use Rattle.layout.specs.File.{Linked, Partition, Rows, belongs, chain, fileGroups, fileLength, fileNodes, fileOf, fileSuperedges, groupBytes, groupsBytes, inGroup, later, leadersOf, leads, membersOf, superedgeBytes, superedgeTotal, superedgesTo, visibleOf, writtenFile}
+use Rattle.layout.specs.File.{NextLinked, Partition, Rows, belongs, chain, fileGroups, fileLength, fileNodes, fileOf, fileSuperedges, groupBytes, groupsBytes, inGroup, later, leadersOf, membersOf, superedgeBytes, superedgeTotal, superedgesTo, visibleOf, writtenFile}
 use Rattle.layout.specs.FileLaws.{length-group, length-superedge}
 use Rattle.layout.specs.LinkLaws.{chain-scan}
 
@@ -53,7 +54,7 @@ scan-passes P n = upward (λ p. (i : ℕ) → i < length (scan P n p) → P (get
     step p h below (inr t) = rw (scan-no P n p h t) below
 
 -- the table of next members gives the groups
-pub groups-linked : (e : ℕ → ℕ → Bool) (n : ℕ) (least next : List ℕ) → n ≤ 512 → Linked n least next → groupsBytes e (chain n next n) (leadersOf n least) ≡ groupsBytes e (membersOf n least) (leadersOf n least)
+pub groups-linked : (e : ℕ → ℕ → Bool) (n : ℕ) (least next : List ℕ) → n ≤ 512 → NextLinked n least next → groupsBytes e (chain n next n) (leadersOf n least) ≡ groupsBytes e (membersOf n least) (leadersOf n least)
 unfolding groupsBytes leadersOf membersOf leads belongs
 groups-linked e n least next small k = flat-cong _ _ (length (scan (leads least) n 0)) (λ i h. ap (groupBytes e) (chain-scan n least next small k _ (scan-below (leads least) n 0 i h) n _ (omega arith) (scan-below (leads least) n 0 i h) (scan-passes (leads least) n 0 i h))) 0
 
@@ -130,11 +131,11 @@ file-parts n least edges =
 pub room-head : (n : ℕ) (least edges : List ℕ) {k : ℕ} → length (fileOf n least edges) ≤ k → 0 + 8 ≤ k
 room-head n least edges h = omega (arith, file-parts n least edges)
 
-pub groups-same : (n : ℕ) (least edges next ls : List ℕ) → Partition n least edges → Linked n least next → ls ≡ leadersOf n least
+pub groups-same : (n : ℕ) (least edges next ls : List ℕ) → Partition n least edges → NextLinked n least next → ls ≡ leadersOf n least
     → groupsBytes (edgeBit edges) (chain n next n) ls ≡ groupsBytes (edgeBit edges) (membersOf n least) (leadersOf n least)
 groups-same n least edges next ls g k q = ap (groupsBytes (edgeBit edges) (chain n next n)) q ∙ groups-linked (edgeBit edges) n least next (g .small) k
 
-module _ (n : ℕ) (least edges next ls : List ℕ) (g : Partition n least edges) (k : Linked n least next) (q : ls ≡ leadersOf n least) (s : List ℕ) (room : length (fileOf n least edges) ≤ length s) where
+module _ (n : ℕ) (least edges next ls : List ℕ) (g : Partition n least edges) (k : NextLinked n least next) (q : ls ≡ leadersOf n least) (s : List ℕ) (room : length (fileOf n least edges) ≤ length s) where
   module _ (m c : ℕ) {s₁ : List ℕ} {a : ℕ} (h : Wrote s 0 (headRecord n m c) s₁ a) where
     pub room-groups : a + length (groupsBytes (edgeBit edges) (chain n next n) ls) ≤ length s₁
     room-groups = omega (arith, file-parts n least edges, h .place, wrote-length h, length-head n m c, ap length (groups-same n least edges next ls g k q))

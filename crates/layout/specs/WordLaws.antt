@@ -3,12 +3,12 @@ use mathlib.Core.Path.{_≡_, refl, sym, ap, _∙_}
 use mathlib.Core.Bool.{Bool, true, false, not, _&&_, cond, and-false}
 use mathlib.Core.List.{List, [], _∷_, _++_, map, append-assoc}
 use mathlib.Core.Logic.{_⊎_, inl, inr}
-use Prim.Native.Nat.{ℕ, suc, zero, _+_, _*_, _-_, _/_, _%_, _^_, _≤_, _<_, min}
+use Prim.Native.Nat.{ℕ, suc, zero, _+_, _*_, _-_, _/_, _%_, _^_, _≤_, _<_}
 use native.Mathlib.Nat.{mul-assoc, pow-suc, zero-div, div-eq-of-lt, div-mul-le-self, mod-eq-of-lt}
 use native.Mathlib.Omega.{arith}
 use native.Mathlib.Numerals.{add-one}
 use lib.Dec.{eqb, ltb}
-use lib.Bits.{bitAnd, and-step, and-shr, and-self, and-le-l, and-le-r}
+use lib.Bits.{bitAnd, and-step, and-self, and-le-l, and-le-r}
 use lib.Pow.{pow-add, shr-shr, shl-shr}
 use lib.Count.{ones, onesIn, ones-step, trailingZeros}
 use lib.ListN.{length, getD, set, drop, length-append, length-map, length-set, drop-of-length-le, replicate}
@@ -19,14 +19,16 @@ use Rattle.model.specs.Tables.{bitAt, edgeBit}
 use Rattle.model.specs.Release.{superedgeRecord}
 use Rattle.model.specs.Program.{before}
 use Rattle.model.specs.TestLaws.{decide, iff-eq}
+use Rattle.rows.specs.BitLaws.{bit-and}
+use Rattle.rows.specs.Rows.{leads}
 use Rattle.buffers.specs.Wrote.{Left, Wrote}
 use Rattle.buffers.specs.WroteLaws.{left-room, left-step}
 use Rattle.buffers.specs.Scan.{Counting, scan}
 use Rattle.buffers.specs.ScanLaws.{filter-and, scan-ascends, scan-cong, scan-cut, scan-end, scan-no, scan-skip, scan-yes, upward}
-use Rattle.layout.specs.File.{Partition, Rows, later, leadersOf, leads, meets, superedgesTo}
+use Rattle.layout.specs.File.{Partition, Rows, later, leadersOf, superedgeBetween, superedgesTo}
 use Rattle.layout.specs.FileLaws.{length-superedge}
 use Rattle.layout.specs.WholeLaws.{rows-of}
-use Rattle.layout.specs.Words.{Leading, Marked, Marking, Placed, Rowed, bitsOf, laterRecords, laterWord, marked, positionsOf}
+use Rattle.layout.specs.Words.{AscendingLeaders, LeaderPlaces, LeaderSet, Marking, Rowed, bitsOf, laterRecords, laterWord, markedEdge, positionsOf}
 
 -- bits of a word without its low bits
 bit-above : (x t k : ℕ) → t ≤ k → bitAt (x / 2 ^ t * 2 ^ t) k ≡ bitAt x k
@@ -58,7 +60,7 @@ unfolding bitAt
 bit-suc x k = rw (half-shr x k)
 
 -- z is the place of the lowest bit of x, and x & (x - 1) is x without it
-pub record Lowest (x z : ℕ) : Type 0 where
+pub record LowestBit (x z : ℕ) : Type 0 where
   pub under : (j : ℕ) → j < z → bitAt x j ≡ false
   pub here : bitAt x z ≡ true
   pub rest : bitAnd x (x - 1) ≡ x / 2 ^ suc z * 2 ^ suc z
@@ -71,7 +73,7 @@ zeros-even : (k x : ℕ) → x % 2 ≡ 0 → trailingZeros (suc k) x ≡ suc (tr
 unfolding trailingZeros
 zeros-even k x e = rw e
 
-lowest-odd : (x : ℕ) → x % 2 ≡ 1 → Lowest x 0
+lowest-odd : (x : ℕ) → x % 2 ≡ 1 → LowestBit x 0
 lowest-odd x e = record { under = λ j h. absurd (omega arith); here = bit-zero x ∙ eq-eqb (x % 2) 1 e; rest = rest }
   where
     rest : bitAnd x (x - 1) ≡ x / 2 ^ 1 * 2 ^ 1
@@ -80,7 +82,7 @@ lowest-odd x e = record { under = λ j h. absurd (omega arith); here = bit-zero 
         let b : (x - 1) % 2 ≡ 0 = omega arith in
         and-step x (x - 1) ∙ rw (a, b, e, and-self (x / 2)) (omega arith)
 
-lowest-even : (x z : ℕ) → 0 < x → x % 2 ≡ 0 → Lowest (x / 2) z → Lowest x (suc z)
+lowest-even : (x z : ℕ) → 0 < x → x % 2 ≡ 0 → LowestBit (x / 2) z → LowestBit x (suc z)
 lowest-even x z pos e l = record { under = under; here = bit-suc x z ∙ l .here; rest = rest }
   where
     under : (j : ℕ) → j < suc z → bitAt x j ≡ false
@@ -92,11 +94,11 @@ lowest-even x z pos e l = record { under = under; here = bit-suc x z ∙ l .here
         let a : (x - 1) / 2 ≡ x / 2 - 1 = omega arith in
         and-step x (x - 1) ∙ rw (a, e, l .rest, half-shr x (suc z), pow-suc 2 (suc z)) (omega (arith, mul-assoc (x / 2 ^ suc (suc z)) (2 ^ suc z) 2))
 
-pub lowest : (k x : ℕ) → 0 < x → x < 2 ^ k → (trailingZeros k x < k) × Lowest x (trailingZeros k x)
+pub lowest : (k x : ℕ) → 0 < x → x < 2 ^ k → (trailingZeros k x < k) × LowestBit x (trailingZeros k x)
 lowest zero x pos h = absurd (omega arith)
 lowest (suc k) x pos h = step (x % 2) refl (omega arith) (lowest k (x / 2))
   where
-    step : (d : ℕ) → x % 2 ≡ d → d < 2 → (0 < x / 2 → x / 2 < 2 ^ k → (trailingZeros k (x / 2) < k) × Lowest (x / 2) (trailingZeros k (x / 2))) → (trailingZeros (suc k) x < suc k) × Lowest x (trailingZeros (suc k) x)
+    step : (d : ℕ) → x % 2 ≡ d → d < 2 → (0 < x / 2 → x / 2 < 2 ^ k → (trailingZeros k (x / 2) < k) × LowestBit (x / 2) (trailingZeros k (x / 2))) → (trailingZeros (suc k) x < suc k) × LowestBit x (trailingZeros (suc k) x)
     step zero e l below =
         let b = below (omega arith) (omega (arith, pow-suc 2 k)) in
         rw (zeros-even k x e) (omega (arith, b .0), lowest-even x (trailingZeros k (x / 2)) pos e (b .1))
@@ -116,7 +118,7 @@ unfolding bitsOf
 bits-lowest x z pos h e =
     let l = lowest 64 x pos h in
     let hz : z < 64 = omega (arith, l .0) in
-    let low : Lowest x z = rw e (l .1) in
+    let low : LowestBit x z = rw e (l .1) in
     let z1 : z + 1 ≡ suc z = omega arith in
     scan-skip (bitAt x) 64 z (omega arith) 0 (λ q a b. low .under q b) (omega arith)
     ∙ scan-yes (bitAt x) 64 z hz (low .here)
@@ -145,26 +147,10 @@ bits-ones x h = let e : x / 2 ^ 0 ≡ x = omega arith in rw e at (go 0 (omega ar
             one t a below (inl y) = omega (arith, ones-step (x / 2 ^ t), ap ones (shr-shr x t 1), eqb-true (x / 2 ^ t % 2) 1 y, ap length (scan-yes (bitAt x) 64 t a y))
             one t a below (inr y) = let z : x / 2 ^ t % 2 ≡ 1 → ⊥ = eqb-false (x / 2 ^ t % 2) 1 y in omega (arith, ones-step (x / 2 ^ t), ap ones (shr-shr x t 1), ap length (scan-no (bitAt x) 64 t a y))
 
--- bits of two words together
-and-bits : (x y : ℕ) → x < 2 → y < 2 → eqb (min x y) 1 ≡ (eqb x 1 && eqb y 1)
-and-bits zero zero hx hy = refl
-and-bits zero (suc zero) hx hy = refl
-and-bits (suc zero) zero hx hy = refl
-and-bits (suc zero) (suc zero) hx hy = refl
-and-bits zero (suc (suc y)) hx hy = absurd (omega arith)
-and-bits (suc zero) (suc (suc y)) hx hy = absurd (omega arith)
-and-bits (suc (suc x)) y hx hy = absurd (omega arith)
-
-pub bit-and : (a b k : ℕ) → bitAt (bitAnd a b) k ≡ (bitAt a k && bitAt b k)
-unfolding bitAt
-bit-and a b k =
-    let e : bitAnd (a / 2 ^ k) (b / 2 ^ k) % 2 ≡ min (a / 2 ^ k % 2) (b / 2 ^ k % 2) = omega (arith, and-step (a / 2 ^ k) (b / 2 ^ k)) in
-    rw (and-shr a b k, e) (and-bits (a / 2 ^ k % 2) (b / 2 ^ k % 2) (omega arith) (omega arith))
-
 -- the marked nodes from q on: those of q's word, then those from the next word on
 module _ (edges set : List ℕ) (p q w : ℕ) (at : w ≡ q / 64) where
-  word-bit : (k : ℕ) → q % 64 ≤ k → k < 64 → bitAt (laterWord edges set p q) k ≡ marked edges set p (64 * w + k)
-  unfolding laterWord marked edgeBit
+  word-bit : (k : ℕ) → q % 64 ≤ k → k < 64 → bitAt (laterWord edges set p q) k ≡ markedEdge edges set p (64 * w + k)
+  unfolding laterWord markedEdge edgeBit
   word-bit k a b =
       let e : (64 * w + k) / 64 ≡ q / 64 = omega arith in
       let f : (64 * w + k) % 64 ≡ k = omega arith in
@@ -176,31 +162,31 @@ module _ (edges set : List ℕ) (p q w : ℕ) (at : w ≡ q / 64) where
   word-before k a = bit-below (bitAnd (getD set (q / 64) 0) (getD edges (8 * p + q / 64) 0) / 2 ^ (q % 64)) (q % 64) k a
 
   module _ (inside : q < 512) where
-    word-from : (k : ℕ) → q % 64 ≤ k → k ≤ 64 → scan (marked edges set p) 512 (64 * w + k) ≡ map (λ k. 64 * w + k) (scan (bitAt (laterWord edges set p q)) 64 k) ++ scan (marked edges set p) 512 (64 * w + 64)
-    word-from = upward (λ k. q % 64 ≤ k → k ≤ 64 → scan (marked edges set p) 512 (64 * w + k) ≡ map (λ k. 64 * w + k) (scan (bitAt (laterWord edges set p q)) 64 k) ++ scan (marked edges set p) 512 (64 * w + 64)) 64 top (λ k h below a b. step k h a (below (omega arith) (omega arith)) (decide (bitAt (laterWord edges set p q) k)))
+    word-from : (k : ℕ) → q % 64 ≤ k → k ≤ 64 → scan (markedEdge edges set p) 512 (64 * w + k) ≡ map (λ k. 64 * w + k) (scan (bitAt (laterWord edges set p q)) 64 k) ++ scan (markedEdge edges set p) 512 (64 * w + 64)
+    word-from = upward (λ k. q % 64 ≤ k → k ≤ 64 → scan (markedEdge edges set p) 512 (64 * w + k) ≡ map (λ k. 64 * w + k) (scan (bitAt (laterWord edges set p q)) 64 k) ++ scan (markedEdge edges set p) 512 (64 * w + 64)) 64 top (λ k h below a b. step k h a (below (omega arith) (omega arith)) (decide (bitAt (laterWord edges set p q) k)))
       where
-        top : (k : ℕ) → 64 ≤ k → q % 64 ≤ k → k ≤ 64 → scan (marked edges set p) 512 (64 * w + k) ≡ map (λ k. 64 * w + k) (scan (bitAt (laterWord edges set p q)) 64 k) ++ scan (marked edges set p) 512 (64 * w + 64)
+        top : (k : ℕ) → 64 ≤ k → q % 64 ≤ k → k ≤ 64 → scan (markedEdge edges set p) 512 (64 * w + k) ≡ map (λ k. 64 * w + k) (scan (bitAt (laterWord edges set p q)) 64 k) ++ scan (markedEdge edges set p) 512 (64 * w + 64)
         top k h a b =
             let e : k ≡ 64 = omega arith in
             rw (e, scan-end (bitAt (laterWord edges set p q)) 64 64 (omega arith))
 
-        step : (k : ℕ) → k < 64 → q % 64 ≤ k → scan (marked edges set p) 512 (64 * w + (k + 1)) ≡ map (λ k. 64 * w + k) (scan (bitAt (laterWord edges set p q)) 64 (k + 1)) ++ scan (marked edges set p) 512 (64 * w + 64)
-            → (bitAt (laterWord edges set p q) k ≡ true) ⊎ (bitAt (laterWord edges set p q) k ≡ false) → scan (marked edges set p) 512 (64 * w + k) ≡ map (λ k. 64 * w + k) (scan (bitAt (laterWord edges set p q)) 64 k) ++ scan (marked edges set p) 512 (64 * w + 64)
+        step : (k : ℕ) → k < 64 → q % 64 ≤ k → scan (markedEdge edges set p) 512 (64 * w + (k + 1)) ≡ map (λ k. 64 * w + k) (scan (bitAt (laterWord edges set p q)) 64 (k + 1)) ++ scan (markedEdge edges set p) 512 (64 * w + 64)
+            → (bitAt (laterWord edges set p q) k ≡ true) ⊎ (bitAt (laterWord edges set p q) k ≡ false) → scan (markedEdge edges set p) 512 (64 * w + k) ≡ map (λ k. 64 * w + k) (scan (bitAt (laterWord edges set p q)) 64 k) ++ scan (markedEdge edges set p) 512 (64 * w + 64)
         step k h a below (inl y) =
             let e : 64 * w + k + 1 ≡ 64 * w + (k + 1) = omega arith in
-            scan-yes (marked edges set p) 512 (64 * w + k) (omega arith) (sym (word-bit k a h) ∙ y)
+            scan-yes (markedEdge edges set p) 512 (64 * w + k) (omega arith) (sym (word-bit k a h) ∙ y)
             ∙ rw (e, scan-yes (bitAt (laterWord edges set p q)) 64 k h y) (ap (λ (r : List ℕ). (64 * w + k) ∷ r) below)
         step k h a below (inr y) =
             let e : 64 * w + k + 1 ≡ 64 * w + (k + 1) = omega arith in
-            scan-no (marked edges set p) 512 (64 * w + k) (omega arith) (sym (word-bit k a h) ∙ y)
+            scan-no (markedEdge edges set p) 512 (64 * w + k) (omega arith) (sym (word-bit k a h) ∙ y)
             ∙ rw (e, scan-no (bitAt (laterWord edges set p q)) 64 k h y) below
 
-    pub word-split : scan (marked edges set p) 512 q ≡ map (λ k. 64 * w + k) (bitsOf (laterWord edges set p q)) ++ scan (marked edges set p) 512 (64 * w + 64)
+    pub word-split : scan (markedEdge edges set p) 512 q ≡ map (λ k. 64 * w + k) (bitsOf (laterWord edges set p q)) ++ scan (markedEdge edges set p) 512 (64 * w + 64)
     unfolding bitsOf
     word-split =
         let e : q ≡ 64 * w + q % 64 = omega arith in
-        ap (scan (marked edges set p) 512) e ∙ word-from (q % 64) (omega arith) (omega arith)
-        ∙ ap (λ (l : List ℕ). map (λ k. 64 * w + k) l ++ scan (marked edges set p) 512 (64 * w + 64)) (sym (scan-skip (bitAt (laterWord edges set p q)) 64 (q % 64) (omega arith) 0 (λ k a b. word-before k b) (omega arith)))
+        ap (scan (markedEdge edges set p) 512) e ∙ word-from (q % 64) (omega arith) (omega arith)
+        ∙ ap (λ (l : List ℕ). map (λ k. 64 * w + k) l ++ scan (markedEdge edges set p) 512 (64 * w + 64)) (sym (scan-skip (bitAt (laterWord edges set p q)) 64 (q % 64) (omega arith) 0 (λ k a b. word-before k b) (omega arith)))
 
 -- as the code finds it
 pub later-word-is : (edges set : List ℕ) (p q t w j : ℕ) → t ≡ q % 64 → w ≡ q / 64 → j ≡ 8 * p + q / 64 → getD edges j 0 < 2 ^ 64 → bitAnd (getD set w 0) (getD edges j 0) / 2 ^ t * 2 ^ t % 2 ^ 64 ≡ laterWord edges set p q
@@ -253,9 +239,9 @@ scan-total F ls = upward (λ j. length (scan (λ j. F (getD ls j 0)) (length ls)
     step j l below (inl y) = ap length (scan-yes (λ j. F (getD ls j 0)) (length ls) j l y) ∙ ap suc (below ∙ ap (λ (x : ℕ). length (filter F (drop x ls))) (add-one j)) ∙ sym (rw (drop-cons ls j 0 l, y))
     step j l below (inr y) = ap length (scan-no (λ j. F (getD ls j 0)) (length ls) j l y) ∙ below ∙ ap (λ (x : ℕ). length (filter F (drop x ls))) (add-one j) ∙ sym (rw (drop-cons ls j 0 l, y))
 
-module _ (edges ls set : List ℕ) (m : Marked ls set) (i p : ℕ) (inside : i < length ls) (at : p ≡ getD ls i 0) where
-  later-nodes : filter (edgeBit edges p) (drop (i + 1) ls) ≡ scan (marked edges set p) 512 (p + 1)
-  unfolding marked
+module _ (edges ls set : List ℕ) (m : LeaderSet ls set) (i p : ℕ) (inside : i < length ls) (at : p ≡ getD ls i 0) where
+  later-nodes : filter (edgeBit edges p) (drop (i + 1) ls) ≡ scan (markedEdge edges set p) 512 (p + 1)
+  unfolding markedEdge
   later-nodes =
       let e : drop (suc i) ls ≡ scan (edgeBit set 0) 512 (p + 1) = rw at (ends ls (m .list) inside) in
       rw (add-one i, e) (scan-filter (edgeBit edges p) (edgeBit set 0) 512 (p + 1))
@@ -263,20 +249,20 @@ module _ (edges ls set : List ℕ) (m : Marked ls set) (i p : ℕ) (inside : i <
       ends : (l : List ℕ) → l ≡ scan (edgeBit set 0) 512 0 → i < length l → drop (suc i) l ≡ scan (edgeBit set 0) 512 (getD l i 0 + 1)
       ends l e h = rw e (scan-drop (edgeBit set 0) 512 0 i (rw e at h))
 
-  pub later-is : (position : List ℕ) → Placed ls position → later (edgeBit edges) ls i ≡ map (λ q. getD position q 0) (scan (marked edges set p) 512 (p + 1))
-  unfolding later meets
+  pub later-is : (position : List ℕ) → LeaderPlaces ls position → later (edgeBit edges) ls i ≡ map (λ q. getD position q 0) (scan (markedEdge edges set p) 512 (p + 1))
+  unfolding later superedgeBetween
   later-is position d = ap (λ (x : ℕ). scan (λ j. edgeBit edges x (getD ls j 0)) (length ls) (i + 1)) (sym at) ∙ scan-positions (edgeBit edges p) ls position (d .place) (i + 1) ∙ ap (map (λ q. getD position q 0)) later-nodes
 
-  pub later-total : length (later (edgeBit edges) ls i) ≡ length (scan (marked edges set p) 512 (p + 1))
-  unfolding later meets
+  pub later-total : length (later (edgeBit edges) ls i) ≡ length (scan (markedEdge edges set p) 512 (p + 1))
+  unfolding later superedgeBetween
   later-total = ap (λ (x : ℕ). length (scan (λ j. edgeBit edges x (getD ls j 0)) (length ls) (i + 1))) (sym at) ∙ scan-total (edgeBit edges p) ls (i + 1) ∙ ap length later-nodes
 
-  pub records-start : (position : List ℕ) → Placed ls position → superedgesTo i (later (edgeBit edges) ls i) ≡ laterRecords edges set position i p (p + 1)
+  pub records-start : (position : List ℕ) → LeaderPlaces ls position → superedgesTo i (later (edgeBit edges) ls i) ≡ laterRecords edges set position i p (p + 1)
   unfolding laterRecords
   records-start position d = ap (superedgesTo i) (later-is position d)
 
 -- counting them
-pub counting-word : (edges set : List ℕ) (p q w : ℕ) {total c x : ℕ} → Counting (marked edges set p) 512 total c q → ((i : ℕ) → getD set i 0 < 2 ^ 64) → w ≡ q / 64 → q < 512 → x ≡ laterWord edges set p q → Counting (marked edges set p) 512 total (c + ones x) (64 * w + 64)
+pub counting-word : (edges set : List ℕ) (p q w : ℕ) {total c x : ℕ} → Counting (markedEdge edges set p) 512 total c q → ((i : ℕ) → getD set i 0 < 2 ^ 64) → w ≡ q / 64 → q < 512 → x ≡ laterWord edges set p q → Counting (markedEdge edges set p) 512 total (c + ones x) (64 * w + 64)
 counting-word edges set p q w {total} {c} {x} k h e l is = record {
   sum = omega (
     arith,
@@ -284,7 +270,7 @@ counting-word edges set p q w {total} {c} {x} k h e l is = record {
     ap ones is,
     bits-ones (laterWord edges set p q) (later-word-lt edges set p q h),
     ap length (word-split edges set p q w e l),
-    length-append (map (λ k. 64 * w + k) (bitsOf (laterWord edges set p q))) (scan (marked edges set p) 512 (64 * w + 64)),
+    length-append (map (λ k. 64 * w + k) (bitsOf (laterWord edges set p q))) (scan (markedEdge edges set p) 512 (64 * w + 64)),
     length-map (bitsOf (laterWord edges set p q)) (λ k. 64 * w + k),
   );
 }
@@ -308,16 +294,16 @@ map-twice f g (x ∷ xs) = ap (λ (l : List ℕ). f (g x) ∷ l) (map-twice f g 
 module _ (edges set position : List ℕ) (i p q : ℕ) where
   pub records-end : 512 ≤ q → laterRecords edges set position i p q ≡ []
   unfolding laterRecords superedgesTo concat
-  records-end h = rw (scan-end (marked edges set p) 512 q h)
+  records-end h = rw (scan-end (markedEdge edges set p) 512 q h)
 
   module _ (w : ℕ) (at : w ≡ q / 64) (inside : q < 512) where
     records-word : laterRecords edges set position i p q ≡ superedgesTo i (positionsOf position (64 * w) (laterWord edges set p q)) ++ laterRecords edges set position i p (64 * w + 64)
     unfolding laterRecords positionsOf
     records-word =
         ap (λ (l : List ℕ). superedgesTo i (map (λ x. getD position x 0) l)) (word-split edges set p q w at inside)
-        ∙ ap (superedgesTo i) (map-split (λ x. getD position x 0) (map (λ k. 64 * w + k) (bitsOf (laterWord edges set p q))) (scan (marked edges set p) 512 (64 * w + 64)))
-        ∙ to-append i (map (λ x. getD position x 0) (map (λ k. 64 * w + k) (bitsOf (laterWord edges set p q)))) (map (λ x. getD position x 0) (scan (marked edges set p) 512 (64 * w + 64)))
-        ∙ ap (λ (l : List ℕ). superedgesTo i l ++ superedgesTo i (map (λ x. getD position x 0) (scan (marked edges set p) 512 (64 * w + 64)))) (map-twice (λ x. getD position x 0) (λ k. 64 * w + k) (bitsOf (laterWord edges set p q)))
+        ∙ ap (superedgesTo i) (map-split (λ x. getD position x 0) (map (λ k. 64 * w + k) (bitsOf (laterWord edges set p q))) (scan (markedEdge edges set p) 512 (64 * w + 64)))
+        ∙ to-append i (map (λ x. getD position x 0) (map (λ k. 64 * w + k) (bitsOf (laterWord edges set p q)))) (map (λ x. getD position x 0) (scan (markedEdge edges set p) 512 (64 * w + 64)))
+        ∙ ap (λ (l : List ℕ). superedgesTo i l ++ superedgesTo i (map (λ x. getD position x 0) (scan (markedEdge edges set p) 512 (64 * w + 64)))) (map-twice (λ x. getD position x 0) (λ k. 64 * w + k) (bitsOf (laterWord edges set p q)))
 
     pub records-room : {s₀ : List ℕ} {at₀ : ℕ} {all s : List ℕ} {to : ℕ} → Left s₀ at₀ all s to (laterRecords edges set position i p q) → at₀ + length all ≤ length s₀ → to + length (superedgesTo i (positionsOf position (64 * w) (laterWord edges set p q))) ≤ length s
     records-room l room = left-room l room (superedgesTo i (positionsOf position (64 * w) (laterWord edges set p q))) (laterRecords edges set position i p (64 * w + 64)) records-word
@@ -385,7 +371,7 @@ marking-no {P} {set} {p} m y = record { size = m .size; words = m .words; bits =
         rw (e, and-false (ltb q p), and-false (ltb q (p + 1)))
     step q (inr t) = rw (below-more q p (eqb-false q p t))
 
-pub marking-done : (least : List ℕ) {set : List ℕ} {n p : ℕ} → Marking (leads least) set p → p ≡ n → n ≤ 512 → Marked (leadersOf n least) set
+pub marking-done : (least : List ℕ) {set : List ℕ} {n p : ℕ} → Marking (leads least) set p → p ≡ n → n ≤ 512 → LeaderSet (leadersOf n least) set
 unfolding leadersOf
 marking-done least {set} {n} {p} m e small = record { size = m .size; words = m .words; list = sym (scan-cut (edgeBit set 0) n 512 small after 0 (omega arith) ∙ scan-cong (edgeBit set 0) (leads least) n 0 before) }
   where
@@ -400,7 +386,7 @@ pub record Placing (ls position : List ℕ) (i : ℕ) : Type 0 where
   pub size : length position ≡ 512
   pub place : (k : ℕ) → k < i → getD position (getD ls k 0) 0 ≡ k
 
-pub placing-more : {ls position : List ℕ} {i p : ℕ} → Placing ls position i → Leading ls → i < length ls → p ≡ getD ls i 0 → Placing ls (set position p i) (i + 1)
+pub placing-more : {ls position : List ℕ} {i p : ℕ} → Placing ls position i → AscendingLeaders ls → i < length ls → p ≡ getD ls i 0 → Placing ls (set position p i) (i + 1)
 placing-more {ls} {position} {i} {p} m l h e = record { size = length-set position p i ∙ m .size; place = λ k b. step k b (decide (eqb k i)) }
   where
     step : (k : ℕ) → k < i + 1 → (eqb k i ≡ true) ⊎ (eqb k i ≡ false) → getD (set position p i) (getD ls k 0) 0 ≡ k
@@ -411,11 +397,11 @@ placing-more {ls} {position} {i} {p} m l h e = record { size = length-set positi
         let low : k < i = omega (arith, eqb-false k i t) in
         getD-set-other position p (getD ls k 0) i 0 (λ z. omega (arith, l .ascends k i low h)) ∙ m .place k low
 
-pub placing-done : {ls position : List ℕ} {i : ℕ} → Placing ls position i → length ls ≤ i → Placed ls position
+pub placing-done : {ls position : List ℕ} {i : ℕ} → Placing ls position i → length ls ≤ i → LeaderPlaces ls position
 placing-done m h = record { size = m .size; place = λ k b. m .place k (omega arith) }
 
 -- the leaders of the tables
-pub leading-of : {n : ℕ} {least edges ls : List ℕ} → Partition n least edges → ls ≡ leadersOf n least → Leading ls
+pub leading-of : {n : ℕ} {least edges ls : List ℕ} → Partition n least edges → ls ≡ leadersOf n least → AscendingLeaders ls
 unfolding leadersOf
 leading-of {n} {least} {edges} {ls} g q = record {
   few = let f = rows-of g q .few in omega (arith, g .small);
@@ -430,7 +416,7 @@ rowed-of r = record {
   rows = λ i h. omega (arith, r .below i h, r .rows);
 }
 
-pub marked-as : {ls ls′ set : List ℕ} → Marked ls set → ls′ ≡ ls → Marked ls′ set
+pub marked-as : {ls ls′ set : List ℕ} → LeaderSet ls set → ls′ ≡ ls → LeaderSet ls′ set
 marked-as m e = record { size = m .size; words = m .words; list = e ∙ m .list }
 
 pub ne-pos : (x : ℕ) → (x ≡ 0 → ⊥) → 0 < x

@@ -15,8 +15,8 @@ unfoldable pub bitsOf : ℕ → List ℕ
 bitsOf x = scan (bitAt x) 64 0
 
 -- q is in the set and has an edge to p
-unfoldable pub marked : List ℕ → List ℕ → ℕ → ℕ → Bool
-marked edges set p q = edgeBit set 0 q && edgeBit edges p q
+unfoldable pub markedEdge : List ℕ → List ℕ → ℕ → ℕ → Bool
+markedEdge edges set p q = edgeBit set 0 q && edgeBit edges p q
 
 -- of the word that holds node q's bit, the marked nodes from q on
 unfoldable pub laterWord : List ℕ → List ℕ → ℕ → ℕ → ℕ
@@ -28,7 +28,7 @@ positionsOf position b x = map (λ k. getD position (b + k) 0) (bitsOf x)
 
 -- the records of the i-th group's superedges to the groups of the marked nodes from q on
 unfoldable pub laterRecords : List ℕ → List ℕ → List ℕ → ℕ → ℕ → ℕ → List ℕ
-laterRecords edges set position i p q = superedgesTo i (map (λ x. getD position x 0) (scan (marked edges set p) 512 q))
+laterRecords edges set position i p q = superedgesTo i (map (λ x. getD position x 0) (scan (markedEdge edges set p) 512 q))
 
 -- a set of bits while it is made: the nodes below p that P chooses
 pub record Marking (P : ℕ → Bool) (set : List ℕ) (p : ℕ) : Type 0 where
@@ -37,7 +37,7 @@ pub record Marking (P : ℕ → Bool) (set : List ℕ) (p : ℕ) : Type 0 where
   pub bits : (q : ℕ) → q < 512 → edgeBit set 0 q ≡ (ltb q p && P q)
 
 -- leaders are nodes, and ascend; there are rows for them
-pub record Leading (leaders : List ℕ) : Type 0 where
+pub record AscendingLeaders (leaders : List ℕ) : Type 0 where
   pub few : length leaders ≤ 512
   pub below : (i : ℕ) → i < length leaders → getD leaders i 0 < 512
   pub ascends : (i j : ℕ) → i < j → j < length leaders → getD leaders i 0 < getD leaders j 0
@@ -48,11 +48,11 @@ pub record Rowed (edges leaders : List ℕ) : Type 0 where
   pub rows : (i : ℕ) → i < length leaders → 8 * getD leaders i 0 + 8 ≤ length edges
 
 -- the leaders as a set of bits; and the position of each leader
-pub record Marked (leaders set : List ℕ) : Type 0 where
+pub record LeaderSet (leaders set : List ℕ) : Type 0 where
   pub size : length set ≡ 8
   pub words : (i : ℕ) → getD set i 0 < 2 ^ 64
   pub list : leaders ≡ scan (edgeBit set 0) 512 0
 
-pub record Placed (leaders position : List ℕ) : Type 0 where
+pub record LeaderPlaces (leaders position : List ℕ) : Type 0 where
   pub size : length position ≡ 512
   pub place : (i : ℕ) → i < length leaders → getD position (getD leaders i 0) 0 ≡ i

@@ -22,8 +22,7 @@ use Rattle.model.specs.ReleaseLaws.{alike-visible}
 use Rattle.model.specs.ReadBackLaws.{visible-proper}
 use Rattle.layout.specs.Truth.{Truth}
 use Rattle.layout.specs.Words.{Marking}
-use Rattle.layout.specs.WordLaws.{bit-and}
-use Rattle.rows.specs.BitLaws.{bit-zero}
+use Rattle.rows.specs.BitLaws.{bit-and, bit-zero}
 use Rattle.search.specs.Search.{Within, edgesIn}
 use Rattle.rows.specs.EdgeLaws.{edges-by-bits}
 use Rattle.search.specs.SearchLaws.{edges-in, ready}

@@ -117,11 +117,11 @@ module _ (g : Graph) (proper : Proper g) where
       step (inl t) = absurd (omega (arith, proper .inside q p (proper .symmetric q p ∙ t)))
       step (inr t) = t
 
-  pub lone-similar : (p q : ℕ) → Lone p → Lone q → similar (whole g) p q ≡ true
-  lone-similar p q a b = similar-N (whole g) p q (falseTwins-by (whole g) p q (λ x m. a x ∙ sym (b x)))
+  pub isolated-similar : (p q : ℕ) → Lone p → Lone q → similar (whole g) p q ≡ true
+  isolated-similar p q a b = similar-N (whole g) p q (falseTwins-by (whole g) p q (λ x m. a x ∙ sym (b x)))
 
-  pub similar-lone : (p q : ℕ) → q < g .nodeCount → Lone p → similar (whole g) p q ≡ true → Lone q
-  similar-lone p q hq a h x = step (decide (ltb x (g .nodeCount))) (decide (eqb p q)) (similar-cases (whole g) p q h)
+  pub similar-isolated : (p q : ℕ) → q < g .nodeCount → Lone p → similar (whole g) p q ≡ true → Lone q
+  similar-isolated p q hq a h x = step (decide (ltb x (g .nodeCount))) (decide (eqb p q)) (similar-cases (whole g) p q h)
     where
       step : (ltb x (g .nodeCount) ≡ true) ⊎ (ltb x (g .nodeCount) ≡ false) → (eqb p q ≡ true) ⊎ (eqb p q ≡ false) → (falseTwins (whole g) p q ≡ true) ⊎ (trueTwins (whole g) p q ≡ true) → g .edge q x ≡ false
       step (inr b) e t = edge-outside q x (ltb-false x (g .nodeCount) b)
@@ -148,14 +148,14 @@ module _ (g : Graph) (proper : Proper g) where
       )
 
   -- the least of the nodes without edges is the least member of the group of each
-  pub least-lone : (p m : ℕ) → p < g .nodeCount → Lone p → m < g .nodeCount → Lone m → ((q : ℕ) → q < g .nodeCount → Lone q → m ≤ q) → m ≡ least (nodes (g .nodeCount)) (similar (whole g)) p
-  least-lone p m hp a hm b low =
+  pub least-isolated : (p m : ℕ) → p < g .nodeCount → Lone p → m < g .nodeCount → Lone m → ((q : ℕ) → q < g .nodeCount → Lone q → m ≤ q) → m ≡ least (nodes (g .nodeCount)) (similar (whole g)) p
+  least-isolated p m hp a hm b low =
       let n = g .nodeCount in
       let mp = nodes-in n p hp in
       let l = least (nodes n) R p in
       let hl = nodes-out n l (least-in (nodes n) R eq-all asc-all p mp) in
       omega (
         arith,
-        least-le (nodes n) R eq-all asc-all p m (nodes-in n m hm) (lone-similar p m a b),
-        low l hl (similar-lone p l hl a (least-rel (nodes n) R eq-all asc-all p mp)),
+        least-le (nodes n) R eq-all asc-all p m (nodes-in n m hm) (isolated-similar p m a b),
+        low l hl (similar-isolated p l hl a (least-rel (nodes n) R eq-all asc-all p mp)),
       )

@@ -98,14 +98,14 @@ in-order-parts n gs js t =
     (leb-true n maxNodes (and-fst (leb n maxNodes) _ t), and-fst (groupsFit n (λ p. false) 0 gs) _ r, and-snd (groupsFit n (λ p. false) 0 gs) _ r)
 
 -- what members that fit are
-pub record Fitting (n : ℕ) (taken : ℕ → Bool) (low : ℕ) (ms : List ℕ) : Type 0 where
+pub record MembersFitting (n : ℕ) (taken : ℕ → Bool) (low : ℕ) (ms : List ℕ) : Type 0 where
   pub ascends : Ascending ms
   pub from-low : (p : ℕ) → p ∈ ms → low ≤ p
   pub below : (p : ℕ) → p ∈ ms → p < n
   pub free : (p : ℕ) → p ∈ ms → taken p ≡ false
 
 module _ (n : ℕ) (taken : ℕ → Bool) where
-  pub fitting-members : (low : ℕ) (ms : List ℕ) → Fitting n taken low ms → membersFit n taken low ms ≡ true
+  pub fitting-members : (low : ℕ) (ms : List ℕ) → MembersFitting n taken low ms → membersFit n taken low ms ≡ true
   unfolding membersFit
   fitting-members low [] f = refl
   fitting-members low (x ∷ xs) f =
@@ -113,11 +113,11 @@ module _ (n : ℕ) (taken : ℕ → Bool) where
       and-true (le-leb low x (f .from-low x m)) (and-true (lt-ltb x n (f .below x m)) (and-true (ap not (f .free x m))
       (fitting-members (suc x) xs (record { ascends = f .ascends .1; from-low = f .ascends .0; below = λ p k. f .below p (List·Memᴰ·tail k); free = λ p k. f .free p (List·Memᴰ·tail k) }))))
 
-  pub members-fitting : (low : ℕ) (ms : List ℕ) → membersFit n taken low ms ≡ true → Fitting n taken low ms
+  pub members-fitting : (low : ℕ) (ms : List ℕ) → membersFit n taken low ms ≡ true → MembersFitting n taken low ms
   unfolding membersFit
   members-fitting low [] t = record { ascends = tt; from-low = λ p m. absurd (List·Memᴰ·not-nil m); below = λ p m. absurd (List·Memᴰ·not-nil m); free = λ p m. absurd (List·Memᴰ·not-nil m) }
   members-fitting low (x ∷ xs) t =
-      let more : Fitting n taken (suc x) xs = members-fitting (suc x) xs (and-snd (not (taken x)) _ after) in
+      let more : MembersFitting n taken (suc x) xs = members-fitting (suc x) xs (and-snd (not (taken x)) _ after) in
       record {
         ascends = (more .from-low, more .ascends);
         from-low = λ p m. by (λ q. low ≤ q) p least (λ k. omega (arith, least, more .from-low p k)) (List·Memᴰ·cases-cons m);
@@ -148,17 +148,17 @@ head-in (x ∷ xs) h = List·Memᴰ·head refl
 
 -- a group that fits, at its position
 module _ (n : ℕ) where
-  group-fitting : (taken : ℕ → Bool) (low : ℕ) (g : Bool × List ℕ) → groupFits n taken low g ≡ true → Fitting n taken low (g .1) × (cond (g .0) 2 1 ≤ length (g .1))
+  group-fitting : (taken : ℕ → Bool) (low : ℕ) (g : Bool × List ℕ) → groupFits n taken low g ≡ true → MembersFitting n taken low (g .1) × (cond (g .0) 2 1 ≤ length (g .1))
   unfolding groupFits
   group-fitting taken low g t = (members-fitting n taken low (g .1) (and-snd (leb (cond (g .0) 2 1) (length (g .1))) _ t), leb-true (cond (g .0) 2 1) (length (g .1)) (and-fst (leb (cond (g .0) 2 1) (length (g .1))) _ t))
 
-  pub fits-at : (taken : ℕ → Bool) (low : ℕ) (gs : List (Bool × List ℕ)) → groupsFit n taken low gs ≡ true → (i : ℕ) → i < length gs → Fitting n taken low (membersAt gs i) × (cond (cliqueAt gs i) 2 1 ≤ length (membersAt gs i))
+  pub fits-at : (taken : ℕ → Bool) (low : ℕ) (gs : List (Bool × List ℕ)) → groupsFit n taken low gs ≡ true → (i : ℕ) → i < length gs → MembersFitting n taken low (membersAt gs i) × (cond (cliqueAt gs i) 2 1 ≤ length (membersAt gs i))
   unfolding groupsFit membersAt cliqueAt
   fits-at taken low [] t i l = absurd (omega arith)
   fits-at taken low (g ∷ gs) t zero l = group-fitting taken low g (and-fst (groupFits n taken low g) _ t)
   fits-at taken low (g ∷ gs) t (suc i) l = step (fits-at (λ p. member p (g .1) || taken p) (suc (headOr 0 (g .1))) gs (and-snd (groupFits n taken low g) _ t) i (omega arith)) (group-fitting taken low g (and-fst (groupFits n taken low g) _ t))
     where
-      step : Fitting n (λ p. member p (g .1) || taken p) (suc (headOr 0 (g .1))) (membersAt gs i) × (cond (cliqueAt gs i) 2 1 ≤ length (membersAt gs i)) → Fitting n taken low (g .1) × (cond (g .0) 2 1 ≤ length (g .1)) → Fitting n taken low (membersAt gs i) × (cond (cliqueAt gs i) 2 1 ≤ length (membersAt gs i))
+      step : MembersFitting n (λ p. member p (g .1) || taken p) (suc (headOr 0 (g .1))) (membersAt gs i) × (cond (cliqueAt gs i) 2 1 ≤ length (membersAt gs i)) → MembersFitting n taken low (g .1) × (cond (g .0) 2 1 ≤ length (g .1)) → MembersFitting n taken low (membersAt gs i) × (cond (cliqueAt gs i) 2 1 ≤ length (membersAt gs i))
       step f h = (
         record {
           ascends = f .0 .ascends;
@@ -207,7 +207,7 @@ length-members gs = length-map gs (λ g. g .1)
 
 -- groups that fit
 module _ (n : ℕ) (gs : List (Bool × List ℕ)) (fits : groupsFit n (λ p. false) 0 gs ≡ true) where
-  fitting : (i : ℕ) → i < length gs → Fitting n (λ p. false) 0 (membersAt gs i)
+  fitting : (i : ℕ) → i < length gs → MembersFitting n (λ p. false) 0 (membersAt gs i)
   fitting i l = fits-at n (λ p. false) 0 gs fits i l .0
 
   pub members-ascend : (i : ℕ) → i < length gs → Ascending (membersAt gs i)

@@ -22,7 +22,7 @@ use Rattle.model.specs.SummaryLaws.{algorithm1-classes, equivalence}
 use Rattle.model.specs.ReleaseLaws.{length-concat-groups, visible-ascending, visible-simple}
 use Rattle.model.specs.ReadingLaws.{length-marked, marked, members-back}
 use Rattle.model.specs.ReadBackLaws.{only-releases}
-use Rattle.model.specs.InOrderLaws.{file-count, file-told-groups, file-told-superedges, fitting-members, Fitting, groups-few}
+use Rattle.model.specs.InOrderLaws.{MembersFitting, file-count, file-told-groups, file-told-superedges, fitting-members, groups-few}
 
 -- the superedges of groups stand in order
 module _ (e : ℕ → ℕ → Bool) (most : ℕ) (bound : most ≤ 65536) where
@@ -116,7 +116,7 @@ module _ (v : View) (g : Simple v) (asc : Ascending (v .nodes)) where
         above : (y : ℕ) → y ∈ xs → suc (headOr 0 (group vs r x)) ≤ y
         above y m = omega (arith, first, a .0 y m)
 
-        members : Fitting n taken low (group vs r x)
+        members : MembersFitting n taken low (group vs r x)
         members = record {
           ascends = unfold group in filter-ascending (r x) vs asc;
           from-low = λ p m. let o = group-out vs r x p m in omega (arith, up x (List·Memᴰ·head refl), here .1, least-le vs r eq asc x p (o .0) (o .1));

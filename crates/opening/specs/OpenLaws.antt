@@ -1,28 +1,29 @@
 -- The tables that are filled at an opening are those of the graph without edges.
 use mathlib.Core.Path.{_≡_, refl, sym, ap, _∙_}
 use mathlib.Core.Bool.{true, false, cond}
-use mathlib.Core.List.{List, [], _∷_}
+use mathlib.Core.List.{List}
 use mathlib.Core.Logic.{_≢_, _⊎_, inl, inr}
 use Prim.Native.Nat.{ℕ, suc, zero, _+_, _*_, _-_, _/_, _%_, _^_, _≤_, _<_}
 use native.Mathlib.Omega.{arith}
-use native.Mathlib.Nat.{zero-div, zero-mul}
+use native.Mathlib.Nat.{zero-mul}
 use lib.Pow.{pow-pos}
 use native.Mathlib.Decide.{ℕ-discrete}
 use lib.Dec.{eqb, ltb}
 use lib.ListN.{length, getD, set, length-set, List·getD-eq-default}
 use lib.Seq.{getD-set-same, getD-set-other, ext-getD}
 use borrow.Author.Tests.{eqb-true, eqb-false, eq-eqb, ne-eqb, ltb-true, ltb-false, lt-ltb, le-ltb}
-use Rattle.model.specs.Lists.{nodes, filter}
+use Rattle.model.specs.Lists.{nodes}
 use Rattle.model.specs.Graph.{Graph, emptyGraph, maxNodes, rowWords, nodeNumbers, whole}
-use Rattle.model.specs.Grouping.{cube, similar, sumCubes}
+use Rattle.model.specs.Grouping.{cube, similar}
 use Rattle.model.specs.Tables.{nodeNumber, nodesOf, keysOf, edgesOf, edgeBit, bitAt, tablesOf}
 use Rattle.model.specs.TestLaws.{decide}
 use Rattle.model.specs.TwinLaws.{similar-N, falseTwins-by}
 use Rattle.model.specs.UpdateLaws.{proper-empty}
 use Rattle.model.specs.TableLaws.{length-keys}
+use Rattle.rows.specs.BitLaws.{bit-zero}
 use Rattle.rows.specs.Rows.{lent, Words}
 use Rattle.rows.specs.EdgeLaws.{edges-by-bits}
-use Rattle.rows.specs.KeyLaws.{keys-at, cube-le}
+use Rattle.rows.specs.KeyLaws.{cube-le, keys-at, no-cubes}
 use Rattle.rings.specs.Ring.{up, Best, Table, Of}
 use Rattle.rings.specs.NodesLaws.{is-nodes}
 use Rattle.opening.specs.Open.{ringNext, ringPrev, NodePut, NodesFilled, KeysFilled, Cleared}
@@ -183,15 +184,6 @@ ring-in n p h = (next (decide (ltb (p + 1) n)), prev (decide (eqb p 0)))
     prev (inl t) = rw t (omega arith)
     prev (inr t) = rw t (omega arith)
 
-no-cubes : (l : List ℕ) → sumCubes (filter (λ q. false) l) ≡ 0
-unfolding filter sumCubes
-no-cubes [] = refl
-no-cubes (x ∷ xs) = no-cubes xs
-
-no-bit : (k : ℕ) → bitAt 0 k ≡ false
-unfolding bitAt
-no-bit k = rw (zero-div (2 ^ k))
-
 -- the filled tables
 module _ (n : ℕ) (small : n ≤ maxNodes) where
   abbrev g : Graph
@@ -239,7 +231,7 @@ module _ (n : ℕ) (small : n ≤ maxNodes) where
 
   pub edges-opened : {t t₁ : List ℕ} → length t ≡ rowWords * n → Cleared (length t) t t₁ → t₁ ≡ edgesOf (emptyGraph n)
   unfolding emptyGraph edgeBit
-  edges-opened {t} {t₁} l a = edges-by-bits g t₁ (a .size ∙ l) words (λ p q hp hq. ap (λ (x : ℕ). bitAt x (q % 64)) (word (rowWords * p + q / 64)) ∙ no-bit (q % 64))
+  edges-opened {t} {t₁} l a = edges-by-bits g t₁ (a .size ∙ l) words (λ p q hp hq. ap (λ (x : ℕ). bitAt x (q % 64)) (word (rowWords * p + q / 64)) ∙ bit-zero (q % 64))
     where
       word : (i : ℕ) → getD t₁ i 0 ≡ 0
       word i = side (decide (ltb i (length t)))

@@ -35,10 +35,10 @@ superedgeTexts k s = concat (map superedgeLine (superedgesAt k s))
 unfoldable pub superedgePart : List ℕ → List ℕ
 superedgePart s = afterGroups (u16At s 6) (drop 8 s)
 
-unfoldable pub superedgeTotal : List ℕ → ℕ
-superedgeTotal s = length (superedgesAt (length s) (superedgePart s))
+unfoldable pub superedgesIn : List ℕ → ℕ
+superedgesIn s = length (superedgesAt (length s) (superedgePart s))
 
 -- m, g and s, the groups, the superedges
 unfoldable pub fileText : List ℕ → List ℕ
 fileText s =
-    openLine (u16At s 4) (u16At s 6) (superedgeTotal s) ++ (groupTexts (u16At s 6) (drop 8 s) ++ superedgeTexts (length s) (superedgePart s))
+    openLine (u16At s 4) (u16At s 6) (superedgesIn s) ++ (groupTexts (u16At s 6) (drop 8 s) ++ superedgeTexts (length s) (superedgePart s))

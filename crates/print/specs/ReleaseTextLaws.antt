@@ -12,7 +12,7 @@ use Rattle.model.specs.ReadingLaws.{body, count-back, groups-after, next, super
 use Rattle.model.specs.Release.{encode, endRecord, groupRecord, headRecord, release, superedgeRecord, superedges, u16, visible, visibleGroups}
 use Rattle.model.specs.ReleaseLaws.{length-encode}
 use Rattle.model.specs.Updates.{Update, answers, batchGraph}
-use Rattle.print.specs.Lines.{fileText, groupText, groupTexts, memberTexts, superedgePart, superedgeTexts, superedgeTotal}
+use Rattle.print.specs.Lines.{fileText, groupText, groupTexts, memberTexts, superedgePart, superedgeTexts, superedgesIn}
 
 group-text : (v : View) (g r : List ℕ) → groupText (groupRecord v g ++ r) ≡ groupLine (v .edge) g
 unfolding groupText memberTexts groupLine
@@ -30,7 +30,7 @@ group-texts v (g ∷ gs) r =
 
 encode-text : (n : ℕ) (v : View) (gs : List (List ℕ))
     → fileText (encode n v gs) ≡ openLine (length (v .nodes)) (length gs) (length (superedges (v .edge) 0 gs)) ++ (concat (map (groupLine (v .edge)) gs) ++ concat (map superedgeLine (superedges (v .edge) 0 gs)))
-unfolding fileText superedgeTexts superedgeTotal superedgePart
+unfolding fileText superedgeTexts superedgesIn superedgePart
 encode-text n v gs = rw (at-m, at-g, rest, groups-after v gs tail, superedges-back (superedges (v .edge) 0 gs) (length s) (omega (arith, length-encode n v gs)), group-texts v gs tail)
   where
     s : List ℕ

@@ -16,7 +16,7 @@ use Rattle.model.specs.Reading.{afterGroups, isMark, superedgesAt, u16At, u16s}
 use Rattle.model.specs.TestLaws.{and-fst, decide}
 use Rattle.buffers.specs.Wrote.{Left, Wrote}
 use Rattle.buffers.specs.WroteLaws.{left-done, left-room, left-start, left-step}
-use Rattle.print.specs.Lines.{fileText, groupText, groupTexts, memberTexts, nextGroup, superedgePart, superedgeTexts, superedgeTotal}
+use Rattle.print.specs.Lines.{fileText, groupText, groupTexts, memberTexts, nextGroup, superedgePart, superedgeTexts, superedgesIn}
 
 pub number-is : (s : List ℕ) (i a b : ℕ) → a ≡ getD s i 0 → b ≡ getD s (i + 1) 0 → a + 256 * b ≡ u16At s i
 unfolding u16At
@@ -182,5 +182,5 @@ group-line-is p b k file e f = rw (e, f, ← u16At-drop p 2 file, ← getD-drop 
 -- the whole text, with the numbers that are read and the place after the groups
 pub file-text-is : (file : List ℕ) (m g s p : ℕ) → m ≡ u16At file 4 → g ≡ u16At file 6 → drop p file ≡ afterGroups g (drop 8 file) → s ≡ length (superedgesAt (length file) (drop p file))
     → fileText file ≡ openLine m g s ++ (groupTexts g (drop 8 file) ++ superedgeTexts (length file) (drop p file))
-unfolding fileText superedgeTotal superedgePart
+unfolding fileText superedgesIn superedgePart
 file-text-is file m g s p a b d e = rw (e, d, a, b)

@@ -17,14 +17,14 @@ abbrev pub graphAfter : ℕ → List ℕ → Graph
 graphAfter n xs = batchGraph (emptyGraph n) (updatesIn xs)
 
 -- n and the batch are within their limits
-pub record Small (n : ℕ) (xs : List ℕ) : Type 0 where
+pub record WithinLimits (n : ℕ) (xs : List ℕ) : Type 0 where
   pub nodes : n ≤ maxNodes
   pub whole : length xs % updateNumbers ≡ 0
   pub few : length xs ≤ updateNumbers * maxUpdates
 
 -- and the tables, the answer buffer and the release buffer are long enough
 pub record Lent (n : ℕ) (t : Tables) (xs : List ℕ) (out : List ℤ) (file : List ℕ) : Type 0 where
-  pub small : Small n xs
+  pub small : WithinLimits n xs
   pub sized : Sized n t
   pub answerRoom : maxUpdates ≤ length out
   pub fileRoom : maxBytes ≤ length file

@@ -26,11 +26,11 @@ use Rattle.rows.specs.Rows.{lent}
 use Rattle.index.specs.Index.{applied, opened}
 use Rattle.print.specs.Lines.{fileText}
 use Rattle.print.specs.ReleaseTextLaws.{accepted-text}
-use Rattle.writer.specs.Written.{answer}
+use Rattle.writer.specs.Written.{releasedBy}
 use Rattle.writer.specs.declared.Written.{Written}
-use Rattle.program.specs.Accepted.{Done, Lent, Small, graphAfter}
+use Rattle.program.specs.Accepted.{Done, Lent, WithinLimits, graphAfter}
 
-few-updates : {n : ℕ} (xs : List ℕ) → Small n xs → length (updatesIn xs) ≤ maxUpdates
+few-updates : {n : ℕ} (xs : List ℕ) → WithinLimits n xs → length (updatesIn xs) ≤ maxUpdates
 few-updates xs h = unfold updateCount in omega (arith, length-updates xs, h .few)
 
 module _ {n : ℕ} {t : Tables} {xs : List ℕ} {out : List ℤ} {file : List ℕ} (h : Lent n t xs out file) where
@@ -65,7 +65,7 @@ module _ {n : ℕ} {t : Tables} {xs : List ℕ} {out : List ℤ} {file : List �
       (rw e at (k .0 .tables), ap (λ (o : Outcome). o .answers) (rw e at (k .1)))
 
   -- opened, applied, released
-  pub done : {r₁ : ℕ} {t₁ : Tables} {r₂ : ℕ} {t₂ : Tables} {out₂ : List ℤ} {w : Written} {file₂ : List ℕ} → opened r₁ t₁ ≡ openCall n t → applied r₂ t₂ out₂ ≡ applyCall n t₁ xs out → answer w file₂ ≡ releaseCall n t₂ file → Done n xs out out₂ file file₂ (w .bytes)
+  pub done : {r₁ : ℕ} {t₁ : Tables} {r₂ : ℕ} {t₂ : Tables} {out₂ : List ℤ} {w : Written} {file₂ : List ℕ} → opened r₁ t₁ ≡ openCall n t → applied r₂ t₂ out₂ ≡ applyCall n t₁ xs out → releasedBy w file₂ ≡ releaseCall n t₂ file → Done n xs out out₂ file file₂ (w .bytes)
   unfolding released
   done {r₁} {t₁} {r₂} {t₂} {out₂} {w} {file₂} a b c = record {
     answered = ap (λ (o : Applied). o .answers) applied-is ∙ applied-told .1;
@@ -82,14 +82,14 @@ module _ {n : ℕ} {t : Tables} {xs : List ℕ} {out : List ℤ} {file : List �
       count : n ≡ graphAfter n xs .nodeCount
       count = sym (proper-batch (updatesIn xs) (emptyGraph n) (proper-empty n (h .small .nodes)) .1 ∙ unfold emptyGraph in refl)
 
-      file-is : answer w file₂ ≡ released (graphAfter n xs) file
+      file-is : releasedBy w file₂ ≡ released (graphAfter n xs) file
       file-is =
           c
           ∙ ap (λ (m : ℕ). releaseCall m t₂ file) count
           ∙ release-written (lengths t) (graphAfter n xs) t₂ kept file (omega (arith, fits n (updatesIn xs) (h .small .nodes) (few-updates xs (h .small)), h .fileRoom))
 
 -- tables for 512 nodes, of which a graph of n nodes is lent the front
-pub lent-parts : {n : ℕ} {xs : List ℕ} (edges nodes keys : List ℕ) {out : List ℤ} {file : List ℕ} → Small n xs
+pub lent-parts : {n : ℕ} {xs : List ℕ} (edges nodes keys : List ℕ) {out : List ℤ} {file : List ℕ} → WithinLimits n xs
     → rowWords * maxNodes ≤ length edges → nodeNumbers * maxNodes ≤ length nodes → 2 * maxNodes ≤ length keys → maxUpdates ≤ length out → maxBytes ≤ length file
     → Lent n (lent (take (rowWords * n) edges) (take (nodeNumbers * n) nodes) (take (2 * n) keys)) xs out file
 lent-parts {n} edges nodes keys small a b c answers-fit file-fits = record {
@@ -105,7 +105,7 @@ lent-parts {n} edges nodes keys small a b c answers-fit file-fits = record {
 }
 
 -- the file is within the buffer
-pub done-fits : {n : ℕ} {xs : List ℕ} {out out′ : List ℤ} {file file′ : List ℕ} {k : ℕ} → Small n xs → Done n xs out out′ file file′ k → k ≤ maxBytes
+pub done-fits : {n : ℕ} {xs : List ℕ} {out out′ : List ℤ} {file file′ : List ℕ} {k : ℕ} → WithinLimits n xs → Done n xs out out′ file file′ k → k ≤ maxBytes
 done-fits {n} {xs} s h = omega (arith, h .bytes, fits n (updatesIn xs) (s .nodes) (few-updates xs s))
 
 -- what is printed of the answers and the file

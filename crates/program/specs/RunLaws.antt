@@ -22,7 +22,7 @@ use Rattle.print.specs.Lines.{maxText}
 use Rattle.text.specs.Grammar.{ParsedAs, inputIn, used}
 use Rattle.text.specs.declared.Parsed.{Parsed}
 use Rattle.text.specs.declared.Parsed.the-variants.{Accepted, Refused}
-use Rattle.program.specs.Accepted.{Small}
+use Rattle.program.specs.Accepted.{WithinLimits}
 
 module _ (bytes : List ℕ) {before after : List ℕ} {r : Parsed} (h : ParsedAs (inputOf bytes) before after r) where
   input-is : {i : Input} → inputIn r after ≡ i → printed i ≡ program bytes
@@ -46,7 +46,7 @@ module _ (bytes : List ℕ) {before after : List ℕ} {r : Parsed} (h : ParsedAs
   unfolding used
   accepted-few n count e = rw (ap used e) at (h .few)
 
-  pub accepted-small : (n count : ℕ) → r ≡ Accepted n count → updateNumbers * maxUpdates ≤ length after → Small n (take (updateNumbers * count) after)
+  pub accepted-small : (n count : ℕ) → r ≡ Accepted n count → updateNumbers * maxUpdates ≤ length after → WithinLimits n (take (updateNumbers * count) after)
   accepted-small n count e room =
       let few = accepted-few n count e in
       let size = length-take-le (updateNumbers * count) after (omega arith) in

@@ -10,7 +10,7 @@ ghost use Rattle.model.specs.Program.{accepted, maxBytes, printed, program};
 ghost use Rattle.model.specs.Updates.{updatesIn};
 ghost use Rattle.buffers.specs.Wrote.{Wrote};
 ghost use Rattle.rows.specs.Rows.{lent};
-ghost use Rattle.program.specs.Accepted.{Done, Lent, Small};
+ghost use Rattle.program.specs.Accepted.{Done, Lent, WithinLimits};
 
 // What the program reads of its input: a byte more than is accepted.
 pub const INPUT_BYTES: usize = text::INPUT_BYTES + 1;
@@ -50,7 +50,7 @@ fn release_after(
 
 // What is printed for n and a batch of changes.
 fn print_accepted(n: usize, batch: &[u16], out: &mut [u8]) -> usize
-    requires { ⌜ Small n (now batch) ⌝ }
+    requires { ⌜ WithinLimits n (now batch) ⌝ }
     requires { ⌜ length (printed (accepted n (updatesIn (now batch)))) ≤ length (now out) ⌝ }
     ensures { λ r. ⌜ Wrote (now (out .entry)) 0 (printed (accepted n (updatesIn (now (batch .entry))))) (now (out .exit)) r ⌝ }
 {

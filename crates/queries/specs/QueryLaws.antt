@@ -7,7 +7,6 @@ use Prim.Native.Nat.{ℕ, suc, _+_, _*_, _-_, _≤_, _<_}
 use native.Mathlib.Omega.{arith}
 use lib.ListN.{drop, length, set, take}
 use borrow.Author.Tests.{eq-eqb, ne-eqb}
-use Rattle.model.specs.Lists.{filter, from, nodes}
 use Rattle.model.specs.Tables.{edgeBit, nodeNumber}
 use Rattle.rows.specs.BitLaws.{row-bit}
 use Rattle.buffers.specs.Scan.{scan}
@@ -48,11 +47,6 @@ pub collect-room : (P : ℕ → Bool) (n p : ℕ) {s₀ s : List ℕ} {k m : ℕ
 collect-room P n p {s₀} {s} {k} l room h t =
     let e : length (scan P n p) ≡ suc (length (scan P n (p + 1))) = ap length (scan-yes P n p h t) in
     omega (arith, l .ends)
-
--- a scan from the start is a choice among the nodes
-pub scan-nodes : (P : ℕ → Bool) (n : ℕ) → scan P n 0 ≡ filter P (nodes n)
-unfolding scan nodes
-scan-nodes P n = let e : n - 0 ≡ n = omega arith in ap (λ (k : ℕ). filter P (from 0 k)) e
 
 -- counts of nodes are small
 pub scan-small : (P : ℕ → Bool) (n k : ℕ) → k ≡ length (scan P n 0) → k ≤ n

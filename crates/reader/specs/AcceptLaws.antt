@@ -20,30 +20,30 @@ use Rattle.model.specs.InOrderLaws.{in-order-parts, members-few}
 use Rattle.records.specs.declared.Counts.{Counts}
 use Rattle.records.specs.declared.Lessened.the-variants.{Left}
 use Rattle.records.specs.declared.Record.the-variants.{Head, Group, Superedge, End}
-use Rattle.records.specs.Records.{groupItem, headItem, itemIn, lessGroup, lessMember, spent, superedgeItem, whole}
+use Rattle.records.specs.Records.{groupItem, headItem, ifWhole, itemIn, lessGroup, lessMember, spent, superedgeItem}
 use Rattle.records.specs.RecordLaws.{u16-drop}
-use Rattle.compressed.specs.Compressed.{kindBy}
+use Rattle.compressed.specs.Compressed.{kindMarked}
 use Rattle.reader.specs.declared.Grouped.the-variants.{Taken}
 use Rattle.reader.specs.declared.Groups.the-variants.{Whole}
-use Rattle.reader.specs.Decoding.{accepted, bodyFits, countAt, endsAt, groupTaken, groupsRead, leastCount, listedAt, membersRead, numbersAt, sized, stopAt}
+use Rattle.reader.specs.Decoding.{accepted, bodyFits, countAt, countsFit, endsAt, groupTaken, groupsRead, leastCount, listedAt, membersRead, numbersAt, stopAt}
 
 number : (x : ℕ) → x % 256 + 256 * (x / 256) ≡ x
 number x = omega arith
 
 -- each record is read as what it was written for
 head-item : (n m g : ℕ) (r : List ℕ) → itemIn (headRecord n m g ++ r) ≡ Head n m g
-unfolding itemIn isMark headItem whole headRecord u16 u16At
+unfolding itemIn isMark headItem ifWhole headRecord u16 u16At
 head-item n m g r =
     let l = headRecord n m g ++ r in
     rw (le-ltb (length l) 2 (omega arith), le-leb 8 (length l) (omega arith), number n, number m, number g)
 
 group-item : (q : Bool) (count : ℕ) (r : List ℕ) → itemIn (0x47 ∷ cond q 0x43 0x49 ∷ (u16 count ++ r)) ≡ Group q count
-unfolding itemIn isMark groupItem whole u16 u16At
+unfolding itemIn isMark groupItem ifWhole u16 u16At
 group-item true count r = let l : List ℕ = 0x47 ∷ 0x43 ∷ (u16 count ++ r) in rw (le-ltb (length l) 2 (omega arith), le-leb 4 (length l) (omega arith), number count)
 group-item false count r = let l : List ℕ = 0x47 ∷ 0x49 ∷ (u16 count ++ r) in rw (le-ltb (length l) 2 (omega arith), le-leb 4 (length l) (omega arith), number count)
 
 superedge-item : (x : ℕ × ℕ) (r : List ℕ) → itemIn (superedgeRecord x ++ r) ≡ Superedge (x .0) (x .1)
-unfolding itemIn isMark superedgeItem whole superedgeRecord u16 u16At
+unfolding itemIn isMark superedgeItem ifWhole superedgeRecord u16 u16At
 superedge-item x r =
     let l = superedgeRecord x ++ r in
     rw (le-ltb (length l) 2 (omega arith), le-leb 6 (length l) (omega arith), number (x .0), number (x .1))
@@ -124,7 +124,7 @@ module _ (n : ℕ) (s : List ℕ) where
         ap (λ (x : ℕ). drop x s) (sym f) ∙ sym (drop-drop (4 + 2 * length (g .1)) at s) ∙ ap (drop (4 + 2 * length (g .1))) here ∙ drop-at (markedRecord g) r (4 + 2 * length (g .1)) (length-marked g)
 
     group-pass : (f : ℕ → Bool) (low : ℕ) (c : Counts) → groupFits n f low g ≡ true → length (g .1) ≤ c .members → 0 < c .groups
-        → groupTaken n f low c s at ≡ Taken (kindBy (g .0) (length (g .1))) (headOr 0 (g .1)) (at + 4 + 2 * length (g .1)) (record { members = c .members - length (g .1); groups = c .groups - 1 })
+        → groupTaken n f low c s at ≡ Taken (kindMarked (g .0) (length (g .1))) (headOr 0 (g .1)) (at + 4 + 2 * length (g .1)) (record { members = c .members - length (g .1); groups = c .groups - 1 })
     group-pass f low c t l some = unfold groupTaken lessGroup in rw (item, least, le-leb (at + 4 + 2 * length (g .1)) (length s) room, ne-eqb (c .groups) 0 (λ z. omega arith), members, taken, first (group-some n f low g t))
       where
         least : leb (leastCount (g .0)) (length (g .1)) ≡ true
@@ -199,8 +199,8 @@ in-order-accepted n gs js t = unfold accepted in rw head (and-true sizes body-fi
     head : itemIn (fileBy n gs js) ≡ Head n (length (membersIn gs)) (length gs)
     head = unfold fileBy in head-item n m (length gs) (concat (map markedRecord gs) ++ tail)
 
-    sizes : sized n (length (membersIn gs)) (length gs) ≡ true
-    sizes = unfold sized in and-true (le-leb n maxNodes (parts .0)) (and-true (le-leb m n (members-few n gs (parts .1))) (le-leb (length gs) m (groups-within n (λ p. false) 0 gs (parts .1))))
+    sizes : countsFit n (length (membersIn gs)) (length gs) ≡ true
+    sizes = unfold countsFit in and-true (le-leb n maxNodes (parts .0)) (and-true (le-leb m n (members-few n gs (parts .1))) (le-leb (length gs) m (groups-within n (λ p. false) 0 gs (parts .1))))
 
     after-head : drop 8 s ≡ concat (map markedRecord gs) ++ tail
     after-head = unfold fileBy headRecord u16 in refl

@@ -21,15 +21,16 @@ use Rattle.records.specs.declared.Lessened.{Lessened}
 use Rattle.records.specs.declared.Lessened.the-variants.{Left, Over}
 use Rattle.records.specs.declared.Record.{Record}
 use Rattle.records.specs.declared.Record.the-variants.{Head, Group, Superedge, End, Malformed}
-use Rattle.records.specs.Records.{groupItem, headItem, itemIn, lessGroup, lessMember, spent, superedgeItem, whole}
+use Rattle.records.specs.Records.{groupItem, headItem, ifWhole, itemIn, lessGroup, lessMember, spent, superedgeItem}
 use Rattle.records.specs.RecordLaws.{u16-drop}
-use Rattle.compressed.specs.Compressed.{kindBy}
+use Rattle.compressed.specs.Compressed.{kindMarked}
 use Rattle.reader.specs.declared.Grouped.{Grouped}
 use Rattle.reader.specs.declared.Grouped.the-variants.{Taken, Missing}
 use Rattle.reader.specs.declared.Groups.{Groups}
 use Rattle.reader.specs.declared.Groups.the-variants.{Whole, Broken}
-use Rattle.reader.specs.Decoding.{accepted, bodyFits, countAt, endsAt, groupBy, groupTaken, groupsRead, leastCount, listedAt, membersRead, numbersAt, onEnd, onHead, onLess, onSuperedge, onTaken, onWhole, sized, stopAt}
+use Rattle.reader.specs.Decoding.{accepted, bodyFits, countAt, countsFit, endsAt, groupBy, groupTaken, groupsRead, leastCount, listedAt, membersRead, numbersAt, onEnd, onHead, onLess, onSuperedge, onTaken, onWhole, stopAt}
 use Rattle.reader.specs.Bytes.{Bytes}
+use Rattle.reader.specs.GroupLaws.{length-numbers}
 
 bytes-after : (s : List ℕ) (at : ℕ) → Bytes s → Bytes (drop at s)
 bytes-after s at b i = rw (getD-drop at s i 0) (b (at + i))
@@ -62,8 +63,8 @@ Written r (Superedge i j) = r ≡ superedgeRecord (i, j) ++ drop 6 r
 Written r End = r ≡ endRecord ++ drop 2 r
 Written r Malformed = Unit {0}
 
-whole-written : (r : List ℕ) (size : ℕ) (i : Record) → (size ≤ length r → Written r i) → Written r (whole r size i)
-unfolding whole
+whole-written : (r : List ℕ) (size : ℕ) (i : Record) → (size ≤ length r → Written r i) → Written r (ifWhole r size i)
+unfolding ifWhole
 whole-written r size i f = step (decide (leb size (length r)))
   where
     step : (leb size (length r) ≡ true) ⊎ (leb size (length r) ≡ false) → Written r (cond (leb size (length r)) i Malformed)
@@ -139,11 +140,6 @@ group-count r q count w = sym (ap (λ (x : List ℕ). u16At x 2) w ∙ back)
     back : u16At (0x47 ∷ cond q 0x43 0x49 ∷ (u16 count ++ drop 4 r)) 2 ≡ count
     back = unfold u16At u16 in omega arith
 
-length-numbers : (k : ℕ) (r : List ℕ) → length (u16s k r) ≡ k
-unfolding u16s
-length-numbers zero r = refl
-length-numbers (suc k) r = ap suc (length-numbers k (drop 2 r))
-
 length-listed : (s : List ℕ) (at : ℕ) → length (listedAt s at) ≡ countAt s at
 unfolding listedAt numbersAt
 length-listed s at = length-numbers (countAt s at) (drop (at + 4) s)
@@ -183,7 +179,7 @@ module _ (n : ℕ) (f : ℕ → Bool) (low : ℕ) (c : Counts) (s : List ℕ) (b
       enough q l = unfold leastCount in rw (length-listed s at) l
 
       by-members : (q : Bool) (y : Counts) (o : Lessened) → membersRead n f low y (listedAt s at) ≡ o → y .members ≡ c .members → itemIn (drop at s) ≡ Group q many → leb (leastCount q) many ≡ true → at + 4 + 2 * many ≤ length s
-          → onLess o (λ z. Taken (kindBy q many) (u16At s (at + 4)) (at + 4 + 2 * many) z) Missing ≡ Taken kind first next d → GroupIn n f low c s at first next d
+          → onLess o (λ z. Taken (kindMarked q many) (u16At s (at + 4)) (at + 4 + 2 * many) z) Missing ≡ Taken kind first next d → GroupIn n f low c s at first next d
       by-members q y (Left z) h m i l r k =
           let told = members-counted n f (listedAt s at) low y z h in
           let led : first ≡ u16At s (at + 4) = cc in
@@ -200,7 +196,7 @@ module _ (n : ℕ) (f : ℕ → Bool) (low : ℕ) (c : Counts) (s : List ℕ) (b
       by-members q y Over h m i l r k = none k
 
       by-less : (q : Bool) → itemIn (drop at s) ≡ Group q many → leb (leastCount q) many ≡ true → at + 4 + 2 * many ≤ length s → (eqb (c .groups) 0 ≡ true) ⊎ (eqb (c .groups) 0 ≡ false)
-          → onLess (cond (eqb (c .groups) 0) Over (Left (record { members = c .members; groups = c .groups - 1 }))) (λ y. onLess (membersRead n f low y (numbersAt s (at + 4) many)) (λ z. Taken (kindBy q many) (u16At s (at + 4)) (at + 4 + 2 * many) z) Missing) Missing ≡ Taken kind first next d → GroupIn n f low c s at first next d
+          → onLess (cond (eqb (c .groups) 0) Over (Left (record { members = c .members; groups = c .groups - 1 }))) (λ y. onLess (membersRead n f low y (numbersAt s (at + 4) many)) (λ z. Taken (kindMarked q many) (u16At s (at + 4)) (at + 4 + 2 * many) z) Missing) Missing ≡ Taken kind first next d → GroupIn n f low c s at first next d
       by-less q i l r (inl t) k = none (rw t at k)
       by-less q i l r (inr t) k = by-members q (record { members = c .members; groups = c .groups - 1 }) (membersRead n f low (record { members = c .members; groups = c .groups - 1 }) (listedAt s at)) refl refl i l r (unfold listedAt in rw t at k)
 
@@ -365,11 +361,11 @@ module _ (s : List ℕ) (b : Bytes s) where
       by-groups n m g (Whole next left) e w small u = by-parts n m g next left w small (groups-in n g (λ p. false) 0 (record { members = m; groups = g }) 8 next left e) (superedges-in g (length s) 0 next) (end-here left (stopAt g s 0 (length s) next) u)
       by-groups n m g Broken e w small u = differ u refl
 
-      by-kind : (i : Record) → Written s i → onHead i (λ n m g. sized n m g && bodyFits s n m g) false ≡ true → FileIn
+      by-kind : (i : Record) → Written s i → onHead i (λ n m g. countsFit n m g && bodyFits s n m g) false ≡ true → FileIn
       by-kind (Head n m g) w u =
           by-groups n m g (groupsRead n g (λ p. false) 0 (record { members = m; groups = g }) s 8) refl w
-          (leb-true n maxNodes (and-fst (leb n maxNodes) (leb m n && leb g m) (unfold sized in and-fst (sized n m g) (bodyFits s n m g) u)))
-          (unfold bodyFits in and-snd (sized n m g) (bodyFits s n m g) u)
+          (leb-true n maxNodes (and-fst (leb n maxNodes) (leb m n && leb g m) (unfold countsFit in and-fst (countsFit n m g) (bodyFits s n m g) u)))
+          (unfold bodyFits in and-snd (countsFit n m g) (bodyFits s n m g) u)
       by-kind (Group x y) w u = differ u refl
       by-kind (Superedge x y) w u = differ u refl
       by-kind End w u = differ u refl

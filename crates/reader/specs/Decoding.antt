@@ -17,8 +17,8 @@ use Rattle.records.specs.declared.Record.{Record}
 use Rattle.records.specs.declared.Record.the-variants.{Head, Group, Superedge, End, Malformed}
 use Rattle.records.specs.Records.{itemIn, lessGroup, lessMember, recordAt, spent}
 use Rattle.drawing.specs.Drawing.{Added, Adding, onePair}
-use Rattle.rows.specs.Rows.{noNode}
-use Rattle.compressed.specs.Compressed.{Told, firstAt, firstOf, kindBy, kindLed, leads, single}
+use Rattle.rows.specs.Rows.{leads, noNode}
+use Rattle.compressed.specs.Compressed.{Told, firstAt, firstMemberOf, kindLed, kindMarked, single}
 use Rattle.reader.specs.declared.Grouped.{Grouped}
 use Rattle.reader.specs.declared.Grouped.the-variants.{Taken, Missing}
 use Rattle.reader.specs.declared.Groups.{Groups}
@@ -79,7 +79,7 @@ pub record MembersRead (n low : ℕ) (c : Counts) (ms t after : List ℕ) (r : L
 abbrev pub groupBy : ℕ → (ℕ → Bool) → ℕ → Counts → List ℕ → ℕ → Record → Grouped
 groupBy n f low c s at (Group clique count) =
     cond (leb (leastCount clique) count && leb (at + 4 + 2 * count) (length s))
-    (onLess (lessGroup c) (λ d. onLess (membersRead n f low d (numbersAt s (at + 4) count)) (λ e. Taken (kindBy clique count) (u16At s (at + 4)) (at + 4 + 2 * count) e) Missing) Missing)
+    (onLess (lessGroup c) (λ d. onLess (membersRead n f low d (numbersAt s (at + 4) count)) (λ e. Taken (kindMarked clique count) (u16At s (at + 4)) (at + 4 + 2 * count) e) Missing) Missing)
     Missing
 groupBy n f low c s at (Head x y z) = Missing
 groupBy n f low c s at (Superedge x y) = Missing
@@ -107,11 +107,11 @@ groupsRead n (suc k) f low c s at = onTaken (groupTaken n f low c s at) (λ firs
 unfoldable pub groupsFrom : List ℕ → ℕ → ℕ → List (Bool × List ℕ)
 groupsFrom s at k = groupsAt k (drop at s)
 
-unfoldable pub restFrom : List ℕ → ℕ → ℕ → List ℕ
-restFrom s at k = afterGroups k (drop at s)
+unfoldable pub bytesAfter : List ℕ → ℕ → ℕ → List ℕ
+bytesAfter s at k = afterGroups k (drop at s)
 
 -- first members of groups, by position, as nodes
-pub record Placed (g : ℕ) (firsts : List ℕ) : Type 0 where
+pub record FirstsPlaced (g : ℕ) (firsts : List ℕ) : Type 0 where
   pub few : g ≤ maxNodes
   pub size : g ≤ length firsts
   pub small : (i : ℕ) → i < g → getD firsts i 0 < maxNodes
@@ -121,21 +121,21 @@ pub record GroupsLeft (n g : ℕ) (c : Counts) (s : List ℕ) (from i low : ℕ)
   pub result : groupsRead n (g - i) (taken least) low left s at ≡ groupsRead n g (λ p. false) 0 c s from
   pub nodes : length least ≡ maxNodes
   pub groups : length kinds ≡ maxNodes
-  pub first : (p : ℕ) → p < maxNodes → cond (taken least p) (getD least p 0) (firstOf (groupsFrom s at (g - i)) p) ≡ firstOf (groupsFrom s from g) p
+  pub first : (p : ℕ) → p < maxNodes → cond (taken least p) (getD least p 0) (firstMemberOf (groupsFrom s at (g - i)) p) ≡ firstMemberOf (groupsFrom s from g) p
   pub kind : (p : ℕ) → p < maxNodes → cond (leads least p) (getD kinds p 0) (kindLed (groupsFrom s at (g - i)) p) ≡ kindLed (groupsFrom s from g) p
   pub others : (p : ℕ) → p < maxNodes → leads least p ≡ false → getD kinds p 0 ≡ single
   pub led : (k : ℕ) → k < i → getD firsts k 0 ≡ firstAt (groupsFrom s from g) k
   pub placed : (k : ℕ) → k < i → getD firsts k 0 < maxNodes
   pub shifted : (k : ℕ) → firstAt (groupsFrom s from g) (i + k) ≡ firstAt (groupsFrom s at (g - i)) k
-  pub rest : restFrom s at (g - i) ≡ restFrom s from g
+  pub rest : bytesAfter s at (g - i) ≡ bytesAfter s from g
 
 -- all groups are read: first members and kinds stand in the arrays, and what follows the groups stands at the next place
 pub record GroupsHeld (g : ℕ) (s : List ℕ) (from next : ℕ) (least firsts kinds : List ℕ) : Type 0 where
-  pub first : (p : ℕ) → p < maxNodes → getD least p 0 ≡ firstOf (groupsFrom s from g) p
+  pub first : (p : ℕ) → p < maxNodes → getD least p 0 ≡ firstMemberOf (groupsFrom s from g) p
   pub kind : (p : ℕ) → p < maxNodes → getD kinds p 0 ≡ kindLed (groupsFrom s from g) p
   pub led : (i : ℕ) → i < g → getD firsts i 0 ≡ firstAt (groupsFrom s from g) i
   pub placed : (i : ℕ) → i < g → getD firsts i 0 < maxNodes
-  pub rest : drop next s ≡ restFrom s from g
+  pub rest : drop next s ≡ bytesAfter s from g
 
 pub record GroupsRead (n g : ℕ) (c : Counts) (s : List ℕ) (from : ℕ) (least firsts₀ firsts kinds : List ℕ) (r : Groups) : Type 0 where
   pub result : r ≡ groupsRead n g (λ p. false) 0 c s from
@@ -189,8 +189,8 @@ pub record RunLeft (g i : ℕ) (s : List ℕ) (from : ℕ) (firsts joined₀ joi
   pub drawn : Adding (drawnBy firsts (runPairs g i s i (length s) from)) (drawnBy firsts (runPairs g i s last most at)) joined₀ joined
 
 -- no superedge from a group before i stands in order at a place
-abbrev pub Passed : ℕ → List ℕ → ℕ → ℕ → ℕ → Type 0
-Passed g s i last at = (a j : ℕ) → itemIn (drop at s) ≡ Superedge a j → a < i → follows g last a j ≡ false
+abbrev pub RunsPassed : ℕ → List ℕ → ℕ → ℕ → ℕ → Type 0
+RunsPassed g s i last at = (a j : ℕ) → itemIn (drop at s) ≡ Superedge a j → a < i → follows g last a j ≡ false
 
 -- underway: the runs of the groups before i are read
 pub record RunsLeft (g : ℕ) (s : List ℕ) (from : ℕ) (firsts joined₀ joined : List ℕ) (i at : ℕ) : Type 0 where
@@ -198,7 +198,7 @@ pub record RunsLeft (g : ℕ) (s : List ℕ) (from : ℕ) (firsts joined₀ join
   pub last : ℕ
   pub enough : length s ≤ at + most
   pub low : last ≤ i * u16Limit
-  pub passed : Passed g s i last at
+  pub passed : RunsPassed g s i last at
   pub place : stopAt g s last most at ≡ stopAt g s 0 (length s) from
   pub drawn : Adding (drawnBy firsts (pairsTo g s 0 (length s) from)) (drawnBy firsts (pairsTo g s last most at)) joined₀ joined
 
@@ -218,8 +218,8 @@ unfoldable pub endsAt : Counts → List ℕ → ℕ → Bool
 endsAt c s at = onEnd (itemIn (drop at s)) (spent c && eqb (at + 2) (length s))
 
 -- at most 512 nodes, at most all of them visible, at most as many groups as visible nodes
-unfoldable pub sized : ℕ → ℕ → ℕ → Bool
-sized n m g = leb n maxNodes && (leb m n && leb g m)
+unfoldable pub countsFit : ℕ → ℕ → ℕ → Bool
+countsFit n m g = leb n maxNodes && (leb m n && leb g m)
 
 abbrev pub onHead : {A : Type 0} → Record → (ℕ → ℕ → ℕ → A) → A → A
 onHead (Head n m g) f a = f n m g
@@ -237,7 +237,7 @@ unfoldable pub bodyFits : List ℕ → ℕ → ℕ → ℕ → Bool
 bodyFits s n m g = onWhole (groupsRead n g (λ p. false) 0 (record { members = m; groups = g }) s 8) (λ next left. endsAt left s (stopAt g s 0 (length s) next))
 
 unfoldable pub accepted : List ℕ → Bool
-accepted s = onHead (itemIn s) (λ n m g. sized n m g && bodyFits s n m g) false
+accepted s = onHead (itemIn s) (λ n m g. countsFit n m g && bodyFits s n m g) false
 
 unfoldable pub decoded : List ℕ → Decoded
 decoded s = cond (accepted s) (answer.Graph (u16At s 2)) answer.NoRelease
@@ -254,7 +254,7 @@ pub record BodyRead (s : List ℕ) (n m g : ℕ) (least kinds joined : List ℕ)
   pub nodes : length least ≡ maxNodes
   pub groups : length kinds ≡ maxNodes
   pub rows : length joined ≡ rowWords * maxNodes
-  pub told : r ≡ true → Told (groupsFrom s 8 g) (superedgesAt (length s) (restFrom s 8 g)) least kinds joined
+  pub told : r ≡ true → Told (groupsFrom s 8 g) (superedgesAt (length s) (bytesAfter s 8 g)) least kinds joined
 
 -- the answer, and what the arrays hold then
 pub record Decodes (s least kinds joined : List ℕ) (r : Decoded) : Type 0 where

@@ -24,29 +24,29 @@ use Rattle.compressed.specs.Compressed.{firstAt, joinedBy, single}
 use Rattle.reader.specs.declared.Groups.{Groups}
 use Rattle.reader.specs.declared.Groups.the-variants.{Whole, Broken}
 use Rattle.reader.specs.declared.Decoded.the-variants as answer
-use Rattle.reader.specs.Decoding.{AfterHead, Blank, BodyRead, Decodes, GroupsHeld, GroupsRead, Placed, SuperedgesRead, accepted, bodyFits, decoded, drawnBy, endsAt, groupsFrom, pairsTo, restFrom, sized, stopAt}
+use Rattle.reader.specs.Decoding.{AfterHead, Blank, BodyRead, Decodes, FirstsPlaced, GroupsHeld, GroupsRead, SuperedgesRead, accepted, bodyFits, bytesAfter, countsFit, decoded, drawnBy, endsAt, groupsFrom, pairsTo, stopAt}
 use Rattle.reader.specs.GroupLaws.{fits-at, item-is, next-is}
 use Rattle.reader.specs.SuperedgeLaws.{here-or-not, positions, stop-goes, stop-pair, stops, stops-empty, told-by}
 
 -- the numbers of the head, tested one after the other
-pub too-many : (n m g : ℕ) → 512 < n → false ≡ sized n m g
-unfolding sized
+pub too-many : (n m g : ℕ) → 512 < n → false ≡ countsFit n m g
+unfolding countsFit
 too-many n m g l = rw (lt-leb n 512 l)
 
-pub too-visible : (n m g : ℕ) → n ≤ 512 → n < m → false ≡ sized n m g
-unfolding sized
+pub too-visible : (n m g : ℕ) → n ≤ 512 → n < m → false ≡ countsFit n m g
+unfolding countsFit
 too-visible n m g l h = rw (le-leb n 512 l, lt-leb m n h)
 
-pub by-groups : (n m g : ℕ) → n ≤ 512 → m ≤ n → leb g m ≡ sized n m g
-unfolding sized
+pub by-groups : (n m g : ℕ) → n ≤ 512 → m ≤ n → leb g m ≡ countsFit n m g
+unfolding countsFit
 by-groups n m g l h = rw (le-leb n 512 l, le-leb m n h)
 
-pub sized-n : (n m g : ℕ) → true ≡ sized n m g → n ≤ 512
-unfolding sized
+pub sized-n : (n m g : ℕ) → true ≡ countsFit n m g → n ≤ 512
+unfolding countsFit
 sized-n n m g e = leb-true n 512 (and-fst (leb n 512) (leb m n && leb g m) (sym e))
 
-pub sized-g : (n m g : ℕ) → true ≡ sized n m g → g ≤ 512
-unfolding sized
+pub sized-g : (n m g : ℕ) → true ≡ countsFit n m g → g ≤ 512
+unfolding countsFit
 sized-g n m g e =
     let a = and-snd (leb n 512) (leb m n && leb g m) (sym e) in
     omega (arith, sized-n n m g e, leb-true m n (and-fst (leb m n) (leb g m) a), leb-true g m (and-snd (leb m n) (leb g m) a))
@@ -123,7 +123,7 @@ module _ (s : List ℕ) (from n m g : ℕ) (least₀ least firsts₀ firsts kind
     held : GroupsHeld g s 8 next least firsts kinds
     held = groups .held next left is
 
-    pub body-placed : g ≤ maxNodes → length firsts₀ ≡ maxNodes → Placed g firsts
+    pub body-placed : g ≤ maxNodes → length firsts₀ ≡ maxNodes → FirstsPlaced g firsts
     body-placed few l = record { few = few; size = let e = groups .size in omega arith; small = held .placed }
 
     pub body-read : (joined : List ℕ) (at : ℕ) (b : Bool) → SuperedgesRead g s next firsts joined₀ joined at → b ≡ endsAt left s at → BodyRead s n m g least kinds joined b
@@ -144,7 +144,7 @@ module _ (s : List ℕ) (from n m g : ℕ) (least₀ least firsts₀ firsts kind
       };
     }
       where
-        pairs : b ≡ true → pairsTo g s 0 (length s) next ≡ superedgesAt (length s) (restFrom s 8 g)
+        pairs : b ≡ true → pairsTo g s 0 (length s) next ≡ superedgesAt (length s) (bytesAfter s 8 g)
         pairs t = pairs-told g s (length s) 0 next (is-end left s (stopAt g s 0 (length s) next) (ap (endsAt left s) (sym (x .place)) ∙ sym e ∙ t)) ∙ ap (superedgesAt (length s)) (held .rest)
 
 decode-refused : (s least kinds joined : List ℕ) → false ≡ accepted s → length least ≡ maxNodes → length kinds ≡ maxNodes → length joined ≡ rowWords * maxNodes → Decodes s least kinds joined answer.NoRelease
@@ -174,7 +174,7 @@ module _ (s : List ℕ) (at : ℕ) (head : Record) (least₀ kinds₀ joined₀ 
       by-kind Malformed e = sym (unfold accepted in rw (is-item Malformed e))
 
   module _ (n m g : ℕ) (is : head ≡ Head n m g) where
-    by-head : accepted s ≡ (sized n m g && bodyFits s n m g)
+    by-head : accepted s ≡ (countsFit n m g && bodyFits s n m g)
     by-head = unfold accepted in rw (is-item (Head n m g) is)
 
     numbers : (8 ≤ length s) × (n ≡ u16At s 2) × (m ≡ u16At s 4) × (g ≡ u16At s 6)
@@ -183,10 +183,10 @@ module _ (s : List ℕ) (at : ℕ) (head : Record) (least₀ kinds₀ joined₀ 
     pub after-head : at ≡ 8
     after-head = unfold sizeOf in (next-is s 0 (record { next = at; item = head }) (after .read) ∙ ap (λ (x : Record). 0 + sizeOf x) is)
 
-    pub wrong-size : false ≡ sized n m g → Decodes s least₀ kinds₀ joined₀ answer.NoRelease
+    pub wrong-size : false ≡ countsFit n m g → Decodes s least₀ kinds₀ joined₀ answer.NoRelease
     wrong-size e = refused (sym (by-head ∙ rw (← e)))
 
-    module _ (fits : true ≡ sized n m g) (least kinds joined : List ℕ) (b : Bool) (body : BodyRead s n m g least kinds joined b) where
+    module _ (fits : true ≡ countsFit n m g) (least kinds joined : List ℕ) (b : Bool) (body : BodyRead s n m g least kinds joined b) where
       by-body : accepted s ≡ b
       by-body = by-head ∙ rw (← fits) (sym (body .result))
 
@@ -199,5 +199,5 @@ module _ (s : List ℕ) (at : ℕ) (head : Record) (least₀ kinds₀ joined₀ 
         nodes = body .nodes;
         groups = body .groups;
         rows = body .rows;
-        told = λ t. unfold toldGroups toldSuperedges groupsFrom restFrom in rw (← numbers .3) (body .told e);
+        told = λ t. unfold toldGroups toldSuperedges groupsFrom bytesAfter in rw (← numbers .3) (body .told e);
       }

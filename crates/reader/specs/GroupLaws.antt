@@ -20,26 +20,26 @@ use Rattle.records.specs.declared.Lessened.the-variants.{Left, Over}
 use Rattle.records.specs.declared.Record.{Record}
 use Rattle.records.specs.declared.Record.the-variants.{Head, Group, Superedge, End, Malformed}
 use Rattle.records.specs.declared.Read.{Read}
-use Rattle.records.specs.Records.{itemIn, lessGroup, lessMember, readAs, recordAt, sizeOf, whole, groupItem, headItem, superedgeItem}
+use Rattle.records.specs.Records.{groupItem, headItem, ifWhole, itemIn, lessGroup, lessMember, readAs, recordAt, sizeOf, superedgeItem}
 use Rattle.records.specs.RecordLaws.{u16-drop}
-use Rattle.rows.specs.Rows.{noNode}
-use Rattle.compressed.specs.Compressed.{clique, firstAt, firstOf, independent, kindBy, kindLed, leads, single}
+use Rattle.rows.specs.Rows.{leads, noNode}
+use Rattle.compressed.specs.Compressed.{clique, firstAt, firstMemberOf, independent, kindLed, kindMarked, single}
 use Rattle.reader.specs.declared.Grouped.{Grouped}
 use Rattle.reader.specs.declared.Grouped.the-variants.{Taken, Missing}
 use Rattle.reader.specs.declared.Groups.the-variants.{Whole, Broken}
-use Rattle.reader.specs.Decoding.{GroupTaken, GroupsHeld, GroupsLeft, GroupsRead, LeastPut, LeastPutting, MembersRead, countAt, groupBy, groupTaken, groupsFrom, groupsRead, leastCount, listedAt, membersRead, numbersAt, onLess, onTaken, restAt, restFrom, taken}
+use Rattle.reader.specs.Decoding.{GroupTaken, GroupsHeld, GroupsLeft, GroupsRead, LeastPut, LeastPutting, MembersRead, bytesAfter, countAt, groupBy, groupTaken, groupsFrom, groupsRead, leastCount, listedAt, membersRead, numbersAt, onLess, onTaken, restAt, taken}
 
 -- the kind and the least count of a group
-pub kind-clique : (count : ℕ) → clique ≡ kindBy true count
-unfolding kindBy
+pub kind-clique : (count : ℕ) → clique ≡ kindMarked true count
+unfolding kindMarked
 kind-clique count = refl
 
-pub kind-single : (count : ℕ) → count ≡ 1 → single ≡ kindBy false count
-unfolding kindBy
+pub kind-single : (count : ℕ) → count ≡ 1 → single ≡ kindMarked false count
+unfolding kindMarked
 kind-single count e = rw (eq-eqb count 1 e)
 
-pub kind-independent : (count : ℕ) → (count ≡ 1 → ⊥) → independent ≡ kindBy false count
-unfolding kindBy
+pub kind-independent : (count : ℕ) → (count ≡ 1 → ⊥) → independent ≡ kindMarked false count
+unfolding kindMarked
 kind-independent count h = rw (ne-eqb count 1 h)
 
 pub least-clique : 2 ≡ leastCount true
@@ -172,8 +172,8 @@ Fits r (Superedge i j) = (6 ≤ length r) × (i ≡ u16At r 2) × (j ≡ u16At r
 Fits r End = (2 ≤ length r) × (getD r 0 0 ≡ 0x45)
 Fits r Malformed = Unit {0}
 
-whole-fits : (r : List ℕ) (size : ℕ) (i : Record) → (size ≤ length r → Fits r i) → Fits r (whole r size i)
-unfolding whole
+whole-fits : (r : List ℕ) (size : ℕ) (i : Record) → (size ≤ length r → Fits r i) → Fits r (ifWhole r size i)
+unfolding ifWhole
 whole-fits r size i f = step (decide (leb size (length r)))
   where
     step : (leb size (length r) ≡ true) ⊎ (leb size (length r) ≡ false) → Fits r (cond (leb size (length r)) i Malformed)
@@ -280,7 +280,7 @@ module _ (n low : ℕ) (c : Counts) (s : List ℕ) (at : ℕ) (t : List ℕ) whe
           unfolding listedAt
           listed = ap₂ (λ (x y : ℕ). numbersAt s x y) four (group-told s at r read q count item .2)
 
-          pub all-members : (kind first : ℕ) (e : Counts) → p ≡ Left e → kind ≡ kindBy q count → first ≡ u16At s (r .next) → GroupTaken n low c s at t now (Taken kind first (r .next + 2 * count) e)
+          pub all-members : (kind first : ℕ) (e : Counts) → p ≡ Left e → kind ≡ kindMarked q count → first ≡ u16At s (r .next) → GroupTaken n low c s at t now (Taken kind first (r .next + 2 * count) e)
           all-members kind first e is k f = record {
             result = sym (sym (by-item (Group q count) item) ∙ (rw (← least, le-leb m count enough, roomy, ← less, left, ← by-members, is, k, f, four)));
             size = members .size;
@@ -325,7 +325,7 @@ pub record GroupTold (n : ℕ) (f : ℕ → Bool) (s : List ℕ) (at kind first 
   pub after : next ≡ at + 4 + 2 * countAt s at
   pub leader : first ≡ headOr 0 (listedAt s at)
   pub listed : member first (listedAt s at) ≡ true
-  pub sort : kind ≡ kindBy (eqb (getD s (at + 1) 0) 0x43) (length (listedAt s at))
+  pub sort : kind ≡ kindMarked (eqb (getD s (at + 1) 0) 0x43) (length (listedAt s at))
   pub free : (p : ℕ) → member p (listedAt s at) ≡ true → (p < n) × (f p ≡ false)
 
 module _ (n : ℕ) (f : ℕ → Bool) (low : ℕ) (c : Counts) (s : List ℕ) (at kind first next : ℕ) (d : Counts) where
@@ -334,11 +334,11 @@ module _ (n : ℕ) (f : ℕ → Bool) (low : ℕ) (c : Counts) (s : List ℕ) (a
   taken-told e = by-item (itemIn (drop at s)) (item-fits (drop at s)) e
     where
       by-members : (q : Bool) (count : ℕ) (y : Counts) (o : Lessened) → membersRead n f low y (numbersAt s (at + 4) count) ≡ o → 0 < count → count ≡ countAt s at → q ≡ eqb (getD s (at + 1) 0) 0x43
-          → onLess o (λ z. Taken (kindBy q count) (u16At s (at + 4)) (at + 4 + 2 * count) z) Missing ≡ Taken kind first next d → GroupTold n f s at kind first next
+          → onLess o (λ z. Taken (kindMarked q count) (u16At s (at + 4)) (at + 4 + 2 * count) z) Missing ≡ Taken kind first next d → GroupTold n f s at kind first next
       by-members q count y (Left z) h some is mark k =
           let i : next ≡ at + 4 + 2 * count = cc in
           let j : first ≡ u16At s (at + 4) = cc in
-          let l : kind ≡ kindBy q count = cc in
+          let l : kind ≡ kindMarked q count = cc in
           let listed : numbersAt s (at + 4) count ≡ listedAt s at = unfold listedAt in (ap (numbersAt s (at + 4)) is) in
           let size : count ≡ length (listedAt s at) = is ∙ sym (unfold listedAt numbersAt in length-numbers (countAt s at) (drop (at + 4) s)) in
           let head : first ≡ headOr 0 (listedAt s at) = j ∙ numbers-first s (at + 4) count some ∙ ap (headOr 0) listed in
@@ -346,13 +346,13 @@ module _ (n : ℕ) (f : ℕ → Bool) (low : ℕ) (c : Counts) (s : List ℕ) (a
             after = i ∙ ap (λ (u : ℕ). at + 4 + 2 * u) is;
             leader = head;
             listed = ap (λ (x : ℕ). member x (listedAt s at)) head ∙ head-in (listedAt s at) (omega arith);
-            sort = l ∙ ap₂ kindBy mark size;
+            sort = l ∙ ap₂ kindMarked mark size;
             free = λ p m. members-free n f low y z (numbersAt s (at + 4) count) h p (ap (member p) listed ∙ m);
           }
       by-members q count y Over h some is mark k = let z : _≡_ {A = ℕ} 0 1 = cc in absurd (omega arith)
 
       by-count : (q : Bool) (count : ℕ) (o : Lessened) → 0 < count → count ≡ countAt s at → q ≡ eqb (getD s (at + 1) 0) 0x43
-          → onLess o (λ y. onLess (membersRead n f low y (numbersAt s (at + 4) count)) (λ z. Taken (kindBy q count) (u16At s (at + 4)) (at + 4 + 2 * count) z) Missing) Missing ≡ Taken kind first next d → GroupTold n f s at kind first next
+          → onLess o (λ y. onLess (membersRead n f low y (numbersAt s (at + 4) count)) (λ z. Taken (kindMarked q count) (u16At s (at + 4)) (at + 4 + 2 * count) z) Missing) Missing ≡ Taken kind first next d → GroupTold n f s at kind first next
       by-count q count (Left y) some is mark k = by-members q count y (membersRead n f low y (numbersAt s (at + 4) count)) refl some is mark k
       by-count q count Over some is mark k = let z : _≡_ {A = ℕ} 0 1 = cc in absurd (omega arith)
 
@@ -404,9 +404,9 @@ module _ (n : ℕ) where
       by (Group q count) = ap (λ (o : Grouped). cond (leb (leastCount q) count && leb (at + 4 + 2 * count) (length s)) o Missing) (less (lessGroup c))
         where
           less : (o : Lessened)
-              → onLess o (λ d. onLess (membersRead n f low d (numbersAt s (at + 4) count)) (λ e. Taken (kindBy q count) (u16At s (at + 4)) (at + 4 + 2 * count) e) Missing) Missing
-              ≡ onLess o (λ d. onLess (membersRead n g low d (numbersAt s (at + 4) count)) (λ e. Taken (kindBy q count) (u16At s (at + 4)) (at + 4 + 2 * count) e) Missing) Missing
-          less (Left d) = ap (λ (o : Lessened). onLess o (λ e. Taken (kindBy q count) (u16At s (at + 4)) (at + 4 + 2 * count) e) Missing) (members-alike f g h low d (numbersAt s (at + 4) count))
+              → onLess o (λ d. onLess (membersRead n f low d (numbersAt s (at + 4) count)) (λ e. Taken (kindMarked q count) (u16At s (at + 4)) (at + 4 + 2 * count) e) Missing) Missing
+              ≡ onLess o (λ d. onLess (membersRead n g low d (numbersAt s (at + 4) count)) (λ e. Taken (kindMarked q count) (u16At s (at + 4)) (at + 4 + 2 * count) e) Missing) Missing
+          less (Left d) = ap (λ (o : Lessened). onLess o (λ e. Taken (kindMarked q count) (u16At s (at + 4)) (at + 4 + 2 * count) e) Missing) (members-alike f g h low d (numbersAt s (at + 4) count))
           less Over = refl
       by (Head x y z) = refl
       by (Superedge x y) = refl
@@ -430,8 +430,8 @@ pub from-step : (s : List ℕ) (at k next : ℕ) → next ≡ at + 4 + 2 * count
 unfolding groupsFrom groupsAt listedAt numbersAt countAt
 from-step s at k next e = rw (e, getD-drop at s 1 0, u16-drop s at 2, drop-drop 4 at s, drop-drop (2 * u16At s (at + 2)) (at + 4) s)
 
-pub after-step : (s : List ℕ) (at k next : ℕ) → next ≡ at + 4 + 2 * countAt s at → restFrom s at (suc k) ≡ restFrom s next k
-unfolding restFrom afterGroups countAt
+pub after-step : (s : List ℕ) (at k next : ℕ) → next ≡ at + 4 + 2 * countAt s at → bytesAfter s at (suc k) ≡ bytesAfter s next k
+unfolding bytesAfter afterGroups countAt
 after-step s at k next e = rw (e, u16-drop s at 2, drop-drop 4 at s, drop-drop (2 * u16At s (at + 2)) (at + 4) s)
 
 read-missing : (n k : ℕ) (f : ℕ → Bool) (low : ℕ) (c : Counts) (s : List ℕ) (at : ℕ) → groupTaken n f low c s at ≡ Missing → groupsRead n (suc k) f low c s at ≡ Broken
@@ -491,7 +491,7 @@ module _ (n g : ℕ) (c : Counts) (s : List ℕ) (from : ℕ) where
         result = ap (λ (x : ℕ). groupsRead n x (taken least) 0 c s from) e ∙ groups-alike n g (taken least) (λ p. false) (λ p h. free p (omega arith)) 0 c s from;
         nodes = filled-size least noNode l;
         groups = filled-size kinds single k;
-        first = λ p h. ap₂ (λ (b : Bool) (x : ℕ). cond b (getD least p 0) (firstOf (groupsFrom s from x) p)) (free p h) e;
+        first = λ p h. ap₂ (λ (b : Bool) (x : ℕ). cond b (getD least p 0) (firstMemberOf (groupsFrom s from x) p)) (free p h) e;
         kind = λ p h. ap₂ (λ (b : Bool) (x : ℕ). cond b (getD kinds p 0) (kindLed (groupsFrom s from x) p)) (leads-not least p (λ f. omega (arith, none p h))) e;
         others = λ p h _. ap (λ (t : List ℕ). getD t p 0) k ∙ getD-replicate {A = ℕ} maxNodes p single 0 h;
         led = λ t h. absurd (omega arith);
@@ -570,13 +570,13 @@ module _ (n g : ℕ) (c : Counts) (s : List ℕ) (from : ℕ) where
               ap₂ (λ (b : Bool) (y : ℕ). cond b y x) (taken-by least′ least p (kept p m)) (kept p m)
               ∙ sym (ap (λ (b : Bool). cond (taken least p) (getD least p 0) (cond b (headOr 0 (listedAt s at)) x)) m)
 
-      kind-step : (p x : ℕ) → p < maxNodes → cond (leads least′ p) (getD (set kinds first kind) p 0) x ≡ cond (leads least p) (getD kinds p 0) (cond (eqb p (headOr 0 (listedAt s at))) (kindBy (eqb (getD s (at + 1) 0) 0x43) (length (listedAt s at))) x)
+      kind-step : (p x : ℕ) → p < maxNodes → cond (leads least′ p) (getD (set kinds first kind) p 0) x ≡ cond (leads least p) (getD kinds p 0) (cond (eqb p (headOr 0 (listedAt s at))) (kindMarked (eqb (getD s (at + 1) 0) 0x43) (length (listedAt s at))) x)
       kind-step p x h = by (decide (eqb p first))
         where
           marked : ℕ
-          marked = kindBy (eqb (getD s (at + 1) 0) 0x43) (length (listedAt s at))
+          marked = kindMarked (eqb (getD s (at + 1) 0) 0x43) (length (listedAt s at))
 
-          by : (eqb p first ≡ true) ⊎ (eqb p first ≡ false) → cond (leads least′ p) (getD (set kinds first kind) p 0) x ≡ cond (leads least p) (getD kinds p 0) (cond (eqb p (headOr 0 (listedAt s at))) (kindBy (eqb (getD s (at + 1) 0) 0x43) (length (listedAt s at))) x)
+          by : (eqb p first ≡ true) ⊎ (eqb p first ≡ false) → cond (leads least′ p) (getD (set kinds first kind) p 0) x ≡ cond (leads least p) (getD kinds p 0) (cond (eqb p (headOr 0 (listedAt s at))) (kindMarked (eqb (getD s (at + 1) 0) 0x43) (length (listedAt s at))) x)
           by (inl e) =
               let f : p ≡ first = eqb-true p first e in
               ap₂ (λ (b : Bool) (y : ℕ). cond b y x) (ap (leads least′) f ∙ leads-first) (ap (λ (y : ℕ). getD (set kinds first kind) y 0) f ∙ getD-set-same kinds first kind 0 (omega (arith, first-small, before .groups)) ∙ told .sort)
@@ -599,7 +599,7 @@ module _ (n g : ℕ) (c : Counts) (s : List ℕ) (from : ℕ) where
             ∙ (rw one-more at (before .result));
         nodes = put .size ∙ before .nodes;
         groups = length-set kinds first kind ∙ before .groups;
-        first = λ p h. first-step p (firstOf others p) ∙ sym (ap (λ (l : List (Bool × List ℕ)). cond (taken least p) (getD least p 0) (firstOf l p)) cons ∙ (unfold firstOf in refl)) ∙ before .first p h;
+        first = λ p h. first-step p (firstMemberOf others p) ∙ sym (ap (λ (l : List (Bool × List ℕ)). cond (taken least p) (getD least p 0) (firstMemberOf l p)) cons ∙ (unfold firstMemberOf in refl)) ∙ before .first p h;
         kind = λ p h. kind-step p (kindLed others p) h ∙ sym (ap (λ (l : List (Bool × List ℕ)). cond (leads least p) (getD kinds p 0) (kindLed l p)) cons ∙ (unfold kindLed in refl)) ∙ before .kind p h;
         others = λ p h f. unled p h f (decide (eqb p first));
         led = λ k h. led k h (decide (eqb k i));
@@ -632,7 +632,7 @@ module _ (n g : ℕ) (c : Counts) (s : List ℕ) (from : ℕ) where
 
   pub groups-all : (i low : ℕ) (left : Counts) (at : ℕ) (least firsts₀ firsts kinds : List ℕ) → i ≡ g → length firsts ≡ length firsts₀ → GroupsLeft n g c s from i low left at least firsts kinds → GroupsRead n g c s from least firsts₀ firsts kinds (Whole at left)
   groups-all i low left at least firsts₀ firsts kinds last a x = record {
-    result = sym (whole (g - i) none) ∙ x .result;
+    result = sym (ifWhole (g - i) none) ∙ x .result;
     nodes = x .nodes;
     groups = x .groups;
     size = a;
@@ -640,7 +640,7 @@ module _ (n g : ℕ) (c : Counts) (s : List ℕ) (from : ℕ) where
         λ next l e.
         let f : next ≡ at = cc in
         record {
-          first = λ p h. sym (taken-or least p) ∙ sym (ap (λ (y : List (Bool × List ℕ)). cond (taken least p) (getD least p 0) (firstOf y p)) ended ∙ (unfold firstOf in refl)) ∙ x .first p h;
+          first = λ p h. sym (taken-or least p) ∙ sym (ap (λ (y : List (Bool × List ℕ)). cond (taken least p) (getD least p 0) (firstMemberOf y p)) ended ∙ (unfold firstMemberOf in refl)) ∙ x .first p h;
           kind = λ p h. sym (unmarked p h (decide (leads least p))) ∙ sym (ap (λ (y : List (Bool × List ℕ)). cond (leads least p) (getD kinds p 0) (kindLed y p)) ended ∙ (unfold kindLed in refl)) ∙ x .kind p h;
           led = λ k h. x .led k (omega arith);
           placed = λ k h. x .placed k (omega arith);
@@ -651,11 +651,11 @@ module _ (n g : ℕ) (c : Counts) (s : List ℕ) (from : ℕ) where
       none : g - i ≡ 0
       none = omega arith
 
-      whole : (k : ℕ) → k ≡ 0 → groupsRead n k (taken least) low left s at ≡ Whole at left
-      whole k e = unfold groupsRead in rw e
+      ifWhole : (k : ℕ) → k ≡ 0 → groupsRead n k (taken least) low left s at ≡ Whole at left
+      ifWhole k e = unfold groupsRead in rw e
 
-      after : (k : ℕ) → k ≡ 0 → restFrom s at k ≡ drop at s
-      after k e = unfold restFrom afterGroups in rw e
+      after : (k : ℕ) → k ≡ 0 → bytesAfter s at k ≡ drop at s
+      after k e = unfold bytesAfter afterGroups in rw e
 
       ended : groupsFrom s at (g - i) ≡ []
       ended = unfold groupsFrom groupsAt in rw none

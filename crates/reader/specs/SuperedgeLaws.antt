@@ -19,7 +19,7 @@ use Rattle.records.specs.Records.{itemIn, recordAt, sizeOf, spent}
 use Rattle.drawing.specs.Drawing.{Added, onePair}
 use Rattle.drawing.specs.DrawingLaws.{adding-done, adding-start, adding-step}
 use Rattle.reader.specs.GroupLaws.{Fits, fits-at, item-fits, item-is, next-is}
-use Rattle.reader.specs.Decoding.{Passed, RunLeft, RunRead, RunsLeft, SuperedgesRead, drawnBy, endsAt, inRun, onSuperedge, pairsTo, runPairs, runStop, stopAt}
+use Rattle.reader.specs.Decoding.{RunLeft, RunRead, RunsLeft, RunsPassed, SuperedgesRead, drawnBy, endsAt, inRun, onSuperedge, pairsTo, runPairs, runStop, stopAt}
 
 -- a record that was read at a place
 module _ (s : List ℕ) (at : ℕ) (r : Read) (read : r ≡ recordAt s at) where
@@ -259,7 +259,7 @@ module _ (g i : ℕ) (s : List ℕ) (few : g ≤ u16Limit) where
   agree-next j a b = record { after = omega arith; high = omega arith; there = λ k c d e. omega arith; back = λ k c. omega arith }
 
   -- a superedge from an earlier group is not in order any more
-  passed-next : (j at : ℕ) → Passed g s i (pairKey i j) at
+  passed-next : (j at : ℕ) → RunsPassed g s i (pairKey i j) at
   unfolding pairKey
   passed-next j at a k e l = refuted (follows g (i * u16Limit + j) a k) (λ t. let x = ordered-key g (i * u16Limit + j) a k t in let y = ordered-second g (i * u16Limit + j) a k t in absurd (omega arith))
 
@@ -268,15 +268,15 @@ module _ (g i : ℕ) (s : List ℕ) (few : g ≤ u16Limit) where
     final : ℕ
     enough : length s ≤ runStop g i s last kr at + most
     low : final ≤ suc i * u16Limit
-    passed : Passed g s (suc i) final (runStop g i s last kr at)
+    passed : RunsPassed g s (suc i) final (runStop g i s last kr at)
     place : stopAt g s final most (runStop g i s last kr at) ≡ stopAt g s key k at
     pairs : pairsTo g s key k at ≡ runPairs g i s last kr at ++ pairsTo g s final most (runStop g i s last kr at)
 
   abbrev Walk : ℕ → Type 0
-  Walk kr = (k key last at : ℕ) → length s ≤ at + k → length s ≤ at + kr → Agree key last → Passed g s i key at → AfterRun k key last kr at
+  Walk kr = (k key last at : ℕ) → length s ≤ at + k → length s ≤ at + kr → Agree key last → RunsPassed g s i key at → AfterRun k key last kr at
 
   -- the run has nothing here
-  stays : (kr k key last at : ℕ) → length s ≤ at + k → Agree key last → Passed g s i key at → NotHere g i s last at → AfterRun k key last kr at
+  stays : (kr k key last at : ℕ) → length s ≤ at + k → Agree key last → RunsPassed g s i key at → NotHere g i s last at → AfterRun k key last kr at
   stays kr k key last at l h p none = record {
     most = k;
     final = key;
@@ -287,7 +287,7 @@ module _ (g i : ℕ) (s : List ℕ) (few : g ≤ u16Limit) where
     pairs = rw (run-empty g i s last at kr none, run-stops g i s last at kr none) refl;
   }
     where
-      passed′ : Passed g s (suc i) key at
+      passed′ : RunsPassed g s (suc i) key at
       passed′ a j e b = step (decide (eqb a i))
         where
           step : (eqb a i ≡ true) ⊎ (eqb a i ≡ false) → follows g key a j ≡ false

@@ -4,9 +4,9 @@ ghost use Prim.Native.Nat.{_+_, _*_, _≤_, _<_};
 ghost use lib.ListN.{length, replicate};
 ghost use Rattle.model.specs.Graph.{maxNodes, rowWords};
 ghost use Rattle.rows.specs.Rows.{noNode};
-ghost use Rattle.compressed.specs.Compressed.{kindBy, single};
+ghost use Rattle.compressed.specs.Compressed.{kindMarked, single};
 ghost use Rattle.records.specs.Records.{recordAt};
-ghost use Rattle.reader.specs.Decoding.{AfterHead, Blank, BodyRead, Decodes, GroupTaken, GroupsRead, MembersRead, Placed, RunRead, SuperedgesRead, endsAt, leastCount, numbersAt, sized};
+ghost use Rattle.reader.specs.Decoding.{AfterHead, Blank, BodyRead, Decodes, FirstsPlaced, GroupTaken, GroupsRead, MembersRead, RunRead, SuperedgesRead, countsFit, endsAt, leastCount, numbersAt};
 use compressed::CLIQUE;
 use compressed::INDEPENDENT;
 use compressed::SINGLE;
@@ -17,7 +17,7 @@ use rows::Graph;
 
 // The kind of a group by its mark and count.
 fn kind_of(clique: bool, count: usize) -> u16
-    ensures { λ r. ⌜ r ≡ kindBy clique count ⌝ }
+    ensures { λ r. ⌜ r ≡ kindMarked clique count ⌝ }
 {
     if clique {
         return CLIQUE;
@@ -176,7 +176,7 @@ fn read_run(
     firsts: &[u16],
     joined: &mut [u64],
 ) -> usize
-    requires { ⌜ Placed g (now firsts) × (i < g) × (length (now joined) ≡ rowWords * maxNodes) ⌝ }
+    requires { ⌜ FirstsPlaced g (now firsts) × (i < g) × (length (now joined) ≡ rowWords * maxNodes) ⌝ }
     ensures { λ r. ⌜ RunRead g i (now (file .entry)) from (now (firsts .entry)) (now (joined .entry)) (now (joined .exit)) r ⌝ }
 {
     let p = rows::wide(firsts[i]);
@@ -206,7 +206,7 @@ fn read_run(
 
 // The superedges of a file, run by run. The first place without one in order.
 fn read_superedges(file: &[u8], from: usize, g: usize, firsts: &[u16], joined: &mut [u64]) -> usize
-    requires { ⌜ Placed g (now firsts) × (length (now joined) ≡ rowWords * maxNodes) ⌝ }
+    requires { ⌜ FirstsPlaced g (now firsts) × (length (now joined) ≡ rowWords * maxNodes) ⌝ }
     ensures { λ r. ⌜ SuperedgesRead g (now (file .entry)) from (now (firsts .entry)) (now (joined .entry)) (now (joined .exit)) r ⌝ }
 {
     let mut at = from;
@@ -239,7 +239,7 @@ pub enum Decoded {
 
 // Whether a graph can have the head's numbers.
 fn head_fits(n: usize, m: usize, g: usize) -> bool
-    ensures { λ r. ⌜ r ≡ sized n m g ⌝ }
+    ensures { λ r. ⌜ r ≡ countsFit n m g ⌝ }
 {
     if n > Graph::NODES {
         return false;

@@ -15,7 +15,7 @@ use Rattle.records.specs.declared.Lessened.the-variants.{Left, Over}
 use Rattle.records.specs.declared.Record.{Record}
 use Rattle.records.specs.declared.Record.the-variants.{Head, Group, Superedge, End, Malformed}
 use Rattle.records.specs.declared.Read.{Read}
-use Rattle.records.specs.Records.{lessMember, lessGroup, spent, whole, headItem, groupItem, superedgeItem, itemIn, sizeOf, readAs, markAt, malformedAt, headAt, groupAt, superedgeAt, recordAt}
+use Rattle.records.specs.Records.{groupAt, groupItem, headAt, headItem, ifWhole, itemIn, lessGroup, lessMember, malformedAt, markAt, readAs, recordAt, sizeOf, spent, superedgeAt, superedgeItem}
 
 pub member-over : (c : Counts) → c .members ≡ 0 → Over ≡ lessMember c
 unfolding lessMember
@@ -67,12 +67,12 @@ module _ (s : List ℕ) (at : ℕ) where
       eq-eqb x (a + 256 * b) (omega arith)))
 
   -- how much follows the place
-  short : (size : ℕ) (i : Record) → at ≤ length s → length s < at + size → whole (drop at s) size i ≡ Malformed
-  unfolding whole
+  short : (size : ℕ) (i : Record) → at ≤ length s → length s < at + size → ifWhole (drop at s) size i ≡ Malformed
+  unfolding ifWhole
   short size i l h = rw (lt-leb size (length (drop at s)) (simp length-drop (omega arith)))
 
-  full : (size : ℕ) (i : Record) → at + size ≤ length s → whole (drop at s) size i ≡ i
-  unfolding whole
+  full : (size : ℕ) (i : Record) → at + size ≤ length s → ifWhole (drop at s) size i ≡ i
+  unfolding ifWhole
   full size i h = rw (le-leb size (length (drop at s)) (simp length-drop (omega arith)))
 
   pub malformed-is : (r : Read) → r ≡ record { next = at; item = Malformed } → r ≡ malformedAt at

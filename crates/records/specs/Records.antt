@@ -24,17 +24,17 @@ unfoldable pub spent : Counts → Bool
 spent c = eqb (c .members) 0 && eqb (c .groups) 0
 
 -- a record, if the bytes are as many as it has
-unfoldable pub whole : List ℕ → ℕ → Record → Record
-whole r size i = cond (leb size (length r)) i Malformed
+unfoldable pub ifWhole : List ℕ → ℕ → Record → Record
+ifWhole r size i = cond (leb size (length r)) i Malformed
 
 unfoldable pub headItem : List ℕ → Record
-headItem r = whole r 8 (Head (u16At r 2) (u16At r 4) (u16At r 6))
+headItem r = ifWhole r 8 (Head (u16At r 2) (u16At r 4) (u16At r 6))
 
 unfoldable pub groupItem : Bool → List ℕ → Record
-groupItem clique r = whole r 4 (Group clique (u16At r 2))
+groupItem clique r = ifWhole r 4 (Group clique (u16At r 2))
 
 unfoldable pub superedgeItem : List ℕ → Record
-superedgeItem r = whole r 6 (Superedge (u16At r 2) (u16At r 4))
+superedgeItem r = ifWhole r 6 (Superedge (u16At r 2) (u16At r 4))
 
 -- the record that bytes begin with
 unfoldable pub itemIn : List ℕ → Record

@@ -27,7 +27,7 @@ pub record MarksTaken (i : ℕ) (nodes t after : List ℕ) : Type 0 where
   pub marks : (p : ℕ) → p < i → getD after p 0 ≡ nodeNumber nodes p 3
 
 -- the edge table of a graph held by its groups
-pub record Filled (n : ℕ) (first kinds joined edges : List ℕ) : Type 0 where
+pub record EdgesFilled (n : ℕ) (first kinds joined edges : List ℕ) : Type 0 where
   pub exact : Exact n first kinds joined
   pub edges-of : edges ≡ edgesOf (unfolded n first kinds joined)
 

@@ -20,6 +20,7 @@ use Rattle.model.specs.Calls.{openRefused, readReasons, readCall, listRefused, 
 use Rattle.model.specs.TestLaws.{decide}
 use Rattle.model.specs.RefusalLaws.{first-none}
 use Rattle.model.specs.ListLaws.{filter-cong, nodes-out}
+use Rattle.buffers.specs.ScanLaws.{scan-nodes}
 use Rattle.buffers.specs.Scan.{scan}
 use Rattle.buffers.specs.WroteLaws.{sets-onto}
 use Rattle.reader.specs.declared.Decoded.{Decoded}
@@ -29,7 +30,6 @@ use Rattle.compressed.specs.Compressed.{placed, unfolded}
 use Rattle.unfolding.specs.Unfolding.{NeighbourRow}
 use Rattle.index.specs.Index.{opened, listed}
 use Rattle.index.specs.IndexLaws.{call-refused, call-done}
-use Rattle.queries.specs.QueryLaws.{scan-nodes}
 use Rattle.judging.specs.Numbers.{askedNumber, readNumber}
 use Rattle.judging.specs.Judging.{Exact, Judged}
 use Rattle.release.specs.Release.{rowTold}

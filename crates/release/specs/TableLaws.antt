@@ -13,7 +13,7 @@ use Rattle.model.specs.TestLaws.{differ}
 use Rattle.rows.specs.Rows.{lent, noNode}
 use Rattle.search.specs.Search.{Within, edgesIn, graphIn as rowsGraph}
 use Rattle.search.specs.SearchLaws.{edges-in}
-use Rattle.rings.specs.Steps.{Built, Grouped, Leading}
+use Rattle.rings.specs.Steps.{Built, Leading, LeastAndMarks}
 use Rattle.rings.specs.BuildLaws.{grouped-leading}
 use Rattle.keys.specs.KeySums.{LeastTold}
 use Rattle.compressed.specs.Compressed.{placed, unfolded}
@@ -61,7 +61,7 @@ module _ (n : ℕ) {first kinds joined : List ℕ} (h : Exact n first kinds join
 
   module _ (ns : List ℕ) {ns₁ : List ℕ} (ln : length ns ≡ nodeNumbers * n) (m : MarksPut n first ns ns₁) where
     -- the node table is built from the least members
-    pub filled-grouped : {lst : List ℕ} → LeastTold n es₁ lst → Grouped (unfolded n first kinds joined) lst ns₁
+    pub filled-grouped : {lst : List ℕ} → LeastTold n es₁ lst → LeastAndMarks (unfolded n first kinds joined) lst ns₁
     filled-grouped {lst} t = record {
       proper = h .proper;
       least = unfold unfolded in (λ p l. t .told p l ∙ rw same-edge refl);

@@ -8,7 +8,7 @@ ghost use Rattle.model.specs.Calls.{fileNeighboursCall, readCall, releaseCall};
 ghost use Rattle.rows.specs.Rows.{lent};
 ghost use Rattle.masking.specs.Masking.{Drawn, markedGraph};
 ghost use Rattle.layout.specs.Truth.{Truth};
-ghost use Rattle.writer.specs.Written.{answer};
+ghost use Rattle.writer.specs.Written.{releasedBy};
 ghost use Rattle.index.specs.Index.{listed, opened};
 ghost use Rattle.tables.specs.Lent.{Held};
 ghost use Rattle.release.specs.Release.{told};
@@ -44,7 +44,7 @@ fn least_members(edges: &[u64], hidden: &[u16], n: usize, least: &mut [u16])
 // The release of the graph that tables hold, or 18.
 fn write_visible(n: usize, edges: &[u64], nodes: &[u16], keys: &[u32], out: &mut [u8]) -> Written
     requires { ⌜ Held n (lent (now edges) (now nodes) (now keys)) ⌝ }
-    ensures { λ r. ⌜ answer r (now (out .exit)) ≡ told (graphOf n (lent (now (edges .entry)) (now (nodes .entry)) (now (keys .entry)))) (now (out .entry)) ⌝ }
+    ensures { λ r. ⌜ releasedBy r (now (out .exit)) ≡ told (graphOf n (lent (now (edges .entry)) (now (nodes .entry)) (now (keys .entry)))) (now (out .entry)) ⌝ }
 {
     let mut hidden = [0u16; Graph::NODES];
     copies::take_marks(nodes, n, &mut hidden);
@@ -55,7 +55,7 @@ fn write_visible(n: usize, edges: &[u64], nodes: &[u16], keys: &[u32], out: &mut
 
 // The release file of the visible part, and its m, g, s and length. 0, or 11, 12, 18.
 pub fn release(n: usize, edges: &[u64], nodes: &[u16], keys: &[u32], out: &mut [u8]) -> Written
-    ensures { λ r. ⌜ answer r (now (out .exit)) ≡ releaseCall n (lent (now (edges .entry)) (now (nodes .entry)) (now (keys .entry))) (now (out .entry)) ⌝ }
+    ensures { λ r. ⌜ releasedBy r (now (out .exit)) ≡ releaseCall n (lent (now (edges .entry)) (now (nodes .entry)) (now (keys .entry))) (now (out .entry)) ⌝ }
 {
     let number = tables::refusal(n, edges, nodes, keys);
     if number != 0 {

@@ -8,7 +8,7 @@ ghost use Rattle.compressed.specs.Compressed.{unfolded};
 ghost use Rattle.judging.specs.Judging.{Exact};
 ghost use Rattle.adopting.specs.Adopting.{VisibleTold};
 ghost use Rattle.tables.specs.Lent.{Sized};
-ghost use Rattle.release.specs.Fill.{Filled, Keyed};
+ghost use Rattle.release.specs.Fill.{EdgesFilled, Keyed};
 use crate::copies;
 
 // The first members of all nodes, and with them the keys by rows: for rows with many bits.
@@ -29,7 +29,7 @@ fn key_groups(
     edges: &[u64],
     keys: &mut [u32],
 )
-    requires { ⌜ Filled n (now least) (now kinds) (now joined) (now edges) × (length (now keys) ≡ 2 * n) ⌝ }
+    requires { ⌜ EdgesFilled n (now least) (now kinds) (now joined) (now edges) × (length (now keys) ≡ 2 * n) ⌝ }
     ensures { λ _. ⌜ Keyed n (now (edges .entry)) (now (least .exit)) (now (keys .exit)) ⌝ }
 {
     sums::sum_grouped(joined, least, kinds, keys, n);
@@ -45,7 +45,7 @@ fn fill_keys(
     edges: &[u64],
     keys: &mut [u32],
 )
-    requires { ⌜ Filled n (now least) (now kinds) (now joined) (now edges) × (length (now keys) ≡ 2 * n) ⌝ }
+    requires { ⌜ EdgesFilled n (now least) (now kinds) (now joined) (now edges) × (length (now keys) ≡ 2 * n) ⌝ }
     ensures { λ _. ⌜ Keyed n (now (edges .entry)) (now (least .exit)) (now (keys .exit)) ⌝ }
 {
     if keys::has_many_bits(joined) {

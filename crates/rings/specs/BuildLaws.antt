@@ -11,10 +11,10 @@ use Rattle.model.specs.Grouping.{similar}
 use Rattle.model.specs.Tables.{nodeNumber, nodesOf}
 use Rattle.model.specs.TableLaws.{least-at}
 use Rattle.rings.specs.Ring.{Of, Parts}
-use Rattle.rings.specs.Steps.{Built, Follows, Grouped, MarksKept, Leading, Linked, Rings, Stored}
+use Rattle.rings.specs.Steps.{Built, Follows, Leading, LeastAndMarks, Linked, MarksKept, Rings, Stored}
 use Rattle.rings.specs.StoreLaws.{at, off, beside, size}
 use Rattle.rings.specs.NodesLaws.{graph-parts, is-nodes, of-nodes}
-use Rattle.rings.specs.CertificateLaws.{Led, certified, led}
+use Rattle.rings.specs.CertificateLaws.{LedByClass, certified, led}
 
 pub rings-none : (lst t : List ℕ) → Rings 0 lst t
 rings-none lst t = record { least = λ p h. absurd (omega arith); follows = λ p h. absurd (omega arith) }
@@ -115,7 +115,7 @@ module _ {n i l : ℕ} {lst t t₁ : List ℕ} (k : Leading n lst) (s : length t
             (subst (λ x. (x ≡ p) ⊎ (nodeNumber t p 2 < p)) (sym (old p j)) (w .order))
 
 -- what a table must have of the model's: the least members
-led-same : {n : ℕ} {R : ℕ → ℕ → Type 0} (t : List ℕ) {t′ : List ℕ} → Parts n R → Led n R t → ((p : ℕ) → p < n → nodeNumber t′ p 0 ≡ nodeNumber t p 0) → Led n R t′
+led-same : {n : ℕ} {R : ℕ → ℕ → Type 0} (t : List ℕ) {t′ : List ℕ} → Parts n R → LedByClass n R t → ((p : ℕ) → p < n → nodeNumber t′ p 0 ≡ nodeNumber t p 0) → LedByClass n R t′
 led-same {n} {R} t {t′} k a s = record {
   low = λ p hp. omega (arith, s p hp, a .low p hp);
   leads = λ p hp. rw (s p hp) (s (nodeNumber t p 0) (k .below (a .alike p hp)) ∙ a .leads p hp);
@@ -124,14 +124,14 @@ led-same {n} {R} t {t′} k a s = record {
 }
 
 -- lst has the least members of the groups, so the table is the model's
-module _ {g : Graph} {lst t : List ℕ} (a : Grouped g lst t) where
+module _ {g : Graph} {lst t : List ℕ} (a : LeastAndMarks g lst t) where
   abbrev R : ℕ → ℕ → Type 0
   R = Of (g .nodeCount) (similar (whole g))
 
   parts : Parts (g .nodeCount) (Of (g .nodeCount) (similar (whole g)))
   parts = graph-parts g (a .proper)
 
-  model : Led (g .nodeCount) (Of (g .nodeCount) (similar (whole g))) (nodesOf g)
+  model : LedByClass (g .nodeCount) (Of (g .nodeCount) (similar (whole g))) (nodesOf g)
   model = led parts (nodesOf g) (of-nodes g (a .proper))
 
   is-least : (p : ℕ) → p < g .nodeCount → getD lst p 0 ≡ nodeNumber (nodesOf g) p 0

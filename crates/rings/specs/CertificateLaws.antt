@@ -16,7 +16,7 @@ use Rattle.rings.specs.Steps.{Follows}
 use Rattle.rings.specs.RingLaws.{Way, inverse, over, round, up-circle, way}
 
 -- every node's least member is in its class and leads itself, and no two leaders are of one class
-pub record Led (n : ℕ) (R : ℕ → ℕ → Type 0) (t : List ℕ) : Type 0 where
+pub record LedByClass (n : ℕ) (R : ℕ → ℕ → Type 0) (t : List ℕ) : Type 0 where
   pub low : (p : ℕ) → p < n → nodeNumber t p 0 ≤ p
   pub leads : (p : ℕ) → p < n → nodeNumber t (nodeNumber t p 0) 0 ≡ nodeNumber t p 0
   pub alike : (p : ℕ) → p < n → R p (nodeNumber t p 0)
@@ -52,7 +52,7 @@ module _ {n : ℕ} {R : ℕ → ℕ → Type 0} (k : Parts n R) (t : List ℕ) w
   prev p = nodeNumber t p 2
 
   -- the test is passed
-  module _ (h : Led n R t) where
+  module _ (h : LedByClass n R t) where
     inside : (p : ℕ) → p < n → nodeNumber t p 0 < n
     inside p hp = omega (arith, h .low p hp)
 
@@ -199,7 +199,7 @@ module _ {n : ℕ} {R : ℕ → ℕ → Type 0} (k : Parts n R) (t : List ℕ) w
         let hq : q < n = k .below x in
         le-antisymm (a .least p hp .near (least q) (k .on x (a .least q hq .mem))) (a .least q hq .near (least p) (k .on (k .back x) (a .least p hp .mem)))
 
-    pub led : Led n R t
+    pub led : LedByClass n R t
     led = record {
       low = λ p hp. a .least p hp .near p (k .own hp);
       leads = λ p hp. sym (one-least (a .least p hp .mem));

@@ -24,8 +24,8 @@ count zero f = 0
 count (suc k) f = count k f + bit (f k)
 
 -- p is the least member of its group
-abbrev pub leads : List ℕ → ℕ → Bool
-leads t p = eqb (nodeNumber t p 0) p
+abbrev pub leadsIn : List ℕ → ℕ → Bool
+leadsIn t p = eqb (nodeNumber t p 0) p
 
 pub count-same : (k : ℕ) {f g : ℕ → Bool} → ((p : ℕ) → p < k → f p ≡ g p) → count k f ≡ count k g
 unfolding count
@@ -44,13 +44,13 @@ count-more (suc k) {f} {g} x h a b e = go (ℕ-discrete x k) (λ i. count-more k
 module _ {n : ℕ} {R : ℕ → ℕ → Type 0} (k : Parts n R) {t : List ℕ} (a : Table n R t) where
   module _ {u : ℕ} (hu : u < n) {t′ : List ℕ} (x : Taken n u t t′) where
     -- u was alone
-    pub count-alone : nodeNumber t u 1 ≡ u → count n (leads t′) ≡ count n (leads t)
+    pub count-alone : nodeNumber t u 1 ≡ u → count n (leadsIn t′) ≡ count n (leadsIn t)
     count-alone e = count-same n (λ p hp. go p hp (ℕ-discrete p u))
       where
         no-other : {p : ℕ} → R u p → ¬ (p ≢ u)
         no-other y ne = followed k (up-circle n) (a .next) y ne e
 
-        go : (p : ℕ) → p < n → Dec (p ≡ u) → leads t′ p ≡ leads t p
+        go : (p : ℕ) → p < n → Dec (p ≡ u) → leadsIn t′ p ≡ leadsIn t p
         go p hp (yes i) = rw i (eq-eqb _ _ (x .least-u) ∙ sym (eq-eqb _ _ (own (ℕ-discrete (nodeNumber t u 0) u))))
           where
             own : Dec (nodeNumber t u 0 ≡ u) → nodeNumber t u 0 ≡ u
@@ -59,7 +59,7 @@ module _ {n : ℕ} {R : ℕ → ℕ → Type 0} (k : Parts n R) {t : List ℕ} (
         go p hp (no i) = ap (λ v. eqb v p) (x .least-off p hp i (λ j. no-other (k .back (subst (λ v. R p v) j (a .least p hp .mem))) i))
 
     -- u leaves others behind
-    pub count-others-left : nodeNumber t u 1 ≢ u → count n (leads t′) ≡ count n (leads t) + 1
+    pub count-others-left : nodeNumber t u 1 ≢ u → count n (leadsIn t′) ≡ count n (leadsIn t) + 1
     count-others-left nb = first (ℕ-discrete (nodeNumber t u 0) u)
       where
         xb : R u (nodeNumber t u 1)
@@ -68,13 +68,13 @@ module _ {n : ℕ} {R : ℕ → ℕ → Type 0} (k : Parts n R) {t : List ℕ} (
         hb : nodeNumber t u 1 < n
         hb = k .below xb
 
-        first : Dec (nodeNumber t u 0 ≡ u) → count n (leads t′) ≡ count n (leads t) + 1
+        first : Dec (nodeNumber t u 0 ≡ u) → count n (leadsIn t′) ≡ count n (leadsIn t) + 1
         first (yes e) =
             let lb : nodeNumber t (nodeNumber t u 1) 0 ≡ u = sym (one-least k a xb) ∙ e in
             count-more n (nodeNumber t u 1) hb (ne-eqb _ _ (λ i. nb (sym i ∙ lb))) (eq-eqb _ _ (x .least-hit _ hb nb e lb))
             (λ p hp ne. go p hp ne (ℕ-discrete p u) (ℕ-discrete (nodeNumber t p 0) u))
           where
-            go : (p : ℕ) → p < n → p ≢ nodeNumber t u 1 → Dec (p ≡ u) → Dec (nodeNumber t p 0 ≡ u) → leads t p ≡ leads t′ p
+            go : (p : ℕ) → p < n → p ≢ nodeNumber t u 1 → Dec (p ≡ u) → Dec (nodeNumber t p 0 ≡ u) → leadsIn t p ≡ leadsIn t′ p
             go p hp ne (yes i) d = rw i (eq-eqb _ _ e ∙ sym (eq-eqb _ _ (x .least-u)))
             go p hp ne (no i) (yes j) = ne-eqb _ _ (λ s. i (sym s ∙ j)) ∙ sym (ne-eqb _ _ (λ s. ne (sym s ∙ x .least-hit p hp i e j)))
             go p hp ne (no i) (no j) = ap (λ v. eqb v p) (sym (x .least-off p hp i j))
@@ -82,13 +82,13 @@ module _ {n : ℕ} {R : ℕ → ℕ → Type 0} (k : Parts n R) {t : List ℕ} (
             count-more n u hu (ne-eqb _ _ e) (eq-eqb _ _ (x .least-u))
             (λ p hp ne. ap (λ v. eqb v p) (sym (x .least-off p hp ne (λ i. e (sym (one-least k a (subst (λ v. R p v) i (a .least p hp .mem))) ∙ i)))))
 
-    pub count-taken : {b r : ℕ} → b ≡ nodeNumber t u 1 → OthersLeft b u r → count n (leads t′) ≡ count n (leads t) + r
+    pub count-taken : {b r : ℕ} → b ≡ nodeNumber t u 1 → OthersLeft b u r → count n (leadsIn t′) ≡ count n (leadsIn t) + r
     count-taken f (stayed e i) = count-alone (sym f ∙ e) ∙ omega arith
     count-taken f (left e i) = count-others-left (λ j. e (f ∙ j)) ∙ omega arith
 
 module _ {n : ℕ} {R : ℕ → ℕ → Type 0} (k : Parts n R) {u g : ℕ} (x : R u g) (ng : g ≢ u) {t t′ : List ℕ} (a : Table n (Out u R) t) (lg : nodeNumber t g 0 ≡ g) (z : Placed n u g t t′) where
   -- u joined a group
-  pub count-joined : count n (leads t) ≡ count n (leads t′) + 1
+  pub count-joined : count n (leadsIn t) ≡ count n (leadsIn t′) + 1
   count-joined = ⊎-elim at-g at-u (one-of u g (z .lesser))
     where
       hu : u < n
@@ -100,7 +100,7 @@ module _ {n : ℕ} {R : ℕ → ℕ → Type 0} (k : Parts n R) {u g : ℕ} (x :
       lu : nodeNumber t u 0 ≡ u
       lu = a .least u hu .mem .1 refl
 
-      at-g : z .h ≡ g → count n (leads t) ≡ count n (leads t′) + 1
+      at-g : z .h ≡ g → count n (leadsIn t) ≡ count n (leadsIn t′) + 1
       at-g e =
           count-more n u hu (ne-eqb _ _ (λ i. ng (sym e ∙ sym (z .put .least-u) ∙ i))) (eq-eqb _ _ lu)
           (λ p hp ne. ap (λ v. eqb v p) (go p hp ne (ℕ-discrete (nodeNumber t p 0) g)))
@@ -109,12 +109,12 @@ module _ {n : ℕ} {R : ℕ → ℕ → Type 0} (k : Parts n R) {u g : ℕ} (x :
           go p hp ne (yes i) = z .put .least-hit p hp ne i ∙ e ∙ sym i
           go p hp ne (no i) = z .put .least-off p hp ne i
 
-      at-u : z .h ≡ u → count n (leads t) ≡ count n (leads t′) + 1
+      at-u : z .h ≡ u → count n (leadsIn t) ≡ count n (leadsIn t′) + 1
       at-u e =
           count-more n g hg (ne-eqb _ _ (λ i. ng (sym i ∙ z .put .least-hit g hg ng lg ∙ e))) (eq-eqb _ _ lg)
           (λ p hp ne. go p hp ne (ℕ-discrete p u) (ℕ-discrete (nodeNumber t p 0) g))
         where
-          go : (p : ℕ) → p < n → p ≢ g → Dec (p ≡ u) → Dec (nodeNumber t p 0 ≡ g) → leads t′ p ≡ leads t p
+          go : (p : ℕ) → p < n → p ≢ g → Dec (p ≡ u) → Dec (nodeNumber t p 0 ≡ g) → leadsIn t′ p ≡ leadsIn t p
           go p hp ne (yes i) d = rw i (eq-eqb _ _ (z .put .least-u ∙ e) ∙ sym (eq-eqb _ _ lu))
           go p hp ne (no i) (yes j) = ne-eqb _ _ (λ s. i (sym s ∙ z .put .least-hit p hp i j ∙ e)) ∙ sym (ne-eqb _ _ (λ s. ne (sym s ∙ j)))
           go p hp ne (no i) (no j) = ap (λ v. eqb v p) (z .put .least-off p hp i j)

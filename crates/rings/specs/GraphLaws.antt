@@ -23,7 +23,7 @@ use Rattle.model.specs.BoundLaws.{similar-cong}
 use Rattle.model.specs.UpdateLaws.{answer-accepted, apart, proper-updated, rows-kept, u-inside, v-inside}
 use Rattle.rings.specs.Ring.{Table, Of}
 use Rattle.rings.specs.Steps.{Back, OthersLeft, Taken}
-use Rattle.rings.specs.CountLaws.{bit, count, count-same, leads}
+use Rattle.rings.specs.CountLaws.{bit, count, count-same, leadsIn}
 use Rattle.rings.specs.UpdateLaws.{Shift, counted, moved, moved-rest, moved-size}
 use Rattle.rings.specs.NodesLaws.{graph-parts, is-nodes, of-nodes}
 
@@ -57,7 +57,7 @@ module _ (g : Graph) (h : Proper g) where
       let b = of-nodes g h in
       le-antisymm (a .least p hp .near _ (b .least p hp .mem)) (b .least p hp .near _ (a .least p hp .mem)) ∙ least-at g p hp
 
-  pub count-groups : {t : List ℕ} → Table (g .nodeCount) (Of (g .nodeCount) (similar (whole g))) t → count (g .nodeCount) (leads t) ≡ groupCount g
+  pub count-groups : {t : List ℕ} → Table (g .nodeCount) (Of (g .nodeCount) (similar (whole g))) t → count (g .nodeCount) (leadsIn t) ≡ groupCount g
   unfolding groupCount leaders
   count-groups a =
       count-same (g .nodeCount) (λ p hp. ap (λ (v : ℕ). eqb v p) (least-of a p hp))

@@ -10,7 +10,7 @@ use lib.ListN.{length}
 use Rattle.model.specs.Graph.{maxNodes, nodeNumbers}
 use Rattle.model.specs.Tables.{nodeNumber}
 use Rattle.rings.specs.Ring.{up, Parts, Best, Out, Table}
-use Rattle.rings.specs.RingLaws.{up-circle, flip, out-parts, below′, inverse, followed, ring-out, ring-in, after-in, Way, over, round, way, both, move}
+use Rattle.rings.specs.RingLaws.{Way, after-in, below′, both, followed, inverse, move, out-parts, over, reversed, ring-in, ring-out, round, up-circle, way}
 use Rattle.rings.specs.Steps.{Sound, Taken, Before, lower, wrapped, Placed}
 
 module _ {n : ℕ} {R : ℕ → ℕ → Type 0} (k : Parts n R) {t : List ℕ} (a : Table n R t) where
@@ -58,7 +58,7 @@ module _ {n : ℕ} {R : ℕ → ℕ → Type 0} (k : Parts n R) {u : ℕ} (hu : 
       record {
         least = λ p hp. least p hp (ℕ-discrete p u) (ℕ-discrete (nodeNumber t p 0) u);
         next = ring-out k (up-circle n) (a .next) (a .prev) hu (x .next-u) (x .next-hit) (x .next-off);
-        prev = ring-out k (flip (up-circle n)) (a .prev) (a .next) hu (x .prev-u) (x .prev-hit) (x .prev-off);
+        prev = ring-out k (reversed (up-circle n)) (a .prev) (a .next) hu (x .prev-u) (x .prev-hit) (x .prev-off);
       }
     where
       within : {b r : ℕ} → Way n u b (up n u b) → Way n u r (up n u r) → u < b → u < r → up n u b ≤ up n u r → b ≤ r
@@ -167,7 +167,7 @@ module _ {n : ℕ} {R : ℕ → ℕ → Type 0} (k : Parts n R) {u g : ℕ} (x :
       record {
         least = λ p hp. least p hp (ℕ-discrete p u) (ℕ-discrete (nodeNumber t p 0) g);
         next = ring-in k o hu la (a .next) (y .next-u) (y .next-hit (la .mem .1)) (y .next-off);
-        prev = ring-in k (flip o) hu lb (a .prev) (y .prev-u (lb .mem .1) ∙ sym (inverse (out-parts k u) (flip o) (a .prev) (a .next) (k .below (la .mem .0)))) (y .prev-hit) (y .prev-off);
+        prev = ring-in k (reversed o) hu lb (a .prev) (y .prev-u (lb .mem .1) ∙ sym (inverse (out-parts k u) (reversed o) (a .prev) (a .next) (k .below (la .mem .0)))) (y .prev-hit) (y .prev-off);
       }
     where
       low : (r : ℕ) → R u r → Dec (r ≡ u) → z .h ≤ r

@@ -19,7 +19,7 @@ use Rattle.model.specs.ListLaws.{Ascending, filter-ascending, filter-elim, filt
 use Rattle.model.specs.TwinLaws.{similar-refl, similar-sym, similar-trans}
 use Rattle.model.specs.TableLaws.{getD-blocks, getD-nodes, length-nodes, length-nodes-of, mark-at, proper-simple}
 use Rattle.rings.specs.Ring.{up, Parts, Best, Table, Of}
-use Rattle.rings.specs.RingLaws.{Circle, up-circle, flip, Way, over, round, way}
+use Rattle.rings.specs.RingLaws.{Circle, Way, over, reversed, round, up-circle, way}
 
 lastOr-in : (d : ℕ) (l : List ℕ) (p : ℕ) → p ∈ l → lastOr d l ∈ l
 lastOr-in d [] p m = absurd (List·Memᴰ·not-nil m)
@@ -177,7 +177,7 @@ module _ (g : Graph) (h : Proper g) where
       one : (p : ℕ) → p < n → (k : ℕ) → k < nodeNumbers → nodeNumber t p k ≡ nodeNumber (nodesOf g) p k
       one p hp zero hk = le-antisymm (a .least p hp .near _ (of-nodes .least p hp .mem)) (of-nodes .least p hp .near _ (a .least p hp .mem))
       one p hp (suc zero) hk = best-one (up-circle n) graph-parts hp (a .next p hp) (of-nodes .next p hp)
-      one p hp (suc (suc zero)) hk = best-one (flip (up-circle n)) graph-parts hp (a .prev p hp) (of-nodes .prev p hp)
+      one p hp (suc (suc zero)) hk = best-one (reversed (up-circle n)) graph-parts hp (a .prev p hp) (of-nodes .prev p hp)
       one p hp (suc (suc (suc zero))) hk = ms p hp ∙ sym (mark-at g p hp)
       one p hp (suc (suc (suc (suc k)))) hk = absurd (omega arith)
 

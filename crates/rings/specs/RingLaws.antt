@@ -54,8 +54,8 @@ up-circle n =
       turn = λ {p} {q} {r} hp hq hr. way-turn (way n p r) (way n p q) (way n q r) hp hq hr;
     }
 
-pub flip : {n : ℕ} {δ : ℕ → ℕ → ℕ} → Circle n δ → Circle n (λ p q. δ q p)
-flip o =
+pub reversed : {n : ℕ} {δ : ℕ → ℕ → ℕ} → Circle n δ → Circle n (λ p q. δ q p)
+reversed o =
     record {
       pos = λ hp hq. o .pos hq hp;
       cap = λ hp hq. o .cap hq hp;
@@ -145,7 +145,7 @@ module _ {n : ℕ} {R : ℕ → ℕ → Type 0} (k : Parts n R) {δ : ℕ → �
       go (no ne) (no nea) =
           move (Out u R) δ N′ refl (off p hp ne nea)
           (record {
-            mem = both R ne (λ e. nea (sym (inverse k (flip o) hP hN hp) ∙ ap P e)) (hN p hp .mem);
+            mem = both R ne (λ e. nea (sym (inverse k (reversed o) hP hN hp) ∙ ap P e)) (hN p hp .mem);
             near = λ r x. hN p hp .near r (x .0);
           })
 

@@ -116,7 +116,7 @@ pub record Leading (n : ℕ) (lst : List ℕ) : Type 0 where
   pub leads : (p : ℕ) → p < n → getD lst (getD lst p 0) 0 ≡ getD lst p 0
 
 -- lst has the least member of each node's group, and t the marks
-pub record Grouped (g : Graph) (lst t : List ℕ) : Type 0 where
+pub record LeastAndMarks (g : Graph) (lst t : List ℕ) : Type 0 where
   pub proper : Proper g
   pub least : (p : ℕ) → p < g .nodeCount → getD lst p 0 ≡ least (whole g .nodes) (similar (whole g)) p
   pub size : length t ≡ nodeNumbers * g .nodeCount
@@ -124,7 +124,7 @@ pub record Grouped (g : Graph) (lst t : List ℕ) : Type 0 where
 
 -- t′ is the node table of the graph whose least members and marks they are
 pub record Built (n : ℕ) (lst t t′ : List ℕ) : Type 0 where
-  pub nodes : (g : Graph) → g .nodeCount ≡ n → Grouped g lst t → t′ ≡ nodesOf g
+  pub nodes : (g : Graph) → g .nodeCount ≡ n → LeastAndMarks g lst t → t′ ≡ nodesOf g
 
 -- p's previous member has the same least member, is followed by p, and is below p unless p is the least
 pub record Follows (n : ℕ) (t : List ℕ) (p : ℕ) : Type 0 where

@@ -14,7 +14,7 @@ use Rattle.rings.specs.Ring.{Parts, Out, Ring, Table, Of}
 use Rattle.rings.specs.RingLaws.{out-parts}
 use Rattle.rings.specs.Steps.{Sound, Taken, OthersLeft, stayed, left, Fit, Back, joined, alone}
 use Rattle.rings.specs.MoveLaws.{sound, taken, placed}
-use Rattle.rings.specs.CountLaws.{count, leads, count-taken, count-joined}
+use Rattle.rings.specs.CountLaws.{count, count-joined, count-taken, leadsIn}
 
 -- the search for a group among n nodes: r is the one, or none is
 pub data Found (n u w : ℕ) (S : ℕ → Bool) (t : List ℕ) (r : ℕ) : Type 0 where
@@ -54,12 +54,12 @@ same {n} {R} {R′} f g a = record { least = ring (a .least); next = ring (a .ne
 
 -- how many groups there are once u is put back
 pub back-count : {n : ℕ} {R : ℕ → ℕ → Type 0} → Parts n R → {u : ℕ} {t : List ℕ} → Table n (Out u R) t → {w z : ℕ} {S : ℕ → Bool} {t′ : List ℕ}
-    → ((r : ℕ) → r < n → r ≢ u → r ≢ w → S r ≡ true → R u r) → Back n u w z S t t′ → count n (leads t′) + z ≡ count n (leads t)
+    → ((r : ℕ) → r < n → r ≢ u → r ≢ w → S r ≡ true → R u r) → Back n u w z S t t′ → count n (leadsIn t′) + z ≡ count n (leadsIn t)
 back-count k a f (joined r hr y x i) =
     let c = count-joined k (f r hr (y .not-u) (y .not-w) (y .alike)) (y .not-u) a (y .leads) x in
     omega arith
 back-count {n} k a f (alone no-one e i) =
-    let c = ap (λ x. count n (leads x)) e in
+    let c = ap (λ x. count n (leadsIn x)) e in
     omega arith
 
 module _ {n : ℕ} {R : ℕ → ℕ → Type 0} (k : Parts n R) {u : ℕ} (hu : u < n) {t : List ℕ} (a : Table n (Out u R) t) where
@@ -160,7 +160,7 @@ module _ {n u v : ℕ} {sim sim′ : ℕ → ℕ → Bool} {t : List ℕ} (a : S
 
           -- as many groups more as nodes left theirs, less those that joined one
           pub counted : {b₁ b₂ z₁ z₂ : ℕ} → b₁ ≡ nodeNumber t u 1 → OthersLeft b₁ u z₁ → b₂ ≡ nodeNumber t₁ v 1 → OthersLeft b₂ v z₂
-              → count n (leads t₄) + (z₃ + z₄) ≡ count n (leads t) + (z₁ + z₂)
+              → count n (leadsIn t₄) + (z₃ + z₄) ≡ count n (leadsIn t) + (z₁ + z₂)
           counted e₁ p₁ e₂ p₂ =
               let c₁ = count-taken (a .parts) (a .table) (a .hu) x₁ e₁ p₁ in
               let c₂ = count-taken (out-parts (a .parts) u) table₁ (a .hv) x₂ e₂ p₂ in

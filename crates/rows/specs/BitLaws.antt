@@ -3,10 +3,10 @@ use mathlib.Core.Path.{_≡_, refl, sym, ap, ap₂, _∙_}
 use mathlib.Core.Bool.{Bool, true, false, not, cond, xor, _&&_, _||_}
 use mathlib.Core.List.{List}
 use mathlib.Core.Logic.{_⊎_, inl, inr}
-use Prim.Native.Nat.{ℕ, zero, suc, _+_, _*_, _-_, _/_, _%_, _^_, _≤_, _<_}
+use Prim.Native.Nat.{ℕ, zero, suc, _+_, _*_, _-_, _/_, _%_, _^_, _≤_, _<_, min}
 use native.Mathlib.Nat.{one-mul, pow-suc, div-eq-of-lt, mul-comm, zero-div}
 use native.Mathlib.Omega.{arith}
-use lib.Bits.{bitXor, differ, xor-step, xor-shr, xor-lt}
+use lib.Bits.{and-shr, and-step, bitAnd, bitXor, differ, xor-lt, xor-shr, xor-step}
 use lib.Dec.{eqb, ltb, lit<}
 use lib.ListN.{length, getD, set, take, drop, length-set}
 use lib.Pow.{pow-add, pow-lt, shl-exact, shl-shr, mod-pow-add}
@@ -197,6 +197,22 @@ mask-at q k e = rw e (one-shl (q % 64) (omega arith))
 pub bit-zero : (j : ℕ) → bitAt 0 j ≡ false
 unfolding bitAt
 bit-zero j = ne-eqb (0 / 2 ^ j % 2) 1 (let z : 0 / 2 ^ j ≡ 0 = zero-div (2 ^ j) in omega arith)
+
+-- bits of a conjunction
+min-bits : (x y : ℕ) → x < 2 → y < 2 → eqb (min x y) 1 ≡ (eqb x 1 && eqb y 1)
+min-bits zero zero hx hy = refl
+min-bits zero (suc zero) hx hy = refl
+min-bits (suc zero) zero hx hy = refl
+min-bits (suc zero) (suc zero) hx hy = refl
+min-bits zero (suc (suc y)) hx hy = absurd (omega arith)
+min-bits (suc zero) (suc (suc y)) hx hy = absurd (omega arith)
+min-bits (suc (suc x)) y hx hy = absurd (omega arith)
+
+pub bit-and : (a b k : ℕ) → bitAt (bitAnd a b) k ≡ (bitAt a k && bitAt b k)
+unfolding bitAt
+bit-and a b k =
+    let e : bitAnd (a / 2 ^ k) (b / 2 ^ k) % 2 ≡ min (a / 2 ^ k % 2) (b / 2 ^ k % 2) = omega (arith, and-step (a / 2 ^ k) (b / 2 ^ k)) in
+    rw (and-shr a b k, e) (min-bits (a / 2 ^ k % 2) (b / 2 ^ k % 2) (omega arith) (omega arith))
 
 -- a bit of a row, by its word
 pub word-bit : (edges : List ℕ) (p j c : ℕ) → c < 64 → edgeBit edges p (64 * j + c) ≡ bitAt (getD edges (8 * p + j) 0) c

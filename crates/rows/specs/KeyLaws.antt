@@ -194,3 +194,9 @@ keys-changed insert u v s t r differ-ends f g = record {
       ∙ ap (λ (y : ℕ). cond (eqb a v) (movedKey insert y (cube u)) y) (f .keys a k l)
       ∙ two-moves (eqb a u) (eqb a v) (λ y. movedKey insert y (cube u)) (movedKey insert (getD s (2 * a + k) 0) (cube v)) (getD s (2 * a + k) 0) (λ x y. differ-ends (sym (eqb-true a u x) ∙ eqb-true a v y));
 }
+
+-- no nodes, no cubes
+pub no-cubes : (l : List ℕ) → sumCubes (filter (λ q. false) l) ≡ 0
+unfolding filter sumCubes
+no-cubes [] = refl
+no-cubes (x ∷ xs) = no-cubes xs

@@ -19,6 +19,10 @@ lent edges nodes keys = record { edges = edges; nodes = nodes; keys = keys }
 abbrev pub noNode : ℕ
 noNode = 65535
 
+-- p is the first member of its group, by the first member of each node's
+unfoldable pub leads : List ℕ → ℕ → Bool
+leads least p = eqb (getD least p 0) p
+
 -- words of 64 bits
 abbrev pub Words : List ℕ → Type 0
 Words t = (i : ℕ) → getD t i 0 < 2 ^ 64

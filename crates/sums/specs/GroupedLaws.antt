@@ -12,7 +12,7 @@ use Rattle.model.specs.Graph.{whole}
 use Rattle.model.specs.Grouping.{cube, openKey}
 use Rattle.model.specs.Tables.{edgeBit, keysOf}
 use Rattle.model.specs.TestLaws.{and-fst, and-one, decide, differ}
-use Rattle.rows.specs.Rows.{keyOf, movedKey}
+use Rattle.rows.specs.Rows.{keyOf, leads, movedKey}
 use Rattle.rows.specs.BitLaws.{row-bit}
 use Rattle.search.specs.Search.{rowIn}
 use Rattle.search.specs.SearchLaws.{row-part}
@@ -21,8 +21,8 @@ use Rattle.keys.specs.TotalLaws.{total-add, total-cong, total-cubes, total-mod,
 use Rattle.keys.specs.KeySums.{Summed, twinKey}
 use Rattle.keys.specs.KeySumLaws.{summed-all}
 use Rattle.keys.specs.TwinKeyLaws.{moved-back}
-use Rattle.compressed.specs.Compressed.{Compressed, leads, placed, unfolded, unfoldedEdge}
-use Rattle.sums.specs.Sums.{Cubed, Led, groupCubes, keyBy, otherCubes, rowCubes}
+use Rattle.compressed.specs.Compressed.{Compressed, placed, unfolded, unfoldedEdge}
+use Rattle.sums.specs.Sums.{Cubed, FirstsAreNodes, groupCubes, groupRowCubes, keyBy, otherCubes}
 
 -- choices by a test
 cond-mod : (b : Bool) (x : ℕ) → cond b (x % 2 ^ 32) 0 ≡ cond b x 0 % 2 ^ 32
@@ -170,8 +170,8 @@ module _ {n : ℕ} {least kinds joined : List ℕ} (h : Compressed n least kinds
             total-none 512 (λ f. cond (edgeBit joined p f) (cond (eqb (getD least q 0) f) (cube q) 0) 0) (λ f l. off f (λ z. omega arith))
             ∙ ap (λ (x : Bool). cond (x && edgeBit joined p (getD least q 0)) (cube q) 0) (sym t)
 
-    row-sum : rowCubes (rowIn joined p) cubes ≡ sumOf n far (λ q. cube q) % 2 ^ 32
-    unfolding rowCubes groupCubes
+    row-sum : groupRowCubes (rowIn joined p) cubes ≡ sumOf n far (λ q. cube q) % 2 ^ 32
+    unfolding groupRowCubes groupCubes
     row-sum =
         ap (λ (x : ℕ). x % 2 ^ 32)
         (total-cong 512 (λ f. cond (edgeBit (rowIn joined p) 0 f) (getD cubes f 0) 0) (λ f. cond (edgeBit joined p f) (groupCubes n least f) 0 % 2 ^ 32) at)
@@ -225,20 +225,20 @@ module _ {n : ℕ} {least kinds joined : List ℕ} (h : Compressed n least kinds
           other : (j : ℕ) → (j ≡ p → ⊥) → cond (eqb (getD least j 0) p) (cube j) 0 ≡ cond (eqb (getD least j 0) p && not (eqb p j)) (cube j) 0
           other j d = rw (ne-eqb p j (λ z. d (sym z))) (ap (λ (x : Bool). cond x (cube j) 0) (sym (and-one (eqb (getD least j 0) p))))
 
-      key-row : (rowCubes (rowIn joined p) cubes + otherCubes (getD kinds p 0) p cubes) % 2 ^ 32 ≡ near p % 2 ^ 32
+      key-row : (groupRowCubes (rowIn joined p) cubes + otherCubes (getD kinds p 0) p cubes) % 2 ^ 32 ≡ near p % 2 ^ 32
       unfolding otherCubes movedKey
       key-row = step (decide (eqb (getD kinds p 0) 2))
         where
           step : (eqb (getD kinds p 0) 2 ≡ true) ⊎ (eqb (getD kinds p 0) 2 ≡ false)
-              → (rowCubes (rowIn joined p) cubes + cond (eqb (getD kinds p 0) 2) ((getD cubes p 0 + (2 ^ 32 - cube p % 2 ^ 32)) % 2 ^ 32) 0) % 2 ^ 32 ≡ near p % 2 ^ 32
+              → (groupRowCubes (rowIn joined p) cubes + cond (eqb (getD kinds p 0) 2) ((getD cubes p 0 + (2 ^ 32 - cube p % 2 ^ 32)) % 2 ^ 32) 0) % 2 ^ 32 ≡ near p % 2 ^ 32
           step (inl k) =
               let all : sumOf n beside (λ q. cube q) ≡ sumOf n fellow (λ q. cube q) = ap (λ (x : Bool). sumOf n (λ q. x && (eqb (getD least q 0) p && not (eqb p q))) (λ q. cube q)) k in
               let own : getD cubes p 0 ≡ (sumOf n fellow (λ q. cube q) + 1 * cube p) % 2 ^ 32 = c .sums p inside ∙ ap (λ (x : ℕ). x % 2 ^ 32) (group-parts ∙ (omega arith)) in
               let others = moved-back (sumOf n fellow (λ q. cube q)) (cube p) (getD cubes p 0) own in
-              rw k (wrapped (rowCubes (rowIn joined p) cubes) ((getD cubes p 0 + (2 ^ 32 - cube p % 2 ^ 32)) % 2 ^ 32) (sumOf n far (λ q. cube q)) (sumOf n beside (λ q. cube q)) (near p) row-sum (others ∙ ap (λ (x : ℕ). x % 2 ^ 32) (sym all)) near-parts)
+              rw k (wrapped (groupRowCubes (rowIn joined p) cubes) ((getD cubes p 0 + (2 ^ 32 - cube p % 2 ^ 32)) % 2 ^ 32) (sumOf n far (λ q. cube q)) (sumOf n beside (λ q. cube q)) (near p) row-sum (others ∙ ap (λ (x : ℕ). x % 2 ^ 32) (sym all)) near-parts)
           step (inr k) =
               let none : sumOf n beside (λ q. cube q) ≡ 0 = total-none n (λ q. cond (beside q) (cube q) 0) (λ q l. ap (λ (x : Bool). cond (x && (eqb (getD least q 0) p && not (eqb p q))) (cube q) 0) k) in
-              rw k (wrapped (rowCubes (rowIn joined p) cubes) 0 (sumOf n far (λ q. cube q)) (sumOf n beside (λ q. cube q)) (near p) row-sum (ap (λ (x : ℕ). x % 2 ^ 32) (sym none)) near-parts)
+              rw k (wrapped (groupRowCubes (rowIn joined p) cubes) 0 (sumOf n far (λ q. cube q)) (sumOf n beside (λ q. cube q)) (near p) row-sum (ap (λ (x : ℕ). x % 2 ^ 32) (sym none)) near-parts)
 
   -- the key that the code finds
   pub key-grouped : {cubes keys : List ℕ} {p x : ℕ} → Cubed n least cubes → Summed (unfolded n least kinds joined) p keys keys → p < n → x ≡ keyBy joined least kinds cubes keys p → x ≡ openKey (whole (unfolded n least kinds joined)) p
@@ -246,7 +246,7 @@ module _ {n : ℕ} {least kinds joined : List ℕ} (h : Compressed n least kinds
   key-grouped {cubes} {keys} {p} {x} c s b e = e ∙ step (decide (eqb (getD least p 0) 65535)) (decide (ltb (getD least p 0) p)) ∙ sym (open-near p)
     where
       step : (eqb (getD least p 0) 65535 ≡ true) ⊎ (eqb (getD least p 0) 65535 ≡ false) → (ltb (getD least p 0) p ≡ true) ⊎ (ltb (getD least p 0) p ≡ false)
-          → cond (eqb (getD least p 0) 65535) 0 (cond (ltb (getD least p 0) p) (twinKey keys (eqb (getD kinds (getD least p 0) 0) 2) (getD least p 0) p) ((rowCubes (rowIn joined p) cubes + otherCubes (getD kinds p 0) p cubes) % 2 ^ 32))
+          → cond (eqb (getD least p 0) 65535) 0 (cond (ltb (getD least p 0) p) (twinKey keys (eqb (getD kinds (getD least p 0) 0) 2) (getD least p 0) p) ((groupRowCubes (rowIn joined p) cubes + otherCubes (getD kinds p 0) p cubes) % 2 ^ 32))
           ≡ near p % 2 ^ 32
       step (inl z) y = rw z (ap (λ (v : ℕ). v % 2 ^ 32) (sym (none-near p (eqb-true (getD least p 0) 65535 z))))
       step (inr z) (inl y) = rw (z, y) (key-twin p (placed-in p b (eqb-false (getD least p 0) 65535 z)) (ltb-true (getD least p 0) p y) s)
@@ -255,7 +255,7 @@ module _ {n : ℕ} {least kinds joined : List ℕ} (h : Compressed n least kinds
           rw (z, y) (key-row c p t (omega (arith, h .before p t, ltb-false (getD least p 0) p y)))
 
   -- what the sums start from
-  pub compressed-led : Led n least
+  pub compressed-led : FirstsAreNodes n least
   compressed-led = record { small = h .small; size = h .nodes; first = λ p t. let b : p < n = placed-lt p t in omega (arith, h .before p t, h .small) }
 
 -- all keys

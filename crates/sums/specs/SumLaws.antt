@@ -19,7 +19,7 @@ use Rattle.keys.specs.Totals.{sumTo}
 use Rattle.keys.specs.KeySums.{twinKey}
 use Rattle.keys.specs.SumLaws.{Weighing, adding-next, weighing-start}
 use Rattle.compressed.specs.Compressed.{placed}
-use Rattle.sums.specs.Sums.{Cubed, Led, groupCubes, keyBy, otherCubes, rowCubes}
+use Rattle.sums.specs.Sums.{Cubed, FirstsAreNodes, groupCubes, groupRowCubes, keyBy, otherCubes}
 
 -- one node more
 group-more : (p : ℕ) (least : List ℕ) (l : ℕ) → groupCubes (p + 1) least l ≡ groupCubes p least l + cond (eqb (getD least p 0) l) (cube p) 0
@@ -63,17 +63,17 @@ pub cubed-at : {m k : ℕ} {least cubes : List ℕ} → Cubed m least cubes → 
 cubed-at {least = least} {cubes = cubes} h e = subst (λ i. Cubed i least cubes) e h
 
 -- what a first member is kept to
-pub led-first : {n p l : ℕ} {least : List ℕ} → Led n least → p < n → (getD least p 0 ≡ 65535 → ⊥) → l ≡ getD least p 0 → l < 512
+pub led-first : {n p l : ℕ} {least : List ℕ} → FirstsAreNodes n least → p < n → (getD least p 0 ≡ 65535 → ⊥) → l ≡ getD least p 0 → l < 512
 unfolding placed
 led-first {n} {p} {l} {least} h b d e = let t = h .first p (rw (lt-ltb p n b, ne-eqb (getD least p 0) 65535 d)) in omega arith
 
 -- a walk over a row that adds up the cubes of groups
 abbrev pub RowLeft : List ℕ → List ℕ → ℕ → ℕ → ℕ → Type 0
-RowLeft row cubes w x sum = Weighing (λ f. getD cubes f 0) (rowCubes row cubes) 512 row 0 w x sum
+RowLeft row cubes w x sum = Weighing (λ f. getD cubes f 0) (groupRowCubes row cubes) 512 row 0 w x sum
 
 module _ (row cubes : List ℕ) where
   pub row-start : Words row → RowLeft row cubes 0 (getD row 0 0) 0
-  unfolding rowCubes
+  unfolding groupRowCubes
   row-start words = weighing-start refl words
 
   pub row-next : {w x sum : ℕ} → RowLeft row cubes w x sum → x ≡ 0 → Words row → RowLeft row cubes (w + 1) (getD row (w + 1) 0) sum
@@ -101,10 +101,10 @@ module _ (joined least kinds cubes keys : List ℕ) (p : ℕ) where
       let t : getD least p 0 < p = omega arith in
       rw (ne-eqb (getD least p 0) 65535 d, lt-ltb (getD least p 0) p t) (k ∙ ap (λ (m : ℕ). twinKey keys (eqb (getD kinds m 0) 2) m p) e)
 
-  pub by-row : {l s o r : ℕ} → (getD least p 0 ≡ 65535 → ⊥) → l ≡ getD least p 0 → p ≤ l → s ≡ rowCubes (take (8 * p + 8 - 8 * p) (drop (8 * p) joined)) cubes → o ≡ otherCubes (getD kinds p 0) p cubes → r ≡ (s + o) % 2 ^ 32
+  pub by-row : {l s o r : ℕ} → (getD least p 0 ≡ 65535 → ⊥) → l ≡ getD least p 0 → p ≤ l → s ≡ groupRowCubes (take (8 * p + 8 - 8 * p) (drop (8 * p) joined)) cubes → o ≡ otherCubes (getD kinds p 0) p cubes → r ≡ (s + o) % 2 ^ 32
       → r ≡ keyBy joined least kinds cubes keys p
   unfolding keyBy
   by-row {l} {s} {o} {r} d e b es eo er =
       let t : p ≤ getD least p 0 = omega arith in
-      let row : s ≡ rowCubes (rowIn joined p) cubes = es ∙ ap (λ (x : List ℕ). rowCubes x cubes) (row-part joined p) in
+      let row : s ≡ groupRowCubes (rowIn joined p) cubes = es ∙ ap (λ (x : List ℕ). groupRowCubes x cubes) (row-part joined p) in
       rw (ne-eqb (getD least p 0) 65535 d, le-ltb (getD least p 0) p t) (rw (row, eo) at er)

@@ -15,7 +15,7 @@ use Rattle.keys.specs.KeySums.{twinKey}
 use Rattle.compressed.specs.Compressed.{clique, placed}
 
 -- each node of a group has a first member that is a node
-pub record Led (n : ℕ) (least : List ℕ) : Type 0 where
+pub record FirstsAreNodes (n : ℕ) (least : List ℕ) : Type 0 where
   pub small : n ≤ maxNodes
   pub size : length least ≡ maxNodes
   pub first : (p : ℕ) → placed n least p ≡ true → getD least p 0 < maxNodes
@@ -30,8 +30,8 @@ pub record Cubed (m : ℕ) (least cubes : List ℕ) : Type 0 where
   pub sums : (l : ℕ) → l < maxNodes → getD cubes l 0 ≡ groupCubes m least l % 2 ^ 32
 
 -- the cubes of the groups whose first members stand in a row
-unfoldable pub rowCubes : List ℕ → List ℕ → ℕ
-rowCubes row cubes = sumOf maxNodes (edgeBit row 0) (λ f. getD cubes f 0) % 2 ^ 32
+unfoldable pub groupRowCubes : List ℕ → List ℕ → ℕ
+groupRowCubes row cubes = sumOf maxNodes (edgeBit row 0) (λ f. getD cubes f 0) % 2 ^ 32
 
 -- the cubes of the other members of a clique that l leads
 unfoldable pub otherCubes : ℕ → ℕ → List ℕ → ℕ
@@ -42,4 +42,4 @@ unfoldable pub keyBy : List ℕ → List ℕ → List ℕ → List ℕ → List 
 keyBy joined least kinds cubes keys p =
     cond (eqb (getD least p 0) noNode) 0
     (cond (ltb (getD least p 0) p) (twinKey keys (eqb (getD kinds (getD least p 0) 0) clique) (getD least p 0) p)
-    ((rowCubes (rowIn joined p) cubes + otherCubes (getD kinds p 0) p cubes) % 2 ^ 32))
+    ((groupRowCubes (rowIn joined p) cubes + otherCubes (getD kinds p 0) p cubes) % 2 ^ 32))

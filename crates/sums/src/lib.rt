@@ -5,13 +5,13 @@ ghost use lib.ListN.{length};
 ghost use Rattle.model.specs.Graph.{maxNodes, rowWords};
 ghost use Rattle.model.specs.Tables.{keysOf};
 ghost use Rattle.compressed.specs.Compressed.{Compressed, unfolded};
-ghost use Rattle.sums.specs.Sums.{Cubed, Led, keyBy, otherCubes, rowCubes};
+ghost use Rattle.sums.specs.Sums.{Cubed, FirstsAreNodes, groupRowCubes, keyBy, otherCubes};
 use compressed::CLIQUE;
 use rows::Graph;
 
 // The cubes of the members of each group, at its first member.
 fn sum_cubes(least: &[u16], n: usize, cubes: &mut [u32])
-    requires { ⌜ Led n (now least) × Cubed 0 (now least) (now cubes) ⌝ }
+    requires { ⌜ FirstsAreNodes n (now least) × Cubed 0 (now least) (now cubes) ⌝ }
     ensures { λ _. ⌜ Cubed n (now (least .entry)) (now (cubes .exit)) ⌝ }
 {
     for p in 0..n {
@@ -25,7 +25,7 @@ fn sum_cubes(least: &[u16], n: usize, cubes: &mut [u32])
 // The cubes of the groups whose first members stand in a row.
 fn row_cubes(row: &[u64], cubes: &[u32]) -> u32
     requires { ⌜ (length (now row) ≡ rowWords) × (length (now cubes) ≡ maxNodes) ⌝ }
-    ensures { λ r. ⌜ r ≡ rowCubes (now (row .entry)) (now (cubes .entry)) ⌝ }
+    ensures { λ r. ⌜ r ≡ groupRowCubes (now (row .entry)) (now (cubes .entry)) ⌝ }
 {
     let mut sum = 0u32;
     let mut w = 0;

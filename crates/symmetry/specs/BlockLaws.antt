@@ -3,10 +3,10 @@ use mathlib.Core.Path.{_≡_, refl, sym, ap, ap₂, _∙_, subst}
 use mathlib.Core.Bool.{Bool, true, false, cond, xor, _&&_, _||_, Bool·beq}
 use mathlib.Core.List.{List}
 use mathlib.Core.Logic.{_⊎_, inl, inr}
-use Prim.Native.Nat.{ℕ, zero, suc, _+_, _*_, _-_, _/_, _%_, _^_, _≤_, _<_, min}
+use Prim.Native.Nat.{ℕ, zero, suc, _+_, _*_, _-_, _/_, _%_, _^_, _≤_, _<_}
 use native.Mathlib.Nat.{add-mul, add-mul-div-right, add-mul-mod-self-right, div-eq-of-lt, mul-assoc, mul-comm, one-mul, pow-suc}
 use native.Mathlib.Omega.{arith}
-use lib.Bits.{and-shr, and-step, bitAnd, bitXor}
+use lib.Bits.{bitAnd, bitXor}
 use lib.Dec.{eqb, ltb}
 use lib.ListN.{length, getD, set, length-set, List·getD-eq-default}
 use lib.Pow.{mod-pow-add, pow-pos, shl-shr, shr-shr}
@@ -18,27 +18,11 @@ use Rattle.model.specs.TestLaws.{and-fst, and-snd, beq-eq, decide, eq-beq, or-r
 use Rattle.model.specs.TableLaws.{bitAt-word}
 use Rattle.model.specs.ListLaws.{all-elim, all-intro, nodes-in, nodes-out}
 use Rattle.buffers.specs.StoreLaws.{stored}
-use Rattle.rows.specs.BitLaws.{bit-xor, bit-zero, word-bit, word-bits}
+use Rattle.rows.specs.BitLaws.{bit-and, bit-xor, bit-zero, word-bit, word-bits}
 use Rattle.search.specs.TwinRowLaws.{words-eq}
 use Rattle.symmetry.specs.Symmetry.{Across, Loaded, Masks, Ones, RowSwapped, Run, Staging, Transposed, Zeros, blockSymmetric, columnSymmetric, symmetric, swapped}
 
 -- bits of `a & b`, of shifted words
-odd-and : (a b : ℕ) → bitAnd a b % 2 ≡ min (a % 2) (b % 2)
-odd-and a b = omega (arith, and-step a b)
-
-min-bits : (x y : ℕ) → x < 2 → y < 2 → eqb (min x y) 1 ≡ (eqb x 1 && eqb y 1)
-min-bits zero zero hx hy = refl
-min-bits zero (suc zero) hx hy = refl
-min-bits (suc zero) zero hx hy = refl
-min-bits (suc zero) (suc zero) hx hy = refl
-min-bits zero (suc (suc y)) hx hy = absurd (omega arith)
-min-bits (suc zero) (suc (suc y)) hx hy = absurd (omega arith)
-min-bits (suc (suc x)) y hx hy = absurd (omega arith)
-
-bit-and : (a b c : ℕ) → bitAt (bitAnd a b) c ≡ (bitAt a c && bitAt b c)
-unfolding bitAt
-bit-and a b c = rw (and-shr, odd-and (a / 2 ^ c) (b / 2 ^ c)) (min-bits (a / 2 ^ c % 2) (b / 2 ^ c % 2) (omega arith) (omega arith))
-
 bit-shr : (x j c : ℕ) → bitAt (x / 2 ^ j) c ≡ bitAt x (j + c)
 unfolding bitAt
 bit-shr x j c = ap (λ (y : ℕ). eqb (y % 2) 1) (shr-shr x j c)

@@ -37,9 +37,9 @@ pub edge-both : {a b : Number} (kind u v : ℕ) → a ≡ Value u → b ≡ Valu
 unfolding edgeChange
 edge-both kind u v e f = rw (e, f)
 
-pub mark-none : {a : Number} (kind : ℕ) → a ≡ NoNumber → NoChange ≡ markChange kind a
+pub mark-no-number : {a : Number} (kind : ℕ) → a ≡ NoNumber → NoChange ≡ markChange kind a
 unfolding markChange
-mark-none kind e = rw e
+mark-no-number kind e = rw e
 
 pub mark-one : {a : Number} (kind u : ℕ) → a ≡ Value u → Change kind u 0 ≡ markChange kind a
 unfolding markChange
@@ -159,12 +159,12 @@ line-letter u s e one n = rw (first, and-one (eqb (getD s 0 0) 0x74), and-one (e
     first = pieces-more 0x20 s (rw at-one long) ∙ rw (at-one, take-one s (omega (arith, long)))
 
 -- from what the callees tell
-pub edge-told : {a b : Number} {r : Line} (kind u : ℕ) (s : List ℕ) → u ≡ upTo 0x20 s → (u ≡ length s → ⊥) → a ≡ numberOf (take u s) → b ≡ numberOf (take (length s - (u + 1)) (drop (u + 1) s)) → r ≡ edgeChange kind a b
+pub edge-change-told : {a b : Number} {r : Line} (kind u : ℕ) (s : List ℕ) → u ≡ upTo 0x20 s → (u ≡ length s → ⊥) → a ≡ numberOf (take u s) → b ≡ numberOf (take (length s - (u + 1)) (drop (u + 1) s)) → r ≡ edgeChange kind a b
     → lineIn r ≡ edgeLine kind ([] ∷ pieces 0x20 s)
-edge-told kind u s e n x y z = rw (z, x, y, part-from (u + 1) s) (edge-by kind u s e n)
+edge-change-told kind u s e n x y z = rw (z, x, y, part-from (u + 1) s) (edge-by kind u s e n)
 
-pub mark-told : {a : Number} {r : Line} (kind : ℕ) (s : List ℕ) → a ≡ numberOf s → r ≡ markChange kind a → lineIn r ≡ markLine kind ([] ∷ pieces 0x20 s)
-mark-told kind s x z = rw (z, x) (mark-by kind s)
+pub mark-change-told : {a : Number} {r : Line} (kind : ℕ) (s : List ℕ) → a ≡ numberOf s → r ≡ markChange kind a → lineIn r ≡ markLine kind ([] ∷ pieces 0x20 s)
+mark-change-told kind s x z = rw (z, x) (mark-by kind s)
 
 -- from the letter and what its function tells
 module _ (u : ℕ) (s : List ℕ) (e : u ≡ upTo 0x20 s) (one : u ≡ 1) (n : length s ≡ 1 → ⊥) where

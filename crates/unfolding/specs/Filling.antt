@@ -8,8 +8,9 @@ use lib.Dec.{eqb, ltb}
 use lib.ListN.{length, getD}
 use Rattle.model.specs.Graph.{maxNodes, rowWords}
 use Rattle.model.specs.Tables.{bitAt, edgeBit}
+use Rattle.rows.specs.Rows.{leads}
 use Rattle.drawing.specs.Drawing.{rowTo}
-use Rattle.compressed.specs.Compressed.{clique, leads, single}
+use Rattle.compressed.specs.Compressed.{clique, single}
 
 -- the first i words are copied
 pub record Copied (i : ℕ) (from t after : List ℕ) : Type 0 where
@@ -34,12 +35,12 @@ abbrev pub firstMember : List ℕ → ℕ → ℕ → ℕ
 firstMember least a b = getD least b 0
 
 -- q's first member is another node
-unfoldable pub follows : ℕ → List ℕ → ℕ → Bool
-follows n least q = ltb q n && ltb (getD least q 0) q
+unfoldable pub isFollower : ℕ → List ℕ → ℕ → Bool
+isFollower n least q = ltb q n && ltb (getD least q 0) q
 
 -- the members of each group but its first, as a row of that one; p alone
 unfoldable pub otherBit : ℕ → List ℕ → ℕ → ℕ → Bool
-otherBit n least a b = follows n least b && eqb a (getD least b 0)
+otherBit n least a b = isFollower n least b && eqb a (getD least b 0)
 
 unfoldable pub otherAt : List ℕ → ℕ → ℕ → ℕ → Bool
 otherAt least p a b = eqb b p && (ltb (getD least b 0) b && eqb a (getD least b 0))
@@ -70,7 +71,7 @@ unfoldable pub groupTo : List ℕ → List ℕ → List ℕ → ℕ → ℕ → 
 groupTo kinds joined members l a b = not (eqb (getD kinds l 0) single) && (reaches kinds joined l a && edgeBit members l b)
 
 unfoldable pub drawnBit : ℕ → List ℕ → List ℕ → List ℕ → ℕ → ℕ → Bool
-drawnBit n least kinds joined a b = follows n least b && reaches kinds joined (getD least b 0) a
+drawnBit n least kinds joined a b = isFollower n least b && reaches kinds joined (getD least b 0) a
 
 -- the first k words of row l are copied to row p
 pub record RowCopied (k l p : ℕ) (t after : List ℕ) : Type 0 where
@@ -88,7 +89,7 @@ pub record Followed (kind l p : ℕ) (t after : List ℕ) : Type 0 where
   pub bits : (a b : ℕ) → b < maxNodes → edgeBit after a b ≡ cond (eqb a p && ltb l p) (followBit kind l p (edgeBit t l b) b) (edgeBit t a b)
 
 -- the first members of the first n nodes are their own
-pub record Led (n : ℕ) (least : List ℕ) : Type 0 where
+pub record FirstsLead (n : ℕ) (least : List ℕ) : Type 0 where
   pub first : (p : ℕ) → p < n → getD least p 0 < p → leads least (getD least p 0) ≡ true
 
 -- the rows of the first k nodes are by those of their first members

@@ -27,7 +27,7 @@ use Rattle.unfolding.specs.Filling.{
   drawnBit,
   eachTo,
   firstMember,
-  follows,
+  isFollower,
   groupTo,
   joinedTo,
   onlyAt,
@@ -104,12 +104,12 @@ other-none least t l p e h = added-none (otherAt least p) t (λ a b. same a b (d
 
 module _ (n : ℕ) (least : List ℕ) where
   other-one : (p : ℕ) → p < n → (a b : ℕ) → (eqb b p ≡ true) ⊎ (eqb b p ≡ false) → otherAt least p a b ≡ onlyAt column (otherBit n least) p a b
-  unfolding otherAt onlyAt otherBit follows
+  unfolding otherAt onlyAt otherBit isFollower
   other-one p h a b (inl s) = rw (s, eqb-true b p s, lt-ltb p n h)
   other-one p h a b (inr s) = rw s
 
   other-below : (a b : ℕ) → otherBit n least a b ≡ true → b < n
-  unfolding otherBit follows
+  unfolding otherBit isFollower
   other-below a b e = ltb-true b n (and-fst (ltb b n) (ltb (getD least b 0) b) (and-fst (ltb b n && ltb (getD least b 0) b) (eqb a (getD least b 0)) e))
 
   pub others-step : (p : ℕ) {t now after : List ℕ} → p < n → Adding (otherBit n least) (restFrom column (otherBit n least) p) t now → Added (otherAt least p) now after → Adding (otherBit n least) (restFrom column (otherBit n least) (p + 1)) t after
@@ -230,7 +230,7 @@ module _ {n : ℕ} {least kinds joined : List ℕ} (c : Compressed n least kinds
     held b h = m .bits l b h ∙ ap (λ (z : Bool). z || otherBit n least l b) (blank b)
 
     group-one : (a b : ℕ) → b < 512 → (eqb (getD least b 0) l ≡ true) ⊎ (eqb (getD least b 0) l ≡ false) → groupTo kinds joined members l a b ≡ onlyAt (firstMember least) (drawnBit n least kinds joined) l a b
-    unfolding groupTo onlyAt drawnBit otherBit follows
+    unfolding groupTo onlyAt drawnBit otherBit isFollower
     group-one a b h (inr s) =
         let v : eqb l (getD least b 0) ≡ false = ne-eqb l (getD least b 0) (λ e. eqb-false (getD least b 0) l s (sym e)) in
         rw (held b h, s, v, and-false (ltb b n && ltb (getD least b 0) b), and-false (reaches kinds joined l a)) (and-false (not (eqb (getD kinds l 0) 0)))
@@ -256,7 +256,7 @@ module _ {n : ℕ} {least kinds joined : List ℕ} (c : Compressed n least kinds
     groups-step i d = keyed-step (firstMember least) (drawnBit n least kinds joined) l i d (λ a b h. group-one a b h (decide (eqb (getD least b 0) l)))
 
   drawn-below : (a b : ℕ) → drawnBit n least kinds joined a b ≡ true → getD least b 0 < n
-  unfolding drawnBit follows
+  unfolding drawnBit isFollower
   drawn-below a b e =
       let f = and-fst (ltb b n && ltb (getD least b 0) b) (reaches kinds joined (getD least b 0) a) e in
       omega (arith, ltb-true b n (and-fst (ltb b n) (ltb (getD least b 0) b) f), ltb-true (getD least b 0) b (and-snd (ltb b n) (ltb (getD least b 0) b) f))

@@ -13,10 +13,10 @@ use Rattle.model.specs.Tables.{bitAt, edgeBit, edgesOf}
 use Rattle.model.specs.TestLaws.{and-fst, decide, differ}
 use Rattle.rows.specs.BitLaws.{xor-cond}
 use Rattle.rows.specs.EdgeLaws.{edges-by-bits}
-use Rattle.rows.specs.Rows.{Flipped, Words}
+use Rattle.rows.specs.Rows.{Flipped, Words, leads}
 use Rattle.drawing.specs.Drawing.{Added}
-use Rattle.compressed.specs.Compressed.{Compressed, leads, placed, unfolded, unfoldedEdge}
-use Rattle.unfolding.specs.Filling.{Copied, Followed, Following, Led, RowCopied, drawnBit, followBit, follows, reaches}
+use Rattle.compressed.specs.Compressed.{Compressed, placed, unfolded, unfoldedEdge}
+use Rattle.unfolding.specs.Filling.{Copied, FirstsLead, Followed, Following, RowCopied, drawnBit, followBit, isFollower, reaches}
 
 -- a row copied word by word
 pub row-copied-none : (l p : ℕ) (t : List ℕ) → RowCopied 0 l p t t
@@ -95,7 +95,7 @@ followed-none kind l p t h = record { size = refl; bits = λ a b i. rw (le-ltb l
 pub following-start : (least kinds t : List ℕ) → Following least kinds 0 t t
 following-start least kinds t = record { size = refl; rows = λ a b h. absurd (omega arith); later = λ a b h i. refl }
 
-pub following-step : {n k : ℕ} {least kinds t now after : List ℕ} → Led n least → k < n → Following least kinds k t now → Followed (getD kinds (getD least k 0) 0) (getD least k 0) k now after → Following least kinds (k + 1) t after
+pub following-step : {n k : ℕ} {least kinds t now after : List ℕ} → FirstsLead n least → k < n → Following least kinds k t now → Followed (getD kinds (getD least k 0) 0) (getD least k 0) k now after → Following least kinds (k + 1) t after
 unfolding leads
 following-step {n} {k} {least} {kinds} {t} {now} {after} led small f x = record {
   size = x .size ∙ f .size;
@@ -154,7 +154,7 @@ module _ {n : ℕ} {least kinds joined : List ℕ} (c : Compressed n least kinds
   unfolding leads
   leads-is p h = eqb-true (getD least p 0) p h
 
-  pub led : Led n least
+  pub led : FirstsLead n least
   led = record { first = λ p h l. c .first p (placed-is p h (omega (arith, c .small))) }
 
   -- a node that leads no group is joined to none
@@ -171,7 +171,7 @@ module _ {n : ℕ} {least kinds joined : List ℕ} (c : Compressed n least kinds
     Goal = (edgeBit joined a b || drawnBit n least kinds joined a b) ≡ (placed n least a && (placed n least b && unfoldedEdge least kinds joined a b))
 
     outside : placed n least a ≡ false → Goal
-    unfolding drawnBit follows reaches
+    unfolding drawnBit isFollower reaches
     outside h = rw (h, unled b a (omega arith) (omega (arith, c .small)) alone .1) (none (decide (ltb b n)) (decide (ltb (getD least b 0) b)))
       where
         alone : getD least a 0 ≡ a → ⊥
@@ -188,7 +188,7 @@ module _ {n : ℕ} {least kinds joined : List ℕ} (c : Compressed n least kinds
             rw (s, u, unled (getD least b 0) a (omega arith) (omega (arith, c .small)) alone .0, ne-eqb a (getD least b 0) d, and-false (ltb a 512), and-false (eqb (getD kinds (getD least b 0) 0) 2))
 
     inside : placed n least a ≡ true → (ltb b n ≡ true) ⊎ (ltb b n ≡ false) → (ltb (getD least b 0) b ≡ true) ⊎ (ltb (getD least b 0) b ≡ false) → Goal
-    unfolding drawnBit follows reaches unfoldedEdge
+    unfolding drawnBit isFollower reaches unfoldedEdge
     inside h x y = rw (h, own) (go x y)
       where
         own : getD least a 0 ≡ a

@@ -18,7 +18,7 @@ use Rattle.search.specs.TwinRowLaws.{own-bit}
 use Rattle.compressed.specs.Compressed.{Compressed, placed, unfolded, unfoldedEdge}
 use Rattle.drawing.specs.Drawing.{oneBit}
 use Rattle.drawing.specs.BitLaws.{bit-or, bit-set, blank-bit}
-use Rattle.unfolding.specs.Unfolding.{Fitting, NeighbourRow, Spread, SpreadBut, joinBit, reached}
+use Rattle.unfolding.specs.Unfolding.{FirstsFit, NeighbourRow, Spread, SpreadBut, joinBit, reached}
 
 -- the bit of one first member
 pub join-none : (row : List ℕ) (l : ℕ) → l ≡ 65535 → _≡_ {A = ℕ} 0 (cond (joinBit row l) 1 0)
@@ -120,7 +120,7 @@ owned {row} {l} {w} {own} h b x m =
     rw (y, h .words (x / 64) (omega arith), bit-or (getD row (x / 64) 0) (ownBit l (x / 64)) (x % 64), own-bit l (x / 64) (x % 64) (omega arith), z)
 
 -- chosen alike, reached alike
-module _ (n : ℕ) (first : List ℕ) (P Q : ℕ → Bool) (fits : Fitting n first) (same : (x : ℕ) → x < 512 → P x ≡ Q x) where
+module _ (n : ℕ) (first : List ℕ) (P Q : ℕ → Bool) (fits : FirstsFit n first) (same : (x : ℕ) → x < 512 → P x ≡ Q x) where
   pub reached-cong : (q : ℕ) → reached n first P q ≡ reached n first Q q
   unfolding reached placed
   reached-cong q = step (decide (ltb q n)) (decide (eqb (getD first q 0) 65535))
@@ -132,7 +132,7 @@ module _ (n : ℕ) (first : List ℕ) (P Q : ℕ → Bool) (fits : Fitting n fir
       step (inr t) s = rw t
 
 -- p's bit taken the other way
-pub spread-but : {n p l w : ℕ} {first row own all : List ℕ} → Fitting n first → Owning row l w own → 8 ≤ w → Spread n first (edgeBit own 0) all → p < 512 → {i m : ℕ} → i ≡ p / 64 → m ≡ 2 ^ (p % 64)
+pub spread-but : {n p l w : ℕ} {first row own all : List ℕ} → FirstsFit n first → Owning row l w own → 8 ≤ w → Spread n first (edgeBit own 0) all → p < 512 → {i m : ℕ} → i ≡ p / 64 → m ≡ 2 ^ (p % 64)
     → SpreadBut p n first (λ x. edgeBit row 0 x || eqb l x) (set all i (bitXor (getD all i 0) m))
 spread-but {n} {p} {l} {w} {first} {row} {own} {all} fits o b s h {i} {m} e f =
     let g = flipped-at all 0 p i m h (omega (arith, s .size)) (omega arith) f in
@@ -140,7 +140,7 @@ spread-but {n} {p} {l} {w} {first} {row} {own} {all} fits o b s h {i} {m} e f =
 
 -- the graph that arrays unfold to
 module _ {n : ℕ} {first kinds joined : List ℕ} (c : Compressed n first kinds joined) where
-  pub fitting : Fitting n first
+  pub fitting : FirstsFit n first
   unfolding placed
   fitting q l d = let t = c .before q (rw (lt-ltb q n l, ne-eqb (getD first q 0) 65535 d)) in omega (arith, c .small)
 

@@ -15,8 +15,8 @@ pub record NeighbourRow (n : ℕ) (first kinds joined : List ℕ) (p : ℕ) (row
   pub bits : (q : ℕ) → q < maxNodes → edgeBit row 0 q ≡ unfolded n first kinds joined .edge p q
 
 -- first members have bits in a row
-abbrev pub Fitting : ℕ → List ℕ → Type 0
-Fitting n first = (q : ℕ) → q < n → (getD first q 0 ≡ noNode → ⊥) → getD first q 0 < maxNodes
+abbrev pub FirstsFit : ℕ → List ℕ → Type 0
+FirstsFit n first = (q : ℕ) → q < n → (getD first q 0 ≡ noNode → ⊥) → getD first q 0 < maxNodes
 
 -- whether a row has the bit of a first member
 unfoldable pub joinBit : List ℕ → ℕ → Bool

@@ -10,7 +10,7 @@ ghost use Rattle.unfolding.specs.Filling.{
   Copied,
   Followed,
   Following,
-  Led,
+  FirstsLead,
   Room,
   RowCopied,
   RowRoom,
@@ -152,7 +152,7 @@ fn follow_first(least: &[u16], kinds: &[u16], p: usize, edges: &mut [u64])
 
 // The rows of all other members by those of first members.
 fn follow_all(least: &[u16], kinds: &[u16], n: usize, edges: &mut [u64])
-    requires { ⌜ Led n (now least) × (n ≤ maxNodes) × (n ≤ length (now least)) × (n ≤ length (now kinds)) × (rowWords * n ≤ length (now edges)) ⌝ }
+    requires { ⌜ FirstsLead n (now least) × (n ≤ maxNodes) × (n ≤ length (now least)) × (n ≤ length (now kinds)) × (rowWords * n ≤ length (now edges)) ⌝ }
     ensures { λ _. ⌜ Following (now (least .entry)) (now (kinds .entry)) n (now (edges .entry)) (now (edges .exit)) ⌝ }
 {
     for p in 0..n {

@@ -8,7 +8,7 @@ ghost use Rattle.model.specs.Graph.{maxNodes, rowWords};
 ghost use Rattle.model.specs.Tables.{edgeBit};
 ghost use Rattle.rows.specs.Rows.{noNode};
 ghost use Rattle.compressed.specs.Compressed.{Compressed, placed};
-ghost use Rattle.unfolding.specs.Unfolding.{Fitting, NeighbourRow, Spread, SpreadBut, joinBit};
+ghost use Rattle.unfolding.specs.Unfolding.{FirstsFit, NeighbourRow, Spread, SpreadBut, joinBit};
 use compressed::CLIQUE;
 use rows::Graph;
 
@@ -30,7 +30,7 @@ fn join_bit(row: &[u64], first: u16) -> u64
 
 // The nodes whose first members are in a row.
 fn spread(least: &[u16], n: usize, row: &[u64]) -> [u64; 8]
-    requires { ⌜ (n ≤ maxNodes) × (n ≤ length (now least)) × Fitting n (now least) × (length (now row) ≡ rowWords) ⌝ }
+    requires { ⌜ (n ≤ maxNodes) × (n ≤ length (now least)) × FirstsFit n (now least) × (length (now row) ≡ rowWords) ⌝ }
     ensures { λ r. ⌜ Spread n (now (least .entry)) (edgeBit (now (row .entry)) 0) r ⌝ }
 {
     let mut all = [0u64; 8];
@@ -43,7 +43,7 @@ fn spread(least: &[u16], n: usize, row: &[u64]) -> [u64; 8]
 
 // The neighbours of p, of a clique that l leads: l's own bit brings in all members, of which p is taken out.
 fn clique_row(least: &[u16], n: usize, row: &[u64], l: usize, p: usize) -> [u64; 8]
-    requires { ⌜ (n ≤ maxNodes) × (n ≤ length (now least)) × Fitting n (now least) × (length (now row) ≡ rowWords) × (p < maxNodes) ⌝ }
+    requires { ⌜ (n ≤ maxNodes) × (n ≤ length (now least)) × FirstsFit n (now least) × (length (now row) ≡ rowWords) × (p < maxNodes) ⌝ }
     ensures { λ r. ⌜ SpreadBut p n (now (least .entry)) (λ x. edgeBit (now (row .entry)) 0 x || eqb l x) r ⌝ }
 {
     let mut own = [0u64; 8];

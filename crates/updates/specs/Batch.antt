@@ -25,6 +25,6 @@ pub record Underway (n : ℕ) (xs : List ℕ) (t₀ : Tables) (out₀ : List ℤ
   pub size : length out ≡ length out₀
 
 -- the batch xs made t and out into after and told
-pub record Applied (n : ℕ) (xs : List ℕ) (t : Tables) (out : List ℤ) (after : Tables) (told : List ℤ) : Type 0 where
+pub record BatchApplied (n : ℕ) (xs : List ℕ) (t : Tables) (out : List ℤ) (after : Tables) (told : List ℤ) : Type 0 where
   pub tables : after ≡ tablesOf (batchGraph (graphOf n t) (updatesIn xs))
   pub answered : told ≡ onto (answers (graphOf n t) (updatesIn xs)) out

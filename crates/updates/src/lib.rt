@@ -6,7 +6,7 @@ ghost use lib.ListN.{length};
 ghost use Rattle.model.specs.Updates.{updateCount, updateNumbers, wrongBatch};
 ghost use Rattle.rows.specs.Rows.{lent};
 ghost use Rattle.tables.specs.Lent.{Held};
-ghost use Rattle.updates.specs.Batch.{Applied};
+ghost use Rattle.updates.specs.Batch.{BatchApplied};
 use rows::Graph;
 use updating::update;
 
@@ -40,7 +40,7 @@ pub fn run(
 )
     requires { ⌜ Held n (lent (now edges) (now nodes) (now keys)) ⌝ }
     requires { ⌜ (length (now batch) % updateNumbers ≡ 0) × (updateCount (now batch) ≤ length (now answers)) ⌝ }
-    ensures { λ _. ⌜ Applied n (now (batch .entry)) (lent (now (edges .entry)) (now (nodes .entry)) (now (keys .entry))) (now (answers .entry)) (lent (now (edges .exit)) (now (nodes .exit)) (now (keys .exit))) (now (answers .exit)) ⌝ }
+    ensures { λ _. ⌜ BatchApplied n (now (batch .entry)) (lent (now (edges .entry)) (now (nodes .entry)) (now (keys .entry))) (now (answers .entry)) (lent (now (edges .exit)) (now (nodes .exit)) (now (keys .exit))) (now (answers .exit)) ⌝ }
 {
     for i in 0..count(batch) {
         let a = Graph::UPDATE_NUMBERS * i;

@@ -7,12 +7,12 @@ ghost use lib.ListN.{length, getD};
 ghost use Rattle.model.specs.Graph.{maxNodes, rowWords};
 ghost use Rattle.model.specs.Tables.{edgeBit};
 ghost use Rattle.model.specs.Release.{headRecord, superedgeRecord, u16, u16Limit};
-ghost use Rattle.rows.specs.Rows.{Words};
+ghost use Rattle.rows.specs.Rows.{Words, leads};
 ghost use Rattle.buffers.specs.Wrote.{Wrote};
 ghost use Rattle.buffers.specs.Scan.{scan};
-ghost use Rattle.layout.specs.File.{Ahead, Linked, Partition, Rows, chain, fileNodes, fileOf, firstTwo, groupBytes, groupMark, groupsBytes, inGroup, later, leadersOf, leads, superedgeBytes, superedgeTotal, superedgesTo, u16Bytes, writtenFile};
-ghost use Rattle.layout.specs.Words.{Leading, Marked, Placed, Rowed, laterWord, marked, positionsOf};
-ghost use Rattle.writer.specs.Written.{Measured, answer};
+ghost use Rattle.layout.specs.File.{Ahead, NextLinked, Partition, Rows, chain, fileNodes, fileOf, firstTwo, groupBytes, groupMark, groupsBytes, inGroup, later, leadersOf, superedgeBytes, superedgeTotal, superedgesTo, u16Bytes, writtenFile};
+ghost use Rattle.layout.specs.Words.{AscendingLeaders, LeaderPlaces, LeaderSet, Rowed, laterWord, markedEdge, positionsOf};
+ghost use Rattle.writer.specs.Written.{Measured, releasedBy};
 use rows::Graph;
 
 // The mark and the count before the members of a group.
@@ -170,7 +170,7 @@ fn write_superedges_of(
     i: usize,
 ) -> usize
     requires { ⌜ Rowed (now edges) (now leaders) ⌝ }
-    requires { ⌜ Marked (now leaders) (now set) × Placed (now leaders) (now position) ⌝ }
+    requires { ⌜ LeaderSet (now leaders) (now set) × LeaderPlaces (now leaders) (now position) ⌝ }
     requires { ⌜ i < length (now leaders) ⌝ }
     requires { ⌜ at + length (superedgesTo i (later (edgeBit (now edges)) (now leaders) i)) ≤ length (now out) ⌝ }
     ensures { λ r. ⌜ Wrote (now (out .entry)) at (superedgesTo i (later (edgeBit (now (edges .entry))) (now (leaders .entry)) i)) (now (out .exit)) r ⌝ }
@@ -196,7 +196,7 @@ fn write_superedges(
     position: &[u16],
 ) -> usize
     requires { ⌜ Rowed (now edges) (now leaders) ⌝ }
-    requires { ⌜ Marked (now leaders) (now set) × Placed (now leaders) (now position) ⌝ }
+    requires { ⌜ LeaderSet (now leaders) (now set) × LeaderPlaces (now leaders) (now position) ⌝ }
     requires { ⌜ at + length (superedgeBytes (edgeBit (now edges)) (now leaders)) ≤ length (now out) ⌝ }
     ensures { λ r. ⌜ Wrote (now (out .entry)) at (superedgeBytes (edgeBit (now (edges .entry))) (now (leaders .entry))) (now (out .exit)) r ⌝ }
 {
@@ -221,7 +221,7 @@ fn add_ones(count: usize, x: u64) -> usize
 // The nodes of a set, from word `from` on, that have an edge to p.
 fn count_words(edges: &[u64], set: &[u64; Graph::ROW_WORDS], p: usize, from: usize) -> usize
     requires { ⌜ (p < maxNodes) × (from ≤ rowWords) × (rowWords * p + rowWords ≤ length (now edges)) × Words (now set) ⌝ }
-    ensures { λ r. ⌜ r ≡ length (scan (marked (now (edges .entry)) (now (set .entry)) p) maxNodes (64 * from)) ⌝ }
+    ensures { λ r. ⌜ r ≡ length (scan (markedEdge (now (edges .entry)) (now (set .entry)) p) maxNodes (64 * from)) ⌝ }
 {
     let a = Graph::ROW_WORDS * p;
     let mut count: usize = 0;
@@ -241,7 +241,7 @@ fn count_superedges_of(
     i: usize,
 ) -> usize
     requires { ⌜ Rowed (now edges) (now leaders) ⌝ }
-    requires { ⌜ Marked (now leaders) (now set) ⌝ }
+    requires { ⌜ LeaderSet (now leaders) (now set) ⌝ }
     requires { ⌜ i < length (now leaders) ⌝ }
     ensures { λ r. ⌜ r ≡ length (later (edgeBit (now (edges .entry))) (now (leaders .entry)) i) ⌝ }
 {
@@ -256,7 +256,7 @@ fn count_superedges_of(
 // All superedges.
 fn count_superedges(edges: &[u64], leaders: &[u16], set: &[u64; Graph::ROW_WORDS]) -> usize
     requires { ⌜ Rowed (now edges) (now leaders) ⌝ }
-    requires { ⌜ Marked (now leaders) (now set) ⌝ }
+    requires { ⌜ LeaderSet (now leaders) (now set) ⌝ }
     ensures { λ r. ⌜ (r ≡ superedgeTotal (edgeBit (now (edges .entry))) (now (leaders .entry))) × (r ≤ maxNodes * maxNodes) ⌝ }
 {
     let mut count: usize = 0;
@@ -298,7 +298,7 @@ fn collect_leaders(least: &[u16], n: usize, leaders: &mut [u16]) -> usize
 // The least members as a set of bits.
 fn leader_set(least: &[u16], n: usize) -> [u64; Graph::ROW_WORDS]
     requires { ⌜ (n ≤ maxNodes) × (n ≤ length (now least)) ⌝ }
-    ensures { λ r. ⌜ Marked (leadersOf n (now (least .entry))) r ⌝ }
+    ensures { λ r. ⌜ LeaderSet (leadersOf n (now (least .entry))) r ⌝ }
 {
     let mut set = [0u64; Graph::ROW_WORDS];
     for p in 0..n {
@@ -312,8 +312,8 @@ fn leader_set(least: &[u16], n: usize) -> [u64; Graph::ROW_WORDS]
 
 // The position of each leader.
 fn positions_of(leaders: &[u16]) -> [u16; Graph::NODES]
-    requires { ⌜ Leading (now leaders) ⌝ }
-    ensures { λ r. ⌜ Placed (now (leaders .entry)) r ⌝ }
+    requires { ⌜ AscendingLeaders (now leaders) ⌝ }
+    ensures { λ r. ⌜ LeaderPlaces (now (leaders .entry)) r ⌝ }
 {
     let mut position = [0u16; Graph::NODES];
     for i in 0..leaders.len() {
@@ -325,7 +325,7 @@ fn positions_of(leaders: &[u16]) -> [u16; Graph::NODES]
 // The next greater member of each node's group, NONE after the last and at nodes of no group.
 fn link(least: &[u16], n: usize, next: &mut [u16])
     requires { ⌜ (n ≤ maxNodes) × (n ≤ length (now least)) × (n ≤ length (now next)) ⌝ }
-    ensures { λ _. ⌜ Linked n (now (least .entry)) (now (next .exit)) ⌝ }
+    ensures { λ _. ⌜ NextLinked n (now (least .entry)) (now (next .exit)) ⌝ }
 {
     let mut head = [Graph::NONE; Graph::NODES];
     let mut p = n;
@@ -352,7 +352,7 @@ fn write_file(
     out: &mut [u8],
 ) -> usize
     requires { ⌜ Partition n (now least) (now edges) ⌝ }
-    requires { ⌜ (now leaders ≡ leadersOf n (now least)) × Marked (now leaders) (now set) ⌝ }
+    requires { ⌜ (now leaders ≡ leadersOf n (now least)) × LeaderSet (now leaders) (now set) ⌝ }
     requires { ⌜ m ≡ fileNodes n (now least) ⌝ }
     requires { ⌜ length (fileOf n (now least) (now edges)) ≤ length (now out) ⌝ }
     ensures { λ r. ⌜ Wrote (now (out .entry)) 0 (fileOf n (now (least .entry)) (now (edges .entry))) (now (out .exit)) r ⌝ }
@@ -405,7 +405,7 @@ pub struct Written {
 // The release file into a lent buffer; 18, and nothing written, if the buffer is too short.
 pub fn write(n: usize, least: &[u16], edges: &[u64], out: &mut [u8]) -> Written
     requires { ⌜ Partition n (now least) (now edges) ⌝ }
-    ensures { λ r. ⌜ answer r (now (out .exit)) ≡ writtenFile n (now (least .entry)) (now (edges .entry)) (now (out .entry)) ⌝ }
+    ensures { λ r. ⌜ releasedBy r (now (out .exit)) ≡ writtenFile n (now (least .entry)) (now (edges .entry)) (now (out .entry)) ⌝ }
 {
     let mut leaders = [0u16; Graph::NODES];
     let measured = measure(n, least, edges, &mut leaders);

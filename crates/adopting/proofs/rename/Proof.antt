@@ -2,18 +2,18 @@
 use mathlib.Core.Logic.{⊎-elim}
 use Prim.Native.Nat.{_-_, _≤_}
 use native.Mathlib.Omega.{arith}
-use Rattle.adopting.specs.LoopLaws.{Renaming, renaming-done, renaming-no, renaming-none, renaming-yes}
+use Rattle.adopting.specs.LoopLaws.{NumbersRenaming, numbers-none, renaming-done, renaming-no, renaming-yes}
 use Rattle.adopting.proofs.rename.Statement.{statement}
 use Rattle.adopting.proofs.rename.Tie as tie
 
 abbrev Inv-loop : tie.InvT-loop
-Inv-loop least₀ n x y p₀ least p = (p ≤ n) × Renaming p x y least₀ least
+Inv-loop least₀ n x y p₀ least p = (p ≤ n) × NumbersRenaming p x y least₀ least
 
 abbrev μ-loop : tie.MeasureT-loop
 μ-loop least₀ n x y p₀ least p = n - p
 
 loop-holds : tie.Need-loop-holds Inv-loop μ-loop
-loop-holds c = (omega arith, renaming-none _ _ _)
+loop-holds c = (omega arith, numbers-none _ _ _)
 
 mul-if1 : tie.Need-mul-if1 Inv-loop μ-loop
 mul-if1 c = omega arith

@@ -1,7 +1,7 @@
 -- Slots are below 8192, and bytes below 256.
 use native.Mathlib.Omega.{arith}
 use borrow.Author.Needs.{needs}
-use Rattle.checks.specs.SlotLaws.{marked}
+use Rattle.checks.specs.SlotLaws.{slots-marked}
 use Rattle.checks.proofs.are_new.Statement.{statement}
 use Rattle.checks.proofs.are_new.Tie as tie
 
@@ -66,7 +66,7 @@ returns : tie.Need-returns
 returns c =
     let w = c .before .before in
     let b = w .before .before in
-    marked _ _ _ _ _ _ _ _ (b .before .before .slot .ensures) (b .slot2 .ensures) (w .wide-byte .ensures) (c .wide-byte2 .ensures)
+    slots-marked _ _ _ _ _ _ _ _ (b .before .before .slot .ensures) (b .slot2 .ensures) (w .wide-byte .ensures) (c .wide-byte2 .ensures)
 
 pub are-new-spec : {M : Type 1} → statement M
 are-new-spec =

@@ -3,13 +3,13 @@ use mathlib.Core.Bool.{false}
 use mathlib.Core.Path.{_≡_, refl}
 use Prim.Native.Nat.{_-_, _≤_}
 use native.Mathlib.Omega.{arith}
-use Rattle.grouping.specs.Chains.{hashOf, plain}
+use Rattle.grouping.specs.Chains.{hashOf, unrotated}
 use Rattle.grouping.specs.HashLaws.{hash-done, hash-more}
 use Rattle.grouping.proofs.sum_plain.Statement.{statement}
 use Rattle.grouping.proofs.sum_plain.Tie as tie
 
 abbrev Inv-loop : tie.InvT-loop
-Inv-loop edges p a h₀ w₀ h w = (w ≤ 8) × (h ≡ hashOf plain edges false p w)
+Inv-loop edges p a h₀ w₀ h w = (w ≤ 8) × (h ≡ hashOf unrotated edges false p w)
 
 abbrev μ-loop : tie.MeasureT-loop
 μ-loop edges p a h₀ w₀ h w = 8 - w
@@ -36,10 +36,10 @@ loop-less : tie.Need-loop-less Inv-loop μ-loop
 loop-less c = omega arith
 
 loop-again : tie.Need-loop-again Inv-loop μ-loop
-loop-again c = (omega arith, hash-more plain _ _ _ (c .before .before .loop .inv .1) refl)
+loop-again c = (omega arith, hash-more unrotated _ _ _ (c .before .before .loop .inv .1) refl)
 
 returns : tie.Need-returns Inv-loop μ-loop
-returns c = hash-done plain _ _ (c .before .loop .inv .1) (omega arith)
+returns c = hash-done unrotated _ _ (c .before .loop .inv .1) (omega arith)
 
 pub sum-plain-spec : {M : Type 1} → statement M
 sum-plain-spec =

@@ -2,13 +2,13 @@
 use Prim.Native.Nat.{_+_, _*_, _-_, _≤_}
 use native.Mathlib.Omega.{arith}
 use Rattle.rows.specs.KeyLaws.{cube-le}
-use Rattle.keys.specs.KeySums.{Filled}
-use Rattle.keys.specs.FourLaws.{filled-more, filled-start}
+use Rattle.keys.specs.KeySums.{FoursFilled}
+use Rattle.keys.specs.FourLaws.{filled-start, fours-more}
 use Rattle.keys.proofs.fill_four.Statement.{statement}
 use Rattle.keys.proofs.fill_four.Tie as tie
 
 abbrev Inv-loop : tie.InvT-loop
-Inv-loop sums₀ b c d e f v₀ sums v = (v ≤ 16) × Filled (16 * b + v) sums
+Inv-loop sums₀ b c d e f v₀ sums v = (v ≤ 16) × FoursFilled (16 * b + v) sums
 
 abbrev μ-loop : tie.MeasureT-loop
 μ-loop sums₀ b c d e f v₀ sums v = 16 - v
@@ -103,7 +103,7 @@ loop-again c =
     let e = f .before in
     let d = e .before in
     let g = d .before in
-    (omega arith, filled-more (l .loop .inv .1) (g .before .before .pre .0) (c .before .loop-test .taken) (g .cube-of .ensures) (d .cube-of2 .ensures) (e .cube-of3 .ensures) (f .cube-of4 .ensures) (c .chosen-of .ensures))
+    (omega arith, fours-more (l .loop .inv .1) (g .before .before .pre .0) (c .before .loop-test .taken) (g .cube-of .ensures) (d .cube-of2 .ensures) (e .cube-of3 .ensures) (f .cube-of4 .ensures) (c .chosen-of .ensures))
 
 -- src/dense.rt:154:1
 same-length : tie.Need-same-length Inv-loop μ-loop

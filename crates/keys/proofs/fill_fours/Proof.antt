@@ -1,20 +1,20 @@
 -- The invariant: the entries for the nodes before 4 * b are there.
 use Prim.Native.Nat.{_*_, _-_, _≤_}
 use native.Mathlib.Omega.{arith}
-use Rattle.keys.specs.KeySums.{Filled}
-use Rattle.keys.specs.FourLaws.{filled-none, filled-start}
+use Rattle.keys.specs.KeySums.{FoursFilled}
+use Rattle.keys.specs.FourLaws.{filled-start, fours-none}
 use Rattle.keys.proofs.fill_fours.Statement.{statement}
 use Rattle.keys.proofs.fill_fours.Tie as tie
 
 abbrev Inv-loop : tie.InvT-loop
-Inv-loop sums₀ b₀ sums b = (b ≤ 128) × Filled (16 * b) sums
+Inv-loop sums₀ b₀ sums b = (b ≤ 128) × FoursFilled (16 * b) sums
 
 abbrev μ-loop : tie.MeasureT-loop
 μ-loop sums₀ b₀ sums b = 128 - b
 
 -- src/dense.rt:171:5
 loop-holds : tie.Need-loop-holds Inv-loop μ-loop
-loop-holds c = (omega arith, filled-none _ (c .before .pre))
+loop-holds c = (omega arith, fours-none _ (c .before .pre))
 
 -- src/dense.rt:172:9
 fill-four-requires : tie.Need-fill-four-requires Inv-loop μ-loop

@@ -2,18 +2,18 @@
 use Prim.Native.Nat.{_+_, _*_, _-_, _≤_}
 use native.Mathlib.Omega.{arith}
 use lib.ListN.{getD}
-use Rattle.keys.specs.SumLaws.{Adding, adding-done, adding-less, adding-next, adding-on, adding-place, adding-set, adding-start}
+use Rattle.keys.specs.SumLaws.{CubesSoFar, adding-done, adding-less, adding-next, adding-on, adding-place, adding-set, adding-start}
 use Rattle.keys.proofs.sum_row.Statement.{statement}
 use Rattle.keys.proofs.sum_row.Tie as tie
 
 abbrev Inv-loop2 : tie.InvT-loop2
-Inv-loop2 edges n p a sum₀ w x₀ sum x = Adding n edges p w x sum
+Inv-loop2 edges n p a sum₀ w x₀ sum x = CubesSoFar n edges p w x sum
 
 abbrev μ-loop2 : tie.MeasureT-loop2
 μ-loop2 edges n p a sum₀ w x₀ sum x = x
 
 abbrev Inv-loop : tie.InvT-loop
-Inv-loop edges n p a sum₀ w₀ sum w = (w ≤ 8) × Adding n edges p w (getD edges (8 * p + w) 0) sum
+Inv-loop edges n p a sum₀ w₀ sum w = (w ≤ 8) × CubesSoFar n edges p w (getD edges (8 * p + w) 0) sum
 
 abbrev μ-loop : tie.MeasureT-loop
 μ-loop edges n p a sum₀ w₀ sum w = 8 - w

@@ -3,7 +3,7 @@ use mathlib.Core.Path.{sym}
 use native.Mathlib.Omega.{arith}
 use lib.Seq.{length-take-le}
 use borrow.Author.Needs.{needs}
-use Rattle.text.specs.LineLaws.{edge-short, edge-told}
+use Rattle.text.specs.LineLaws.{edge-change-told, edge-short}
 use Rattle.text.specs.PieceLaws.{upTo-le}
 use Rattle.text.proofs.edge_line.Statement.{statement}
 use Rattle.text.proofs.edge_line.Tie as tie
@@ -39,7 +39,7 @@ edge-change-requires : tie.Need-edge-change-requires
 edge-change-requires c κs = search needs
 
 returns-2 : tie.Need-returns-2
-returns-2 c = edge-told _ _ (c .before .before .before .before .before .before .before .before .args .s .now) (c .before .before .before .before .before .before .find .ensures) (c .before .before .before .before .before .if1 .left) (c .before .before .before .read-number .ensures) (c .before .read-number2 .ensures) (c .edge-change .ensures)
+returns-2 c = edge-change-told _ _ (c .before .before .before .before .before .before .before .before .args .s .now) (c .before .before .before .before .before .before .find .ensures) (c .before .before .before .before .before .if1 .left) (c .before .before .before .read-number .ensures) (c .before .read-number2 .ensures) (c .edge-change .ensures)
 
 pub edge-line-spec : {M : Type 1} → statement M
 edge-line-spec =

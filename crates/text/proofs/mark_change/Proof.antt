@@ -1,6 +1,6 @@
 -- `text::mark_change` meets its contract.
 use borrow.Author.Needs.{needs}
-use Rattle.text.specs.LineLaws.{mark-none, mark-one}
+use Rattle.text.specs.LineLaws.{mark-no-number, mark-one}
 use Rattle.text.proofs.mark_change.Statement.{statement}
 use Rattle.text.proofs.mark_change.Tie as tie
 
@@ -11,7 +11,7 @@ enum-told : tie.Need-enum-told
 enum-told c = search needs
 
 returns : tie.Need-returns
-returns c = mark-none _ (c .enum-told .given .1)
+returns c = mark-no-number _ (c .enum-told .given .1)
 
 returns-2 : tie.Need-returns-2
 returns-2 c = mark-one _ _ (c .before .first .given .1)

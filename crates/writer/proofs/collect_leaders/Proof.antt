@@ -3,7 +3,7 @@ use mathlib.Core.Logic.{⊎-elim}
 use Prim.Native.Nat.{_-_, _≤_}
 use native.Mathlib.Omega.{arith}
 use borrow.Author.Needs.{needs}
-use Rattle.layout.specs.File.{leads}
+use Rattle.rows.specs.Rows.{leads}
 use Rattle.layout.specs.FileLaws.{collect-yes, leads-no, leads-yes}
 use Rattle.buffers.specs.Scan.{scan}
 use Rattle.buffers.specs.ScanLaws.{scan-end, scan-no}

@@ -5,13 +5,13 @@ use lib.ListN.{length}
 use borrow.Author.Needs.{needs}
 use Rattle.buffers.specs.Scan.{Counting, scan}
 use Rattle.buffers.specs.ScanLaws.{counting-done, counting-start}
-use Rattle.layout.specs.Words.{marked}
+use Rattle.layout.specs.Words.{markedEdge}
 use Rattle.writer.specs.CountLaws.{counting-next, counting-small}
 use Rattle.writer.proofs.count_words.Statement.{statement}
 use Rattle.writer.proofs.count_words.Tie as tie
 
 abbrev Inv-loop : tie.InvT-loop
-Inv-loop edges set p from a count₀ w₀ count w = (w ≤ 8) × Counting (marked edges set p) 512 (length (scan (marked edges set p) 512 (64 * from))) count (64 * w)
+Inv-loop edges set p from a count₀ w₀ count w = (w ≤ 8) × Counting (markedEdge edges set p) 512 (length (scan (markedEdge edges set p) 512 (64 * from))) count (64 * w)
 
 abbrev μ-loop : tie.MeasureT-loop
 μ-loop edges set p from a count₀ w₀ count w = 8 - w

@@ -4,7 +4,7 @@ use Prim.Native.Nat.{_-_, _≤_}
 use native.Mathlib.Omega.{arith}
 use borrow.Author.Needs.{needs}
 use Rattle.rows.specs.BitLaws.{flipped-at}
-use Rattle.layout.specs.File.{leads}
+use Rattle.rows.specs.Rows.{leads}
 use Rattle.layout.specs.FileLaws.{leads-no, leads-yes}
 use Rattle.layout.specs.WordLaws.{marking-done, marking-no, marking-start, marking-yes}
 use Rattle.layout.specs.Words.{Marking}
