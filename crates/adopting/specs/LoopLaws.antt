@@ -16,8 +16,8 @@ use Rattle.rows.specs.Rows.{leads}
 use Rattle.adopting.specs.Adopting.{First, NumbersRenamed, emptyTo, isHidden, isIsolated}
 
 -- words of a row gathered
-or-none : (a b : ℕ) → eqb (bitOr a b) 0 ≡ (eqb a 0 && eqb b 0)
-or-none a b = iff-eq (eqb (bitOr a b) 0) (eqb a 0 && eqb b 0) there back
+or-zero : (a b : ℕ) → eqb (bitOr a b) 0 ≡ (eqb a 0 && eqb b 0)
+or-zero a b = iff-eq (eqb (bitOr a b) 0) (eqb a 0 && eqb b 0) there back
   where
     there : eqb (bitOr a b) 0 ≡ true → (eqb a 0 && eqb b 0) ≡ true
     there h =
@@ -38,7 +38,7 @@ gather-none edges p = refl
 
 pub gather-more : (edges : List ℕ) (p w any : ℕ) → eqb any 0 ≡ emptyTo edges p w → eqb (bitOr any (getD edges (8 * p + w) 0)) 0 ≡ emptyTo edges p (w + 1)
 unfolding emptyTo
-gather-more edges p w any h = rw (add-one w) (or-none any (getD edges (8 * p + w) 0) ∙ ap (λ (b : Bool). b && eqb (getD edges (8 * p + w) 0) 0) h)
+gather-more edges p w any h = rw (add-one w) (or-zero any (getD edges (8 * p + w) 0) ∙ ap (λ (b : Bool). b && eqb (getD edges (8 * p + w) 0) 0) h)
 
 -- the first that passes
 pub first-is : {P : ℕ → Bool} {n p : ℕ} → p < n → ((k : ℕ) → k < p → P k ≡ false) → P p ≡ true → First P n p

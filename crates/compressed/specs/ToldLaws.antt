@@ -120,10 +120,10 @@ joined-turn gs (x ∷ xs) a b = ap₂ _||_ (turn (eqb a (firstAt gs (x .0))) (eq
     turn p q r s = or-comm (p && q) (r && s) ∙ ap₂ _||_ (and-comm r s) (and-comm p q)
 
 -- a superedge between the groups that a and b are the first members of
-abbrev Across : List (Bool × List ℕ) → List (ℕ × ℕ) → ℕ → ℕ → Type 0
-Across gs js a b = (i : ℕ) × (j : ℕ) × ((hasPair js i j || hasPair js j i) ≡ true) × (a ≡ firstAt gs i) × (b ≡ firstAt gs j)
+abbrev SuperedgeAcross : List (Bool × List ℕ) → List (ℕ × ℕ) → ℕ → ℕ → Type 0
+SuperedgeAcross gs js a b = (i : ℕ) × (j : ℕ) × ((hasPair js i j || hasPair js j i) ≡ true) × (a ≡ firstAt gs i) × (b ≡ firstAt gs j)
 
-joined-out : (gs : List (Bool × List ℕ)) (js : List (ℕ × ℕ)) (a b : ℕ) → joinedBy gs js a b ≡ true → Across gs js a b
+joined-out : (gs : List (Bool × List ℕ)) (js : List (ℕ × ℕ)) (a b : ℕ) → joinedBy gs js a b ≡ true → SuperedgeAcross gs js a b
 unfolding hasPair joinedBy
 joined-out gs [] a b t = differ t refl
 joined-out gs (x ∷ xs) a b t = step (or-cases ((eqb a f && eqb b s) || (eqb a s && eqb b f)) (joinedBy gs xs a b) t) (joined-out gs xs a b)
@@ -137,7 +137,7 @@ joined-out gs (x ∷ xs) a b t = step (or-cases ((eqb a f && eqb b s) || (eqb a 
     own : hasPair (x ∷ xs) (x .0) (x .1) ≡ true
     own = or-left (hasPair xs (x .0) (x .1)) (and-true (eq-eqb (x .0) (x .0) refl) (eq-eqb (x .1) (x .1) refl))
 
-    either : ((eqb a f && eqb b s) ≡ true) ⊎ ((eqb a s && eqb b f) ≡ true) → Across gs (x ∷ xs) a b
+    either : ((eqb a f && eqb b s) ≡ true) ⊎ ((eqb a s && eqb b f) ≡ true) → SuperedgeAcross gs (x ∷ xs) a b
     either (inl h) = (x .0, x .1, or-left (hasPair (x ∷ xs) (x .1) (x .0)) own, eqb-true a f (and-fst (eqb a f) (eqb b s) h), eqb-true b s (and-snd (eqb a f) (eqb b s) h))
     either (inr h) = (x .1, x .0, or-right (hasPair (x ∷ xs) (x .1) (x .0)) own, eqb-true a s (and-fst (eqb a s) (eqb b f) h), eqb-true b f (and-snd (eqb a s) (eqb b f) h))
 
@@ -145,7 +145,7 @@ joined-out gs (x ∷ xs) a b t = step (or-cases ((eqb a f && eqb b s) || (eqb a 
     more i j (inl h) = or-left (hasPair (x ∷ xs) j i) (or-right (eqb (x .0) i && eqb (x .1) j) h)
     more i j (inr h) = or-right (hasPair (x ∷ xs) i j) (or-right (eqb (x .0) j && eqb (x .1) i) h)
 
-    step : (((eqb a f && eqb b s) || (eqb a s && eqb b f)) ≡ true) ⊎ (joinedBy gs xs a b ≡ true) → (joinedBy gs xs a b ≡ true → Across gs xs a b) → Across gs (x ∷ xs) a b
+    step : (((eqb a f && eqb b s) || (eqb a s && eqb b f)) ≡ true) ⊎ (joinedBy gs xs a b ≡ true) → (joinedBy gs xs a b ≡ true → SuperedgeAcross gs xs a b) → SuperedgeAcross gs (x ∷ xs) a b
     step (inl h) below = either (or-cases (eqb a f && eqb b s) (eqb a s && eqb b f) h)
     step (inr h) below = let r = below h in (r .0, r .1, more (r .0) (r .1) (or-cases (hasPair xs (r .0) (r .1)) (hasPair xs (r .1) (r .0)) (r .2)), r .3, r .4)
 
@@ -194,7 +194,7 @@ module _ (n : ℕ) (gs : List (Bool × List ℕ)) (js : List (ℕ × ℕ)) (fits
   pub joined-at : (i j : ℕ) → i < length gs → j < length gs → joinedBy gs js (firstAt gs i) (firstAt gs j) ≡ groupView gs js .edge i j
   joined-at i j a b = iff-eq _ (hasPair js i j || hasPair js j i) (λ t. there (joined-out gs js (firstAt gs i) (firstAt gs j) t)) (λ t. back (or-cases (hasPair js i j) (hasPair js j i) t))
     where
-      there : Across gs js (firstAt gs i) (firstAt gs j) → (hasPair js i j || hasPair js j i) ≡ true
+      there : SuperedgeAcross gs js (firstAt gs i) (firstAt gs j) → (hasPair js i j || hasPair js j i) ≡ true
       there r =
           let l = group-joined gs js ordered (r .0) (r .1) (r .2) in
           let e = firsts-one n gs fits i (r .0) a (l .0) (r .3) in

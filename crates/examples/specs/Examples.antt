@@ -52,8 +52,8 @@ hide u = record { kind = 3; u = u; v = 0 }
 abbrev graph : ℕ → List Update → Graph
 graph n cs = batchGraph (emptyGraph n) cs
 
-unfoldable pub pair : Graph
-pair = graph 2 (insert 0 1 ∷ [])
+unfoldable pub oneEdge : Graph
+oneEdge = graph 2 (insert 0 1 ∷ [])
 
 unfoldable pub path3 : Graph
 path3 = graph 3 (insert 0 1 ∷ insert 1 2 ∷ [])
@@ -126,9 +126,9 @@ examples =
     ∷ groups (visibleGroups (emptyGraph 512)) (nodes 512 ∷ [])
     ∷ number (size (emptyGraph 512)) 1038
     -- 3. n 2, tied
-    ∷ groups (visibleGroups pair) ((0 ∷ 1 ∷ []) ∷ [])
-    ∷ kinds (kindsOf pair) (clique ∷ [])
-    ∷ number (size pair) 18
+    ∷ groups (visibleGroups oneEdge) ((0 ∷ 1 ∷ []) ∷ [])
+    ∷ kinds (kindsOf oneEdge) (clique ∷ [])
+    ∷ number (size oneEdge) 18
     -- 3. n 2, untied
     ∷ groups (visibleGroups (emptyGraph 2)) ((0 ∷ 1 ∷ []) ∷ [])
     ∷ kinds (kindsOf (emptyGraph 2)) (independent ∷ [])

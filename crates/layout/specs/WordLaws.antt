@@ -51,9 +51,9 @@ bit-below y t k h =
 half-shr : (x k : ℕ) → x / 2 / 2 ^ k ≡ x / 2 ^ suc k
 half-shr x k = let e : 1 + k ≡ suc k = omega arith in rw e at (shr-shr x 1 k)
 
-bit-zero : (x : ℕ) → bitAt x 0 ≡ eqb (x % 2) 1
+lowest-bit : (x : ℕ) → bitAt x 0 ≡ eqb (x % 2) 1
 unfolding bitAt
-bit-zero x = let e : x / 1 ≡ x = omega arith in rw e
+lowest-bit x = let e : x / 1 ≡ x = omega arith in rw e
 
 bit-suc : (x k : ℕ) → bitAt x (suc k) ≡ bitAt (x / 2) k
 unfolding bitAt
@@ -74,7 +74,7 @@ unfolding trailingZeros
 zeros-even k x e = rw e
 
 lowest-odd : (x : ℕ) → x % 2 ≡ 1 → LowestBit x 0
-lowest-odd x e = record { under = λ j h. absurd (omega arith); here = bit-zero x ∙ eq-eqb (x % 2) 1 e; rest = rest }
+lowest-odd x e = record { under = λ j h. absurd (omega arith); here = lowest-bit x ∙ eq-eqb (x % 2) 1 e; rest = rest }
   where
     rest : bitAnd x (x - 1) ≡ x / 2 ^ 1 * 2 ^ 1
     rest =
@@ -86,7 +86,7 @@ lowest-even : (x z : ℕ) → 0 < x → x % 2 ≡ 0 → LowestBit (x / 2) z → 
 lowest-even x z pos e l = record { under = under; here = bit-suc x z ∙ l .here; rest = rest }
   where
     under : (j : ℕ) → j < suc z → bitAt x j ≡ false
-    under zero h = bit-zero x ∙ ne-eqb (x % 2) 1 (omega arith)
+    under zero h = lowest-bit x ∙ ne-eqb (x % 2) 1 (omega arith)
     under (suc j) h = bit-suc x j ∙ l .under j (omega arith)
 
     rest : bitAnd x (x - 1) ≡ x / 2 ^ suc (suc z) * 2 ^ suc (suc z)

@@ -37,11 +37,11 @@ visible-is n edges marks p = once (ltb p n) (eqb (getD marks p 0) 1)
     once false w = refl
 
 -- the words of a row, one after the other
-pub row-none : (p : ℕ) (word : ℕ → ℕ) (t : List ℕ) → RowPut p 0 word t t
-row-none p word t = record { size = refl; words = λ w h. absurd (omega arith); earlier = λ i h. refl }
+pub masked-none : (p : ℕ) (word : ℕ → ℕ) (t : List ℕ) → RowPut p 0 word t t
+masked-none p word t = record { size = refl; words = λ w h. absurd (omega arith); earlier = λ i h. refl }
 
-pub row-more : {p w x : ℕ} {word : ℕ → ℕ} {t t₁ : List ℕ} → RowPut p w word t t₁ → 8 * p + w < length t → x ≡ word w → RowPut p (w + 1) word t (set t₁ (8 * p + w) x)
-row-more {p} {w} {x} {word} {t} {t₁} r l e = record {
+pub masked-more : {p w x : ℕ} {word : ℕ → ℕ} {t t₁ : List ℕ} → RowPut p w word t t₁ → 8 * p + w < length t → x ≡ word w → RowPut p (w + 1) word t (set t₁ (8 * p + w) x)
+masked-more {p} {w} {x} {word} {t} {t₁} r l e = record {
   size = length-set t₁ (8 * p + w) x ∙ r .size;
   words = λ v h. step v h (decide (eqb v w));
   earlier = λ i h. getD-set-other t₁ (8 * p + w) i x 0 (omega arith) ∙ r .earlier i h;
@@ -54,7 +54,7 @@ row-more {p} {w} {x} {word} {t} {t₁} r l e = record {
         getD-set-other t₁ (8 * p + w) (8 * p + v) x 0 (omega arith) ∙ r .words v (omega arith)
 
 pub row-cut : (edges kept : List ℕ) {p w : ℕ} {t t₁ : List ℕ} → RowPut p w (cutWord edges kept p) t t₁ → 8 * p + w < length t → RowPut p (w + 1) (cutWord edges kept p) t (set t₁ (8 * p + w) (bitAnd (getD edges (8 * p + w) 0) (getD kept w 0)))
-row-cut edges kept r l = row-more r l (unfold cutWord in refl)
+row-cut edges kept r l = masked-more r l (unfold cutWord in refl)
 
 pub row-whole : {p k : ℕ} {word : ℕ → ℕ} {t after : List ℕ} → RowPut p k word t after → 8 ≤ k → RowPut p 8 word t after
 row-whole r l = record { size = r .size; words = λ w h. r .words w (omega arith); earlier = r .earlier }

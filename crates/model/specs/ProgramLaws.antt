@@ -22,42 +22,42 @@ refused-not : {X : Type 0} (k n : ℕ) (cs : List Update) → refusedAt k ≡ ac
 refused-not k n cs h = let z : _≡_ {A = ℕ} 0 1 = cc in absurd (omega arith)
 
 -- an accepted line: it is not past the 4,097th, and the lines after it are accepted too
-abbrev Taken : ℕ → Input → ℕ → List Update → Type 0
-Taken k rest n cs = (k ≤ suc maxUpdates) × (c : Update) × (ds : List Update) × (rest ≡ accepted n ds) × (cs ≡ c ∷ ds)
+abbrev TakenLines : ℕ → Input → ℕ → List Update → Type 0
+TakenLines k rest n cs = (k ≤ suc maxUpdates) × (c : Update) × (ds : List Update) × (rest ≡ accepted n ds) × (cs ≡ c ∷ ds)
 
-line-accepted : (k : ℕ) (x : Line) (rest : Input) (n : ℕ) (cs : List Update) → withLine k x rest ≡ accepted n cs → Taken k rest n cs
+line-accepted : (k : ℕ) (x : Line) (rest : Input) (n : ℕ) (cs : List Update) → withLine k x rest ≡ accepted n cs → TakenLines k rest n cs
 unfolding withLine withUpdate
 line-accepted k illFormed rest n cs h = refused-not k n cs h
 line-accepted k (change c) rest n cs h = step rest (decide (ltb (suc maxUpdates) k)) h
   where
-    step : (r : Input) → (ltb (suc maxUpdates) k ≡ true) ⊎ (ltb (suc maxUpdates) k ≡ false) → cond (ltb (suc maxUpdates) k) (refusedAt k) (withUpdate c r) ≡ accepted n cs → Taken k r n cs
+    step : (r : Input) → (ltb (suc maxUpdates) k ≡ true) ⊎ (ltb (suc maxUpdates) k ≡ false) → cond (ltb (suc maxUpdates) k) (refusedAt k) (withUpdate c r) ≡ accepted n cs → TakenLines k r n cs
     step r (inl t) e = refused-not k n cs (rw t at e)
     step (refusedAt j) (inr t) e = refused-not j n cs (rw t at e)
     step (accepted m ds) (inr t) e = let q : accepted m (c ∷ ds) ≡ accepted n cs = rw t at e in (ltb-false (suc maxUpdates) k t, c, ds, cc, cc)
 
 -- what the lines from line k on hold: line 2 is the first change, line 4,097 the last
-abbrev Small : ℕ → ℕ → ℕ → List Update → Type 0
-Small m k n cs = (m ≡ n) × (length cs ≤ suc (suc maxUpdates) - k)
+abbrev SmallBatch : ℕ → ℕ → ℕ → List Update → Type 0
+SmallBatch m k n cs = (m ≡ n) × (length cs ≤ suc (suc maxUpdates) - k)
 
-none-small : (m k n : ℕ) (cs : List Update) → accepted m [] ≡ accepted n cs → Small m k n cs
+none-small : (m k n : ℕ) (cs : List Update) → accepted m [] ≡ accepted n cs → SmallBatch m k n cs
 none-small m k n cs h = let q : cs ≡ [] = cc in (cc, omega (arith, ap length q))
 
-lines-small : (ls : List (List ℕ)) (m k n : ℕ) (cs : List Update) → linesFrom m k ls ≡ accepted n cs → Small m k n cs
+lines-small : (ls : List (List ℕ)) (m k n : ℕ) (cs : List Update) → linesFrom m k ls ≡ accepted n cs → SmallBatch m k n cs
 unfolding linesFrom
 lines-small [] m k n cs h = none-small m k n cs h
 lines-small (l ∷ ls) m k n cs h = step (lines-small ls m (suc k) n) (decide (isNone ls)) (decide (eqb (length l) 0)) h
   where
     Below : Type 0
-    Below = (ds : List Update) → linesFrom m (suc k) ls ≡ accepted n ds → Small m (suc k) n ds
+    Below = (ds : List Update) → linesFrom m (suc k) ls ≡ accepted n ds → SmallBatch m (suc k) n ds
 
-    more : Below → withLine k (lineOf l) (linesFrom m (suc k) ls) ≡ accepted n cs → Small m k n cs
+    more : Below → withLine k (lineOf l) (linesFrom m (suc k) ls) ≡ accepted n cs → SmallBatch m k n cs
     more below e =
         let a = line-accepted k (lineOf l) (linesFrom m (suc k) ls) n cs e in
         let b = below (a .2) (a .3) in
         (b .0, omega (arith, a .0, b .1, ap length (a .4)))
 
     step : Below → (isNone ls ≡ true) ⊎ (isNone ls ≡ false) → (eqb (length l) 0 ≡ true) ⊎ (eqb (length l) 0 ≡ false)
-        → cond (isNone ls) (cond (eqb (length l) 0) (accepted m []) (refusedAt k)) (withLine k (lineOf l) (linesFrom m (suc k) ls)) ≡ accepted n cs → Small m k n cs
+        → cond (isNone ls) (cond (eqb (length l) 0) (accepted m []) (refusedAt k)) (withLine k (lineOf l) (linesFrom m (suc k) ls)) ≡ accepted n cs → SmallBatch m k n cs
     step below (inl s) (inl t) e = none-small m k n cs (rw (s, t) at e)
     step below (inl s) (inr t) e = refused-not k n cs (rw (s, t) at e)
     step below (inr s) t e = more below (rw s at e)

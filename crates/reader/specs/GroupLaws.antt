@@ -221,8 +221,8 @@ some true count m e h = omega arith
 some false count m e h = omega arith
 
 -- all members of a group stand in the bytes
-pub members-room : (s : List ℕ) (at : ℕ) (r : Read) → r ≡ recordAt s at → (q : Bool) (count : ℕ) → r .item ≡ Group q count → (m : ℕ) → m ≡ leastCount q → m ≤ count → 2 * count ≤ length s - r .next → (0 < count) × (r .next + 2 * count ≤ length s)
-members-room s at r read q count item m least h room =
+pub numbers-room : (s : List ℕ) (at : ℕ) (r : Read) → r ≡ recordAt s at → (q : Bool) (count : ℕ) → r .item ≡ Group q count → (m : ℕ) → m ≡ leastCount q → m ≤ count → 2 * count ≤ length s - r .next → (0 < count) × (r .next + 2 * count ≤ length s)
+numbers-room s at r read q count item m least h room =
     let told = group-told s at r read q count item in
     (some q count m least h, omega (arith, told .0, told .1))
 

@@ -11,7 +11,7 @@ use lib.Dec.{eqb}
 use Rattle.model.specs.Tables.{nodeNumber}
 use Rattle.rings.specs.Ring.{Parts, Out, Table}
 use Rattle.rings.specs.RingLaws.{up-circle, below′, followed}
-use Rattle.rings.specs.MoveLaws.{one-least, one-of}
+use Rattle.rings.specs.MoveLaws.{one-least, min-is}
 use Rattle.rings.specs.Steps.{Taken, Placed, OthersLeft, stayed, left}
 
 abbrev pub bit : Bool → ℕ
@@ -89,7 +89,7 @@ module _ {n : ℕ} {R : ℕ → ℕ → Type 0} (k : Parts n R) {t : List ℕ} (
 module _ {n : ℕ} {R : ℕ → ℕ → Type 0} (k : Parts n R) {u g : ℕ} (x : R u g) (ng : g ≢ u) {t t′ : List ℕ} (a : Table n (Out u R) t) (lg : nodeNumber t g 0 ≡ g) (z : Placed n u g t t′) where
   -- u joined a group
   pub count-joined : count n (leadsIn t) ≡ count n (leadsIn t′) + 1
-  count-joined = ⊎-elim at-g at-u (one-of u g (z .lesser))
+  count-joined = ⊎-elim at-g at-u (min-is u g (z .lesser))
     where
       hu : u < n
       hu = below′ k x

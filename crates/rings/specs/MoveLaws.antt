@@ -91,8 +91,8 @@ module _ {n : ℕ} {R : ℕ → ℕ → Type 0} (k : Parts n R) {u : ℕ} (hu : 
           move (Out u R) (λ p q. q) (λ p. nodeNumber t′ p 0) refl (x .least-off p hp ne nl)
           (record { mem = both R ne nl (a .least p hp .mem); near = λ r y. a .least p hp .near r (y .0) })
 
-pub one-of : (x y : ℕ) {h : ℕ} → h ≡ min x y → (h ≡ y) ⊎ (h ≡ x)
-one-of x y {h} e = step (decLt x y)
+pub min-is : (x y : ℕ) {h : ℕ} → h ≡ min x y → (h ≡ y) ⊎ (h ≡ x)
+min-is x y {h} e = step (decLt x y)
   where
     step : Dec (x < y) → (h ≡ y) ⊎ (h ≡ x)
     step (yes i) = inr (omega arith)
@@ -177,7 +177,7 @@ module _ {n : ℕ} {R : ℕ → ℕ → Type 0} (k : Parts n R) {u g : ℕ} (x :
       least-of : (p : ℕ) → R u p → Best (R p) (λ q. q) (z .h)
       least-of p v =
           record {
-            mem = ⊎-elim (λ e. subst (λ i. R p i) (sym e) (k .on (k .back v) x)) (λ e. subst (λ i. R p i) (sym e) (k .back v)) (one-of u g (z .lesser));
+            mem = ⊎-elim (λ e. subst (λ i. R p i) (sym e) (k .on (k .back v) x)) (λ e. subst (λ i. R p i) (sym e) (k .back v)) (min-is u g (z .lesser));
             near = λ r w. low r (k .on v w) (ℕ-discrete r u);
           }
 

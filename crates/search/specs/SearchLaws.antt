@@ -245,9 +245,9 @@ module _ (keys : List ℕ) (u q : ℕ) where
   unfolding keysAgree
   keys-second r s e t f = rw (sym e ∙ t) f
 
-least-at : (table : List ℕ) (q : ℕ) → nodeNumber table q 0 ≡ getD table (4 * q) 0
+least-number : (table : List ℕ) (q : ℕ) → nodeNumber table q 0 ≡ getD table (4 * q) 0
 unfolding nodeNumber
-least-at table q = let e : 4 * q + 0 ≡ 4 * q = omega arith in rw e
+least-number table q = let e : 4 * q + 0 ≡ 4 * q = omega arith in rw e
 
 module _ (table keys : List ℕ) (u w q : ℕ) where
   pub may-no-key : (r : Bool) → r ≡ keysAgree keys u q → not r ≡ true → false ≡ mayJoin table keys u w q
@@ -264,7 +264,7 @@ module _ (table keys : List ℕ) (u w q : ℕ) where
 
   pub may-least : (r : Bool) (x : ℕ) → r ≡ keysAgree keys u q → not r ≡ false → (q ≡ u → ⊥) → (q ≡ w → ⊥) → x ≡ getD table (4 * q) 0 → eqb x q ≡ mayJoin table keys u w q
   unfolding mayJoin
-  may-least r x e t a b f = rw (sym e ∙ not-false r t, ne-eqb q u a, ne-eqb q w b, f, least-at table q)
+  may-least r x e t a b f = rw (sym e ∙ not-false r t, ne-eqb q u a, ne-eqb q w b, f, least-number table q)
 
 pub own-here : (q i w m : ℕ) → w ≡ q / 64 → w ≡ i → m ≡ 2 ^ (q % 64) → m ≡ ownBit q i
 unfolding ownBit

@@ -1,3 +1,4 @@
+pub mod Joined
 pub mod Sums
 pub mod SumLaws
 pub mod GroupedLaws

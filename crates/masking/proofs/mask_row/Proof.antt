@@ -2,7 +2,7 @@
 use Prim.Native.Nat.{_-_, _≤_}
 use native.Mathlib.Omega.{arith}
 use borrow.Author.Needs.{needs}
-use Rattle.masking.specs.MaskLaws.{row-cut, row-none, row-whole}
+use Rattle.masking.specs.MaskLaws.{row-cut, masked-none, row-whole}
 use Rattle.masking.specs.Masking.{RowPut, cutWord}
 use Rattle.masking.proofs.mask_row.Statement.{statement}
 use Rattle.masking.proofs.mask_row.Tie as tie
@@ -17,7 +17,7 @@ mul-a : tie.Need-mul-a Inv-loop μ-loop
 mul-a c = omega arith
 
 loop-holds : tie.Need-loop-holds Inv-loop μ-loop
-loop-holds c = (omega arith, row-none _ _ _)
+loop-holds c = (omega arith, masked-none _ _ _)
 
 add-masked : tie.Need-add-masked Inv-loop μ-loop
 add-masked c = omega arith

@@ -11,7 +11,7 @@ use types.Run.{OneOf}
 use Rattle.records.specs.declared.Record.{Record}
 use Rattle.records.specs.declared.Record.the-variants.{Group}
 use Rattle.records.proofs.Record.{the-type}
-use Rattle.reader.specs.GroupLaws.{all-members, few-members, group-told, members-room, no-group, no-members, no-room, other-record}
+use Rattle.reader.specs.GroupLaws.{all-members, few-members, group-told, numbers-room, no-group, no-members, no-room, other-record}
 use Rattle.reader.proofs.take_group.Statement.{statement}
 use Rattle.reader.proofs.take_group.Tie as tie
 
@@ -62,7 +62,7 @@ returns-4 : tie.Need-returns-4
 returns-4 c = no-group _ _ _ _ _ _ _ (c .before .before .before .before .before .before .before .before .before .record-at .ensures) _ _ (c .before .before .before .before .before .before .before .item .given .1) _ (c .before .before .before .before .before .least-count .ensures) _ (c .before .before .before .before .if1 .left) (c .before .before .before .if2 .left) (c .before .before .group .ensures) (c .enum-told .given .1)
 
 read-members-requires : tie.Need-read-members-requires
-read-members-requires c κs = let room = members-room _ _ _ (c .before .before .before .before .before .before .before .before .before .before .before .record-at .ensures) _ _ (c .before .before .before .before .before .before .before .before .before .item .given .1) _ (c .before .before .before .before .before .before .before .least-count .ensures) (c .before .before .before .before .before .before .if1 .left) (c .before .before .before .before .before .if2 .left) in (c .before .before .before .before .before .before .before .before .before .before .before .before .before .before .pre .0, room .0, room .1, c .before .before .before .before .before .before .before .before .before .before .before .before .before .before .pre .1)
+read-members-requires c κs = let room = numbers-room _ _ _ (c .before .before .before .before .before .before .before .before .before .before .before .record-at .ensures) _ _ (c .before .before .before .before .before .before .before .before .before .item .given .1) _ (c .before .before .before .before .before .before .before .least-count .ensures) (c .before .before .before .before .before .before .if1 .left) (c .before .before .before .before .before .if2 .left) in (c .before .before .before .before .before .before .before .before .before .before .before .before .before .before .pre .0, room .0, room .1, c .before .before .before .before .before .before .before .before .before .before .before .before .before .before .pre .1)
 
 enum-known-left : tie.Need-enum-known-left
 enum-known-left c = search needs
@@ -80,13 +80,13 @@ kind-of-requires : tie.Need-kind-of-requires
 kind-of-requires c κs = search needs
 
 node-at-requires : tie.Need-node-at-requires
-node-at-requires c κs = let room = members-room _ _ _ (c .before .before .before .before .before .before .before .before .before .before .before .before .before .before .before .before .before .before .record-at .ensures) _ _ (c .before .before .before .before .before .before .before .before .before .before .before .before .before .before .before .before .item .given .1) _ (c .before .before .before .before .before .before .before .before .before .before .before .before .before .before .least-count .ensures) (c .before .before .before .before .before .before .before .before .before .before .before .before .before .if1 .left) (c .before .before .before .before .before .before .before .before .before .before .before .before .if2 .left) in omega arith
+node-at-requires c κs = let room = numbers-room _ _ _ (c .before .before .before .before .before .before .before .before .before .before .before .before .before .before .before .before .before .before .record-at .ensures) _ _ (c .before .before .before .before .before .before .before .before .before .before .before .before .before .before .before .before .item .given .1) _ (c .before .before .before .before .before .before .before .before .before .before .before .before .before .before .least-count .ensures) (c .before .before .before .before .before .before .before .before .before .before .before .before .before .if1 .left) (c .before .before .before .before .before .before .before .before .before .before .before .before .if2 .left) in omega arith
 
 mul-t17 : tie.Need-mul-t17
 mul-t17 c = search needs
 
 add-t18 : tie.Need-add-t18
-add-t18 c = let room = members-room _ _ _ (c .before .before .before .before .before .before .before .before .before .before .before .before .before .before .before .before .before .before .before .record-at .ensures) _ _ (c .before .before .before .before .before .before .before .before .before .before .before .before .before .before .before .before .before .item .given .1) _ (c .before .before .before .before .before .before .before .before .before .before .before .before .before .before .before .least-count .ensures) (c .before .before .before .before .before .before .before .before .before .before .before .before .before .before .if1 .left) (c .before .before .before .before .before .before .before .before .before .before .before .before .before .if2 .left) in omega (arith, c .before .before .before .before .before .before .before .before .before .before .before .before .before .before .before .before .before .before .before .before .before .before .good .0 .0)
+add-t18 c = let room = numbers-room _ _ _ (c .before .before .before .before .before .before .before .before .before .before .before .before .before .before .before .before .before .before .before .record-at .ensures) _ _ (c .before .before .before .before .before .before .before .before .before .before .before .before .before .before .before .before .before .item .given .1) _ (c .before .before .before .before .before .before .before .before .before .before .before .before .before .before .before .least-count .ensures) (c .before .before .before .before .before .before .before .before .before .before .before .before .before .before .if1 .left) (c .before .before .before .before .before .before .before .before .before .before .before .before .before .if2 .left) in omega (arith, c .before .before .before .before .before .before .before .before .before .before .before .before .before .before .before .before .before .before .before .before .before .before .good .0 .0)
 
 same-length-2 : tie.Need-same-length-2
 same-length-2 c = search needs
