@@ -4,3 +4,5 @@ pub mod AllLaws
 pub mod StoreLaws
 pub mod Wrote
 pub mod WroteLaws
+pub mod WordBits
+pub mod WordBitsLaws

@@ -41,6 +41,10 @@ left-step {s₀} {at₀} {all} {s} {at} {bs} {t} {next} {rest} {rest′} l w e =
   size = wrote-length w ∙ l .size;
 }
 
+-- one number more
+pub left-put : {s₀ : List ℕ} {at₀ : ℕ} {all s : List ℕ} {at v : ℕ} {rest rest′ : List ℕ} → Left s₀ at₀ all s at rest → rest ≡ v ∷ rest′ → Left s₀ at₀ all (set s at v) (at + 1) rest′
+left-put {v = v} l e = left-step {bs = v ∷ []} l (record { bytes = refl; place = refl }) e
+
 -- the rest is the same though written otherwise
 pub left-as : {s₀ : List ℕ} {at₀ : ℕ} {all s : List ℕ} {at : ℕ} {rest rest′ : List ℕ} → Left s₀ at₀ all s at rest → rest ≡ rest′ → Left s₀ at₀ all s at rest′
 left-as l e = rw e at l

@@ -3,13 +3,13 @@ use mathlib.Core.Path.{_≡_, refl, sym, ap, ap₂, _∙_}
 use mathlib.Core.Bool.{Bool, true, false, not, _&&_, _||_, cond, xor}
 use mathlib.Core.List.{List}
 use mathlib.Core.Logic.{_⊎_, inl, inr}
-use Prim.Native.Nat.{ℕ, _*_, _≤_, _<_}
+use Prim.Native.Nat.{ℕ, _≤_, _<_}
 use native.Mathlib.Omega.{arith}
 use lib.Dec.{eqb, ltb}
 use lib.ListN.{length, getD}
 use borrow.Author.Tests.{eqb-true, eqb-false, ne-eqb, ltb-true, ltb-false, not-true}
 use Rattle.model.specs.Lists.{all, nodes}
-use Rattle.model.specs.Graph.{View, maxNodes, rowWords}
+use Rattle.model.specs.Graph.{View, maxNodes}
 use Rattle.model.specs.Grouping.{closed, falseTwins, trueTwins}
 use Rattle.model.specs.Tables.{edgeBit}
 use Rattle.model.specs.InOrder.{cliqueAt, closedAt, couldMerge, groupView, groupsFit, inOrder, irreducible, membersAt, openAt, superedgesFit}
@@ -184,5 +184,5 @@ module _ (n : ℕ) (gs : List (Bool × List ℕ)) (js : List (ℕ × ℕ)) (smal
               step (inr c) = ap₂ (merges kinds joined) (x .2) (y .2) ∙ merges-told (x .0) (y .0) (x .1) (y .1) ∙ c
 
 pub told-apart : (n : ℕ) (gs : List (Bool × List ℕ)) (js : List (ℕ × ℕ)) → inOrder n gs js ≡ true → {least kinds joined : List ℕ} → Told gs js least kinds joined
-    → length least ≡ maxNodes → length kinds ≡ maxNodes → length joined ≡ rowWords * maxNodes → Words joined → apart n least kinds joined ≡ irreducible gs js
-told-apart n gs js o {least} {kinds} {joined} told a b c words = let s = in-order-parts n gs js o in apart-told n gs js (s .0) (s .1) (s .2) least kinds joined told words
+    → Words joined → apart n least kinds joined ≡ irreducible gs js
+told-apart n gs js o {least} {kinds} {joined} told words = let s = in-order-parts n gs js o in apart-told n gs js (s .0) (s .1) (s .2) least kinds joined told words

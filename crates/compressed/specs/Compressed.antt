@@ -23,6 +23,10 @@ independent = 1
 abbrev pub clique : ℕ
 clique = 2
 
+-- a graph of at most so many nodes is small: its rows are one block of 64
+abbrev pub smallNodes : ℕ
+smallNodes = 64
+
 unfoldable pub kindMarked : Bool → ℕ → ℕ
 kindMarked marked count = cond marked clique (cond (eqb count 1) single independent)
 
@@ -74,7 +78,7 @@ pub record Compressed (n : ℕ) (least kinds joined : List ℕ) : Type 0 where
   pub small : n ≤ maxNodes
   pub nodes : length least ≡ maxNodes
   pub groups : length kinds ≡ maxNodes
-  pub rows : length joined ≡ rowWords * maxNodes
+  pub rows : rowWords * n ≤ length joined
   -- a node of the graph has no group, or a first member at or before it, which is its own
   pub outside : (p : ℕ) → n ≤ p → p < maxNodes → getD least p 0 ≡ noNode
   pub before : (p : ℕ) → placed n least p ≡ true → getD least p 0 ≤ p

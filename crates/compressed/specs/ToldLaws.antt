@@ -277,7 +277,7 @@ module _ (n : ℕ) (gs : List (Bool × List ℕ)) (js : List (ℕ × ℕ)) (smal
       let l = group-joined gs js ordered (r .0) (r .1) (r .2) in
       (r .0, r .1, l .0, l .1, r .3, r .4)
 
-  compressed : length least ≡ maxNodes → length kinds ≡ maxNodes → length joined ≡ rowWords * maxNodes → Compressed n least kinds joined
+  compressed : length least ≡ maxNodes → length kinds ≡ maxNodes → rowWords * n ≤ length joined → Compressed n least kinds joined
   compressed a b c = record {
     small = small;
     nodes = a;
@@ -333,9 +333,9 @@ module _ (n : ℕ) (gs : List (Bool × List ℕ)) (js : List (ℕ × ℕ)) (smal
       hidden p (inr h) t = unfold summaryBy in rw h
 
 pub told-compressed : (n : ℕ) (gs : List (Bool × List ℕ)) (js : List (ℕ × ℕ)) → inOrder n gs js ≡ true → {least kinds joined : List ℕ} → Told gs js least kinds joined
-    → length least ≡ maxNodes → length kinds ≡ maxNodes → length joined ≡ rowWords * maxNodes → Compressed n least kinds joined
+    → length least ≡ maxNodes → length kinds ≡ maxNodes → rowWords * n ≤ length joined → Compressed n least kinds joined
 told-compressed n gs js o {least} {kinds} {joined} told a b c = let s = in-order-parts n gs js o in compressed n gs js (s .0) (s .1) (s .2) least kinds joined told a b c
 
 pub told-unfolded : (n : ℕ) (gs : List (Bool × List ℕ)) (js : List (ℕ × ℕ)) → inOrder n gs js ≡ true → {least kinds joined : List ℕ} → Told gs js least kinds joined
-    → length least ≡ maxNodes → length kinds ≡ maxNodes → length joined ≡ rowWords * maxNodes → unfolded n least kinds joined ≡ graphBy n (summaryBy gs js)
-told-unfolded n gs js o {least} {kinds} {joined} told a b c = let s = in-order-parts n gs js o in unfolds n gs js (s .0) (s .1) (s .2) least kinds joined told
+    → unfolded n least kinds joined ≡ graphBy n (summaryBy gs js)
+told-unfolded n gs js o {least} {kinds} {joined} told = let s = in-order-parts n gs js o in unfolds n gs js (s .0) (s .1) (s .2) least kinds joined told

@@ -3,14 +3,14 @@ use mathlib.Core.Path.{_≡_, refl, sym, ap, _∙_}
 use mathlib.Core.Bool.{Bool, true, false, not, _&&_, _||_, or-false}
 use mathlib.Core.List.{List}
 use mathlib.Core.Logic.{_⊎_, inl, inr}
-use Prim.Native.Nat.{ℕ, _+_, _-_, _/_, _≤_, _<_}
+use Prim.Native.Nat.{ℕ, _+_, _/_, _≤_, _<_}
 use native.Mathlib.Omega.{arith}
 use lib.Dec.{eqb, ltb}
 use lib.ListN.{set}
 use borrow.Author.Tests.{eqb-false, le-ltb, lt-ltb, ltb-false, ltb-true, ne-eqb}
 use Rattle.model.specs.Tables.{edgeBit}
 use Rattle.model.specs.TestLaws.{decide}
-use Rattle.drawing.specs.Drawing.{Added, Adding, oneBit, onePair, rowFrom, rowTo, rowWordTo}
+use Rattle.drawing.specs.Drawing.{Added, Adding, oneBit, pairBits, rowFrom, rowTo, rowWordTo}
 
 split : (u v w : Bool) → ((u || v) && w) ≡ ((u && w) || (v && w))
 split true true true = refl
@@ -58,10 +58,14 @@ adding-under {rest = rest} {now = now} x e = record {
 pub adding-done : {all rest : ℕ → ℕ → Bool} {t now : List ℕ} → Adding all rest t now → ((a b : ℕ) → rest a b ≡ false) → Added all t now
 adding-done x e = adding-under x (λ a b l. e a b)
 
--- a pair is two bits
-pub pair-by : (p q : ℕ) {r t u : List ℕ} → Added (oneBit p q) r t → Added (oneBit q p) t u → Added (onePair p q) r u
-unfolding onePair
-pair-by p q x y = added-then x y (λ a b. refl)
+-- one bit of a pair, or both
+pub pair-one : (both : Bool) (p q : ℕ) {r t : List ℕ} → both ≡ false → Added (oneBit q p) r t → Added (pairBits both p q) r t
+unfolding pairBits
+pair-one both p q e x = added-as (λ a b. rw e (sym (or-false (oneBit q p a b)))) x
+
+pub pair-both : (both : Bool) (p q : ℕ) {r t u : List ℕ} → both ≡ true → Added (oneBit q p) r t → Added (oneBit p q) t u → Added (pairBits both p q) r u
+unfolding pairBits
+pair-both both p q e x y = added-then x y (λ a b. rw e)
 
 -- a set in a row, word by word
 module _ (p : ℕ) (set : List ℕ) where

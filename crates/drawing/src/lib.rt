@@ -2,7 +2,7 @@
 ghost use Prim.Native.Nat.{_+_, _*_, _≤_, _<_};
 ghost use lib.ListN.{length};
 ghost use Rattle.model.specs.Graph.{maxNodes, rowWords};
-ghost use Rattle.drawing.specs.Drawing.{Added, oneBit, onePair, rowTo, rowWordTo};
+ghost use Rattle.drawing.specs.Drawing.{Added, oneBit, pairBits, rowTo, rowWordTo};
 use rows::Graph;
 
 // Node q's bit set in node p's row.
@@ -14,13 +14,16 @@ pub fn set_bit(edges: &mut [u64], p: usize, q: usize)
     edges[i] = edges[i] | rows::mask(q);
 }
 
-// The bits of p and q in each other's rows.
-pub fn set_pair(edges: &mut [u64], p: usize, q: usize)
+// Node p's bit set in node q's row, and q's in p's row too if both.
+pub fn join(edges: &mut [u64], p: usize, q: usize, both: bool)
     requires { ⌜ (p < maxNodes) × (q < maxNodes) × (rowWords * p + rowWords ≤ length (now edges)) × (rowWords * q + rowWords ≤ length (now edges)) ⌝ }
-    ensures { λ _. ⌜ Added (onePair p q) (now (edges .entry)) (now (edges .exit)) ⌝ }
+    ensures { λ _. ⌜ Added (pairBits both p q) (now (edges .entry)) (now (edges .exit)) ⌝ }
 {
-    set_bit(edges, p, q);
     set_bit(edges, q, p);
+    if !both {
+        return;
+    }
+    set_bit(edges, p, q);
 }
 
 // Word w of a set put into p's row.

@@ -112,6 +112,10 @@ module _ (edges : List ℕ) (closed : Bool) (p : ℕ) {h k r : ℕ} (eh : h ≡ 
       (ap₂ bitXor eh (eo ∙ sym (own-rotated p l)) ∙ sym (hash-split rotated rotated-xor edges p 8))
       (ap₂ bitXor ek (em ∙ sym (own-plain p l)) ∙ sym (hash-split unrotated (λ a b. refl) edges p 8)))
 
+pub slot-in-lt : (y : ℕ) → slotIn y < 1024
+unfolding slotIn
+slot-in-lt y = omega arith
+
 pub slot-lt : (edges : List ℕ) (closed : Bool) (p : ℕ) → rowSlot edges closed p < 1024
-unfolding rowSlot slotFor slotIn
-slot-lt edges closed p = omega arith
+unfolding rowSlot slotFor
+slot-lt edges closed p = slot-in-lt (bitXor (bitXor (hashOf rotated edges closed p 8) (hashOf unrotated edges closed p 8 / 2 ^ 5)) (hashOf unrotated edges closed p 8 / 2 ^ 23))

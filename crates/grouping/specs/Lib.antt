@@ -3,5 +3,7 @@ pub mod Chains
 pub mod HashLaws
 pub mod ChainLaws
 pub mod LeastLaws
+pub mod Slots
+pub mod SlotLaws
 pub mod Parted
 pub mod PartedLaws

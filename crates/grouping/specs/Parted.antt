@@ -8,7 +8,7 @@ use lib.ListN.{getD}
 use Rattle.model.specs.Lists.{all, nodes}
 use Rattle.rows.specs.Rows.{leads}
 use Rattle.compressed.specs.Compressed.{clique, independent, merges}
-use Rattle.grouping.specs.Chains.{Chains, Links, rowSlot, slots}
+use Rattle.grouping.specs.Chains.{Chains, Links, slots}
 
 -- the group that u leads, if it leads one, could be one with none before it
 unfoldable pub apartAt : List ℕ → List ℕ → List ℕ → ℕ → Bool
@@ -29,9 +29,9 @@ pub record New (twin : ℕ → Bool) (candidate : Bool) (u s : ℕ) (t after : L
   pub links : r ≡ true → Links (u + 1) after
   pub chains : r ≡ true → (slot : ℕ → ℕ) (leads : ℕ → Bool) → ((q : ℕ) → slot q < slots) → slot u ≡ s → leads u ≡ candidate → Chains slot leads u t → Chains slot leads (u + 1) after
 
--- the chains hold the leaders below u
-pub record Parted (least kinds joined : List ℕ) (u : ℕ) (opens closeds : List ℕ) : Type 0 where
+-- the chains hold the leaders below u, each in the slot of its open or of its closed row
+pub record Parted (slot : Bool → ℕ → ℕ) (least kinds : List ℕ) (u : ℕ) (opens closeds : List ℕ) : Type 0 where
   pub open-links : Links u opens
   pub closed-links : Links u closeds
-  pub open-chains : Chains (rowSlot joined false) (chained least kinds false) u opens
-  pub closed-chains : Chains (rowSlot joined true) (chained least kinds true) u closeds
+  pub open-chains : Chains (slot false) (chained least kinds false) u opens
+  pub closed-chains : Chains (slot true) (chained least kinds true) u closeds

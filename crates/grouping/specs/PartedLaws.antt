@@ -12,11 +12,11 @@ use Rattle.model.specs.Lists.{nodes}
 use Rattle.model.specs.TestLaws.{and-fst, and-snd, and-true, decide, differ, or-cases, or-left, or-right}
 use Rattle.model.specs.ListLaws.{all-intro, nodes-out}
 use Rattle.buffers.specs.AllLaws.{all-fail, all-pass, failed}
-use Rattle.rows.specs.Rows.{Words, leads}
+use Rattle.rows.specs.Rows.{leads}
 use Rattle.compressed.specs.Compressed.{alike, apart, merges}
-use Rattle.grouping.specs.Chains.{Chains, Entered, Links, Met, rowSlot}
-use Rattle.grouping.specs.HashLaws.{slot-lt}
-use Rattle.grouping.specs.ChainLaws.{alike-slot, chains-keep, chains-none, links-keep}
+use Rattle.grouping.specs.Chains.{Chains, Entered, Links, Met}
+use Rattle.grouping.specs.ChainLaws.{chains-keep, chains-none, links-keep}
+use Rattle.grouping.specs.SlotLaws.{SlotsTell}
 use Rattle.grouping.specs.Parted.{New, Parted, apartAt, candidate, chained}
 
 -- one node sought in a chain
@@ -69,13 +69,9 @@ module _ (kinds joined : List ℕ) (u q : ℕ) where
       step (inl k) = inl (three (not (eqb (getD kinds u 0) 2)) (not (eqb (getD kinds q 0) 2)) (alike joined false u q) k)
       step (inr k) = inr (three (not (eqb (getD kinds u 0) 1)) (not (eqb (getD kinds q 0) 1)) (alike joined true u q) k)
 
-module _ (least kinds joined : List ℕ) (u : ℕ) where
-  -- u leads no group
-  pub apart-member : {x : ℕ} → x ≡ getD least u 0 → (x ≡ u → ⊥) → true ≡ apartAt least kinds joined u
-  unfolding apartAt leads
-  apart-member e d = rw (ne-eqb (getD least u 0) u (λ z. d (e ∙ z)))
-
-  pub parted-member : {x : ℕ} {opens closeds : List ℕ} → x ≡ getD least u 0 → (x ≡ u → ⊥) → Parted least kinds joined u opens closeds → Parted least kinds joined (u + 1) opens closeds
+-- u leads no group
+module _ {slot : Bool → ℕ → ℕ} {least kinds : List ℕ} {u : ℕ} where
+  pub parted-member : {x : ℕ} {opens closeds : List ℕ} → x ≡ getD least u 0 → (x ≡ u → ⊥) → Parted slot least kinds u opens closeds → Parted slot least kinds (u + 1) opens closeds
   parted-member e d h = record {
     open-links = links-keep (h .open-links);
     closed-links = links-keep (h .closed-links);
@@ -86,8 +82,13 @@ module _ (least kinds joined : List ℕ) (u : ℕ) where
       out : (closed : Bool) → chained least kinds closed u ≡ false
       out closed = unfold chained leads in rw (ne-eqb (getD least u 0) u (λ z. d (e ∙ z)))
 
+module _ (least kinds joined : List ℕ) (u : ℕ) where
+  pub apart-member : {x : ℕ} → x ≡ getD least u 0 → (x ≡ u → ⊥) → true ≡ apartAt least kinds joined u
+  unfolding apartAt leads
+  apart-member e d = rw (ne-eqb (getD least u 0) u (λ z. d (e ∙ z)))
+
   -- u leads one
-  module _ {x : ℕ} (ex : x ≡ getD least u 0) (led : x ≡ u) where
+  module _ (slot : Bool → ℕ → ℕ) {x : ℕ} (ex : x ≡ getD least u 0) (led : x ≡ u) where
     leading : leads least u ≡ true
     unfolding leads
     leading = eq-eqb (getD least u 0) u (sym ex ∙ led)
@@ -102,26 +103,26 @@ module _ (least kinds joined : List ℕ) (u : ℕ) where
     found q l a m = rw leading (sym (all-fail (λ (p : ℕ). not (leads least p && merges kinds joined u p)) u q l (ap not (and-true a m))))
 
     -- the chains of open or of closed rows
-    module _ (closed : Bool) {t after : List ℕ} {s : ℕ} {a r : Bool} (k : Chains (rowSlot joined closed) (chained least kinds closed) u t) (es : s ≡ rowSlot joined closed u) (ea : candidate kinds closed u ≡ a) (w : New (alike joined closed u) a u s t after r) where
+    module _ (closed : Bool) {t after : List ℕ} {s : ℕ} {a r : Bool} (k : Chains (slot closed) (chained least kinds closed) u t) (es : s ≡ slot closed u) (ea : candidate kinds closed u ≡ a) (w : New (alike joined closed u) a u s t after r) where
       hit-apart : r ≡ false → apartAt least kinds joined u ≡ false
       hit-apart f =
           let i = w .hit f in
-          let h = i .1 (rowSlot joined closed) (chained least kinds closed) (sym es) k in
+          let h = i .1 (slot closed) (chained least kinds closed) (sym es) k in
           let c = both (h .0) (h .2) in
           found (h .0) (h .1) (c .0) (merges-by kinds joined u (h .0) closed (ea ∙ i .0) (c .1) (h .3))
         where
           both : (q : ℕ) → chained least kinds closed q ≡ true → (leads least q ≡ true) × (candidate kinds closed q ≡ true)
           both q c = unfold chained in (and-fst (leads least q) (candidate kinds closed q) c, and-snd (leads least q) (candidate kinds closed q) c)
 
-      miss-apart : Words joined → r ≡ true → (q : ℕ) → q < u → leads least q ≡ true → candidate kinds closed u ≡ true → candidate kinds closed q ≡ true → alike joined closed u q ≡ false
-      miss-apart fit e q l h cu cq = step (decide (alike joined closed u q))
+      miss-apart : SlotsTell joined slot u → r ≡ true → (q : ℕ) → q < u → leads least q ≡ true → candidate kinds closed u ≡ true → candidate kinds closed q ≡ true → alike joined closed u q ≡ false
+      miss-apart told e q l h cu cq = step (decide (alike joined closed u q))
         where
           step : (alike joined closed u q ≡ true) ⊎ (alike joined closed u q ≡ false) → alike joined closed u q ≡ false
-          step (inl y) = w .miss e (sym ea ∙ cu) (rowSlot joined closed) (chained least kinds closed) (sym es) k q l (unfold chained in and-true h cq) (alike-slot joined fit closed u q y)
+          step (inl y) = w .miss e (sym ea ∙ cu) (slot closed) (chained least kinds closed) (sym es) k q l (unfold chained in and-true h cq) (told .same closed q l y)
           step (inr y) = y
 
-      next : r ≡ true → Chains (rowSlot joined closed) (chained least kinds closed) (u + 1) after
-      next e = w .chains e (rowSlot joined closed) (chained least kinds closed) (slot-lt joined closed) (sym es) (chained-is closed ∙ ea) k
+      next : ((q : ℕ) → slot closed q < 1024) → r ≡ true → Chains (slot closed) (chained least kinds closed) (u + 1) after
+      next small e = w .chains e (slot closed) (chained least kinds closed) small (sym es) (chained-is closed ∙ ea) k
 
     open-candidate : candidate kinds false u ≡ not (eqb (getD kinds u 0) 2)
     unfolding candidate
@@ -131,20 +132,20 @@ module _ (least kinds joined : List ℕ) (u : ℕ) where
     unfolding candidate
     closed-candidate = refl
 
-    module _ {opens closeds opens₁ : List ℕ} {s : ℕ} {r : Bool} (h : Parted least kinds joined u opens closeds) (es : s ≡ rowSlot joined false u) (w : New (alike joined false u) (not (eqb (getD kinds u 0) 2)) u s opens opens₁ r) where
+    module _ {opens closeds opens₁ : List ℕ} {s : ℕ} {r : Bool} (h : Parted slot least kinds u opens closeds) (es : s ≡ slot false u) (w : New (alike joined false u) (not (eqb (getD kinds u 0) 2)) u s opens opens₁ r) where
       pub apart-refuted : not r ≡ true → false ≡ apartAt least kinds joined u
       apart-refuted n = sym (hit-apart false (h .open-chains) es open-candidate w (not-true r n))
 
-      module _ (n : not r ≡ false) {closeds₁ : List ℕ} {s′ : ℕ} {r′ : Bool} (es′ : s′ ≡ rowSlot joined true u) (w′ : New (alike joined true u) (not (eqb (getD kinds u 0) 1)) u s′ closeds closeds₁ r′) where
-        pub apart-told : Words joined → r′ ≡ apartAt least kinds joined u
-        apart-told fit = step (decide r′)
+      module _ (n : not r ≡ false) {closeds₁ : List ℕ} {s′ : ℕ} {r′ : Bool} (es′ : s′ ≡ slot true u) (w′ : New (alike joined true u) (not (eqb (getD kinds u 0) 1)) u s′ closeds closeds₁ r′) where
+        pub apart-told : SlotsTell joined slot u → r′ ≡ apartAt least kinds joined u
+        apart-told told = step (decide r′)
           where
             each : r′ ≡ true → (q : ℕ) → q < u → leads least q ≡ true → merges kinds joined u q ≡ true → merges kinds joined u q ≡ false
             each e q l b m = clash (merges-cases kinds joined u q m)
               where
                 clash : Merging kinds joined u q false ⊎ Merging kinds joined u q true → merges kinds joined u q ≡ false
-                clash (inl c) = differ (c .2) (miss-apart false (h .open-chains) es open-candidate w fit (not-false r n) q l b (c .0) (c .1))
-                clash (inr c) = differ (c .2) (miss-apart true (h .closed-chains) es′ closed-candidate w′ fit e q l b (c .0) (c .1))
+                clash (inl c) = differ (c .2) (miss-apart false (h .open-chains) es open-candidate w told (not-false r n) q l b (c .0) (c .1))
+                clash (inr c) = differ (c .2) (miss-apart true (h .closed-chains) es′ closed-candidate w′ told e q l b (c .0) (c .1))
 
             none : r′ ≡ true → (q : ℕ) → q < u → (leads least q && merges kinds joined u q) ≡ false
             none e q l = at (decide (leads least q && merges kinds joined u q))
@@ -157,20 +158,20 @@ module _ (least kinds joined : List ℕ) (u : ℕ) where
             step (inl e) = e ∙ sym (unfold apartAt in rw leading (all-intro (nodes u) (λ (p : ℕ). not (leads least p && merges kinds joined u p)) (λ q m. ap not (none e q (nodes-out u q m)))))
             step (inr e) = e ∙ sym (hit-apart true (h .closed-chains) es′ closed-candidate w′ e)
 
-        pub parted-leader : r′ ≡ true → Parted least kinds joined (u + 1) opens₁ closeds₁
-        parted-leader e = record {
+        pub parted-leader : SlotsTell joined slot u → r′ ≡ true → Parted slot least kinds (u + 1) opens₁ closeds₁
+        parted-leader told e = record {
           open-links = w .links (not-false r n);
           closed-links = w′ .links e;
-          open-chains = next false (h .open-chains) es open-candidate w (not-false r n);
-          closed-chains = next true (h .closed-chains) es′ closed-candidate w′ e;
+          open-chains = next false (h .open-chains) es open-candidate w (told .small false) (not-false r n);
+          closed-chains = next true (h .closed-chains) es′ closed-candidate w′ (told .small true) e;
         }
 
-pub parted-none : (least kinds joined : List ℕ) {opens closeds : List ℕ} → Links 0 opens → Links 0 closeds → Parted least kinds joined 0 opens closeds
-parted-none least kinds joined x y = record {
+pub parted-none : (slot : Bool → ℕ → ℕ) (least kinds : List ℕ) {opens closeds : List ℕ} → Links 0 opens → Links 0 closeds → Parted slot least kinds 0 opens closeds
+parted-none slot least kinds x y = record {
   open-links = x;
   closed-links = y;
-  open-chains = chains-none (rowSlot joined false) (chained least kinds false) x;
-  closed-chains = chains-none (rowSlot joined true) (chained least kinds true) y;
+  open-chains = chains-none (slot false) (chained least kinds false) x;
+  closed-chains = chains-none (slot true) (chained least kinds true) y;
 }
 
 -- all groups, or up to one that is not apart

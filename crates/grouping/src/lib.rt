@@ -11,6 +11,7 @@ ghost use Rattle.compressed.specs.Compressed.{alike, apart};
 ghost use Rattle.grouping.specs.Least.{leastVisible};
 ghost use Rattle.grouping.specs.Chains.{Chains, Entered, Links, Met, Sought, hashOf, ownRotated, rotated, rowSlot, slotFor, slotIn, slots, unrotated};
 ghost use Rattle.grouping.specs.Parted.{New, Parted, apartAt};
+ghost use Rattle.grouping.specs.Slots.{SumsTold, groupSlot, rowSum};
 use compressed::CLIQUE;
 use compressed::INDEPENDENT;
 use rows::Graph;
@@ -82,6 +83,28 @@ fn slot_of(edges: &[u64], closed: bool, p: usize) -> usize
         return slot_for(h ^ own_rotated(p), k ^ rows::mask(p));
     }
     slot_for(h, k)
+}
+
+// The slot of u's row, of the open or of the closed one, by its sum of cubes.
+fn slot_by_sum(sums: &[u32], closed: bool, u: usize) -> usize
+    requires { ⌜ (u < maxNodes) × (length (now sums) ≡ 2 * maxNodes) ⌝ }
+    ensures { λ r. ⌜ r ≡ slotIn (rowSum (now (sums .entry)) closed u) ⌝ }
+{
+    if closed {
+        return slot_in(std::num::wrapping_add_u32(sums[u], sums[Graph::NODES + u]) as u64);
+    }
+    slot_in(sums[u] as u64)
+}
+
+// The slot of u's row: by its sum where superedges are few, else by its words.
+fn slot_for_group(joined: &[u64], few: bool, sums: &[u32], closed: bool, u: usize) -> usize
+    requires { ⌜ (u < maxNodes) × (rowWords * u + rowWords ≤ length (now joined)) × (length (now sums) ≡ 2 * maxNodes) ⌝ }
+    ensures { λ r. ⌜ r ≡ groupSlot (now (joined .entry)) few (now (sums .entry)) closed u ⌝ }
+{
+    if few {
+        return slot_by_sum(sums, closed, u);
+    }
+    slot_of(joined, closed, u)
 }
 
 // The leader below u, in the chain of slot s, whose row agrees with u's; u if there is none.
@@ -207,19 +230,23 @@ fn is_apart(
     joined: &[u64],
     least: &[u16],
     kinds: &[u16],
+    few: bool,
+    sums: &[u32],
     opens: &mut [u16],
     closeds: &mut [u16],
     u: usize,
 ) -> bool
-    requires { ⌜ (u < maxNodes) × (length (now joined) ≡ rowWords * maxNodes) × (u < length (now least)) × (u < length (now kinds)) × Parted (now least) (now kinds) (now joined) u (now opens) (now closeds) ⌝ }
-    ensures { λ r. ⌜ (r ≡ apartAt (now (least .entry)) (now (kinds .entry)) (now (joined .entry)) u) × (r ≡ true → Parted (now (least .entry)) (now (kinds .entry)) (now (joined .entry)) (u + 1) (now (opens .exit)) (now (closeds .exit))) ⌝ }
+    requires { ⌜ (u < maxNodes) × (rowWords * u + rowWords ≤ length (now joined)) × (u < length (now least)) × (u < length (now kinds)) × (length (now sums) ≡ 2 * maxNodes) × (few ≡ true → SumsTold (now joined) (now sums)) ⌝ }
+    requires { ⌜ Parted (groupSlot (now joined) few (now sums)) (now least) (now kinds) u (now opens) (now closeds) ⌝ }
+    ensures { λ r. ⌜ r ≡ apartAt (now (least .entry)) (now (kinds .entry)) (now (joined .entry)) u ⌝ }
+    ensures { λ r. ⌜ (r ≡ true → Parted (groupSlot (now (joined .entry)) few (now (sums .entry))) (now (least .entry)) (now (kinds .entry)) (u + 1) (now (opens .exit)) (now (closeds .exit))) ⌝ }
 {
     if rows::wide(least[u]) != u {
         return true;
     }
     let kind = kinds[u];
-    let a = slot_of(joined, false, u);
-    let b = slot_of(joined, true, u);
+    let a = slot_for_group(joined, few, sums, false, u);
+    let b = slot_for_group(joined, few, sums, true, u);
     if !is_new(joined, opens, false, kind != CLIQUE, u, a) {
         return false;
     }
@@ -232,26 +259,36 @@ fn are_all_apart(
     least: &[u16],
     kinds: &[u16],
     n: usize,
+    few: bool,
+    sums: &[u32],
     opens: &mut [u16],
     closeds: &mut [u16],
 ) -> bool
-    requires { ⌜ (n ≤ maxNodes) × (length (now joined) ≡ rowWords * maxNodes) × (n ≤ length (now least)) × (n ≤ length (now kinds)) × Links 0 (now opens) × Links 0 (now closeds) ⌝ }
+    requires { ⌜ (n ≤ maxNodes) × (rowWords * n ≤ length (now joined)) × (n ≤ length (now least)) × (n ≤ length (now kinds)) × (length (now sums) ≡ 2 * maxNodes) × (few ≡ true → SumsTold (now joined) (now sums)) ⌝ }
+    requires { ⌜ Links 0 (now opens) × Links 0 (now closeds) ⌝ }
     ensures { λ r. ⌜ r ≡ apart n (now (least .entry)) (now (kinds .entry)) (now (joined .entry)) ⌝ }
 {
     for u in 0..n {
-        if !is_apart(joined, least, kinds, opens, closeds, u) {
+        if !is_apart(joined, least, kinds, few, sums, opens, closeds, u) {
             return false;
         }
     }
     true
 }
 
-// Whether no two groups of a compressed graph could be one.
-pub fn are_apart(joined: &[u64], least: &[u16], kinds: &[u16], n: usize) -> bool
-    requires { ⌜ (n ≤ maxNodes) × (length (now joined) ≡ rowWords * maxNodes) × (n ≤ length (now least)) × (n ≤ length (now kinds)) ⌝ }
+// Whether no two groups of a compressed graph could be one. The sums of cubes tell slots where they were kept (few superedges), else the rows do.
+pub fn are_apart(
+    joined: &[u64],
+    least: &[u16],
+    kinds: &[u16],
+    n: usize,
+    few: bool,
+    sums: &[u32],
+) -> bool
+    requires { ⌜ (n ≤ maxNodes) × (rowWords * n ≤ length (now joined)) × (n ≤ length (now least)) × (n ≤ length (now kinds)) × (length (now sums) ≡ 2 * maxNodes) × (few ≡ true → SumsTold (now joined) (now sums)) ⌝ }
     ensures { λ r. ⌜ r ≡ apart n (now (least .entry)) (now (kinds .entry)) (now (joined .entry)) ⌝ }
 {
     let mut opens = [0u16; SLOTS + Graph::NODES];
     let mut closeds = [0u16; SLOTS + Graph::NODES];
-    are_all_apart(joined, least, kinds, n, &mut opens, &mut closeds)
+    are_all_apart(joined, least, kinds, n, few, sums, &mut opens, &mut closeds)
 }

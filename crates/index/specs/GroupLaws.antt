@@ -1,25 +1,25 @@
 -- What queries read off the tables is what the model says of the graph.
 use mathlib.Core.Path.{_≡_, refl, sym, ap, ap₂, subst, _∙_}
-use mathlib.Core.Bool.{Bool, true, false, _&&_, cond}
+use mathlib.Core.Bool.{Bool, true, false, cond}
 use mathlib.Core.List.{List, [], _∷_, List·Memᴰ·head, List·Memᴰ·tail, List·Memᴰ·not-nil, List·Memᴰ·eq-of-singleton}
 use mathlib.Core.Logic.{_≢_, _⊎_, inl, inr}
-use Prim.Native.Nat.{ℕ, _-_, _≤_, _<_}
+use Prim.Native.Nat.{ℕ, _≤_, _<_}
 use native.Mathlib.Omega.{arith}
-use lib.Dec.{eqb, ltb}
+use lib.Dec.{eqb}
 use lib.ListN.{length}
-use borrow.Author.Tests.{eqb-true, eqb-false, lt-ltb, le-leb, lt-leb}
+use borrow.Author.Tests.{eqb-true, eqb-false, le-ltb, lt-ltb, le-leb, lt-leb}
 use Rattle.model.specs.Lists.{_∈_, filter, nodes, headOr}
 use Rattle.model.specs.Graph.{Graph, whole}
 use Rattle.model.specs.Grouping.{similar, group, least, adjacent, kindOf, isClique, clique, independent}
 use Rattle.model.specs.Tables.{Tables, edgeBit, nodeNumber, graphOf, groupIn, nodesOf, tablesOf}
 use Rattle.model.specs.Queries.{neighbours, kindNumber}
 use Rattle.model.specs.TestLaws.{decide}
-use Rattle.model.specs.ListLaws.{Ascending, filter-ascending, filter-cong, nodes-in, nodes-out, nodes-ascending}
+use Rattle.model.specs.ListLaws.{Ascending, filter-ascending, nodes-in, nodes-out, nodes-ascending}
 use Rattle.model.specs.TwinLaws.{Simple}
 use Rattle.model.specs.ClassLaws.{Equivalence, group-in, group-out, least-in, least-rel, least-leads, same-group}
 use Rattle.model.specs.SummaryLaws.{equivalence, clique-law}
-use Rattle.model.specs.TableLaws.{proper-simple, least-at, group-told}
-use Rattle.buffers.specs.ScanLaws.{scan-nodes}
+use Rattle.model.specs.TableLaws.{edge-bit, proper-simple, least-at, group-told}
+use Rattle.buffers.specs.ScanLaws.{scan-cong, scan-cut, scan-nodes}
 use Rattle.rings.specs.Ring.{up, Best, Table, Of}
 use Rattle.rings.specs.RingLaws.{up-circle}
 use Rattle.rings.specs.NodesLaws.{of-nodes}
@@ -27,10 +27,19 @@ use Rattle.buffers.specs.Scan.{scan}
 use Rattle.tables.specs.Lent.{Held}
 use Rattle.queries.specs.Query.{ledBy, kindBy}
 
--- the neighbours that a row tells
-pub row-neighbours : (n p : ℕ) (t : Tables) → p < n → scan (edgeBit (t .edges) p) n 0 ≡ neighbours (graphOf n t) p
-unfolding neighbours graphOf
-row-neighbours n p t h = scan-nodes (edgeBit (t .edges) p) n ∙ filter-cong (edgeBit (t .edges) p) (λ q. ltb p n && (ltb q n && edgeBit (t .edges) p q)) (nodes n) (λ q m. sym (rw (lt-ltb p n h, lt-ltb q n (nodes-out n q m))))
+-- the neighbours that a row tells: a table that holds a graph has no bit from n on
+pub row-neighbours : (n p : ℕ) (t : Tables) → Held n t → p < n → scan (edgeBit (t .edges) p) 512 0 ≡ neighbours (graphOf n t) p
+unfolding neighbours graphOf tablesOf
+row-neighbours n p t held h =
+    scan-cong (edgeBit (t .edges) p) (graphOf n t .edge p) 512 0 bits
+    ∙ scan-cut (graphOf n t .edge p) n 512 (held .proper .small) after 0 (omega arith)
+    ∙ scan-nodes (graphOf n t .edge p) n
+  where
+    bits : (q : ℕ) → 0 ≤ q → q < 512 → edgeBit (t .edges) p q ≡ graphOf n t .edge p q
+    bits q a b = ap (λ (x : Tables). edgeBit (x .edges) p q) (held .same) ∙ edge-bit (graphOf n t) p q h b
+
+    after : (q : ℕ) → n ≤ q → q < 512 → graphOf n t .edge p q ≡ false
+    after q a b = rw (lt-ltb p n h, le-ltb q n a)
 
 -- an ascending list with one member, or with two different ones
 one-member : (l : ℕ) (s : List ℕ) → Ascending s → ((q : ℕ) → q ∈ s → q ≡ l) → length s ≤ 1

@@ -101,18 +101,21 @@ module _ (n : ℕ) (t : Tables) (p : ℕ) (out : List ℕ) (r : ℕ) (e : r ≡ 
     unfolding neighboursCall neighboursReasons
     neighbours-outside h = call-refused _ (listRefused out) _ 14 (table-rest n t r e z _ ∙ unfold firstOf in rw (le-ltb p n h)) (omega arith)
 
-    module _ (k : ℕ) (h : p < n) (c : k ≡ length (scan (edgeBit (t .edges) p) n 0)) where
+    module _ (k : ℕ) (h : p < n) (c : k ≡ length (scan (edgeBit (t .edges) p) 512 0)) where
+      row : scan (edgeBit (t .edges) p) 512 0 ≡ neighbours (graphOf n t) p
+      row = row-neighbours n p t (table-held n t r e z) h
+
       told : k ≡ length (neighbours (graphOf n t) p)
-      told = c ∙ ap length (row-neighbours n p t h)
+      told = c ∙ ap length row
 
       pub neighbours-short : length out < k → listed 18 0 out ≡ neighboursCall n t p out
       unfolding neighboursCall neighboursReasons
       neighbours-short l = call-refused _ (listRefused out) _ 18 (table-rest n t r e z _ ∙ unfold firstOf in rw (lt-ltb p n h, lt-ltb (length out) (length (neighbours (graphOf n t) p)) (omega (arith, told)))) (omega arith)
 
-      pub neighbours-done : k ≤ length out → {out₁ : List ℕ} → out₁ ≡ sets out 0 (scan (edgeBit (t .edges) p) n 0) → listed 0 k out₁ ≡ neighboursCall n t p out
+      pub neighbours-done : k ≤ length out → {out₁ : List ℕ} → out₁ ≡ sets out 0 (scan (edgeBit (t .edges) p) 512 0) → listed 0 k out₁ ≡ neighboursCall n t p out
       unfolding neighboursCall neighboursReasons
       neighbours-done l {out₁} w =
-          ap₂ (listed 0) told (w ∙ ap (sets out 0) (row-neighbours n p t h) ∙ sets-onto (neighbours (graphOf n t) p) out (omega (arith, told)))
+          ap₂ (listed 0) told (w ∙ ap (sets out 0) row ∙ sets-onto (neighbours (graphOf n t) p) out (omega (arith, told)))
           ∙ call-done (neighboursReasons n t p out) (listRefused out) _ none
         where
           none : firstOf (neighboursReasons n t p out) ≡ 0

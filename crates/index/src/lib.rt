@@ -105,14 +105,14 @@ pub fn neighbours(
     }
     let a = Graph::ROW_WORDS * node;
     let row = &edges[a..a + Graph::ROW_WORDS];
-    let count = queries::count_neighbours(row, n);
+    let count = queries::count_neighbours(row);
     if out.len() < count {
         return Listed {
             result: 18,
             count: 0,
         };
     }
-    queries::write_neighbours(row, n, out);
+    queries::write_neighbours(row, out);
     Listed {
         result: 0,
         count: count as u16,

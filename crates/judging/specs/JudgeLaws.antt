@@ -19,13 +19,16 @@ use Rattle.model.specs.MergeLaws.{in-order-release}
 use Rattle.model.specs.ReadBackLaws.{visible-inside}
 use Rattle.model.specs.TestLaws.{decide}
 use Rattle.rows.specs.Rows.{Words}
-use Rattle.compressed.specs.Compressed.{Told, apart, unfolded}
+use Rattle.compressed.specs.Compressed.{Compressed, Told, apart, unfolded}
 use Rattle.compressed.specs.ToldLaws.{told-compressed, told-unfolded}
 use Rattle.compressed.specs.ApartLaws.{told-apart}
 use Rattle.compressed.specs.ReleasedLaws.{release-least}
+use Rattle.sums.specs.Sums.{Cubed}
+use Rattle.sums.specs.Joined.{JoinedSummed}
+use Rattle.grouping.specs.Slots.{SumsTold}
 use Rattle.reader.specs.declared.Decoded.{Decoded}
 use Rattle.reader.specs.declared.Decoded.the-variants as answer
-use Rattle.reader.specs.Decoding.{Decodes, accepted, decoded}
+use Rattle.reader.specs.Decoding.{Decodes, SumsKept, accepted, decoded, isFew}
 use Rattle.reader.specs.Bytes.{Bytes}
 use Rattle.reader.specs.BytesLaws.{accepted-in-order}
 use Rattle.reader.specs.AcceptLaws.{in-order-accepted}
@@ -56,18 +59,20 @@ answer-none s e = step (decide (isRelease s))
     step (inr t) = t
 
 -- no release, by its number
-judged-no : (s : List ℕ) {first kinds joined : List ℕ} → isRelease s ≡ false → Judged s first kinds joined answer.NoRelease
+judged-no : (s : List ℕ) {first kinds joined sums : List ℕ} → isRelease s ≡ false → Judged s first kinds joined sums answer.NoRelease
 judged-no s z = record {
   asked = unfold askedNumber firstOf in rw z;
   read = λ n. unfold readNumber firstOf in rw z;
   graph = λ n w. never n w;
   exact = λ n w. never n w;
+  cubed = λ n w f. never n w;
+  summed = λ n w f. never n w;
 }
   where
     never : {X : Type 0} (n : ℕ) → answer.NoRelease ≡ answer.Graph n → X
     never n w = let x : _≡_ {A = ℕ} 0 1 = cc in absurd (omega arith)
 
-pub judged-none : (s : List ℕ) {first kinds joined : List ℕ} {r : Decoded} → Decodes s first kinds joined r → r ≡ answer.NoRelease → Judged s first kinds joined answer.NoRelease
+pub judged-none : (s : List ℕ) {first kinds joined sums : List ℕ} {r : Decoded} → Decodes s first kinds joined r → r ≡ answer.NoRelease → Judged s first kinds joined sums answer.NoRelease
 judged-none s d e = judged-no s (answer-none s (sym e ∙ d .result))
 
 -- the number of the release of a graph of n nodes
@@ -79,7 +84,7 @@ release-number s n t count m = rw (t, count) (step (eqb n m))
     step true = refl
     step false = refl
 
-module _ (s : List ℕ) (bytes : Bytes s) {first kinds joined : List ℕ} (n : ℕ) {r : Decoded} (d : Decodes s first kinds joined r) (e : r ≡ answer.Graph n) (w : Words joined) where
+module _ (s : List ℕ) (bytes : Bytes s) {first kinds joined sums : List ℕ} (n : ℕ) {r : Decoded} (d : Decodes s first kinds joined r) (k : SumsKept s first joined sums) (e : r ≡ answer.Graph n) (w : Words joined) where
   abbrev gs : List (Bool × List ℕ)
   gs = toldGroups s
 
@@ -95,45 +100,64 @@ module _ (s : List ℕ) (bytes : Bytes s) {first kinds joined : List ℕ} (n : �
   parts : (n ≤ maxNodes) × (groupsFit n (λ p. false) 0 (toldGroups s) ≡ true) × (superedgesFit (length (toldGroups s)) 0 (toldSuperedges s) ≡ true)
   parts = in-order-parts n (toldGroups s) (toldSuperedges s) ordered
 
-  -- what is asked of the arrays whose groups are told apart
-  pub apart-asked : (n ≤ maxNodes) × (length joined ≡ rowWords * maxNodes) × (n ≤ length first) × (n ≤ length kinds)
-  apart-asked = (parts .0, d .rows, omega (arith, parts .0, d .nodes), omega (arith, parts .0, d .groups))
-
   file : s ≡ fileBy n (toldGroups s) (toldSuperedges s)
   file = accepted-in-order s bytes (known .0) .1 ∙ ap (λ (k : ℕ). fileBy k (toldGroups s) (toldSuperedges s)) (sym (known .1))
 
   told : Told (toldGroups s) (toldSuperedges s) first kinds joined
   told = d .told (known .0)
 
+  rows : rowWords * n ≤ length joined
+  rows = rw (known .1) (d .rows (known .0))
+
+  compressed : Compressed n first kinds joined
+  compressed = told-compressed n (toldGroups s) (toldSuperedges s) ordered told (d .nodes) (d .groups) rows
+
+  -- the sums that were kept
+  cubed : isFew (length s) n ≡ true → Cubed n first sums
+  cubed f = rw (known .1) (k .cubed (known .0) (rw (known .1) at f))
+
+  summed : isFew (length s) n ≡ true → JoinedSummed joined sums
+  summed f = k .summed (known .0) (rw (known .1) at f)
+
+  -- what is asked of the arrays whose groups are told apart
+  pub nodes-few : n ≤ maxNodes
+  nodes-few = parts .0
+
+  pub apart-asked : {few : Bool} → few ≡ isFew (length s) n → (n ≤ maxNodes) × (rowWords * n ≤ length joined) × (n ≤ length first) × (n ≤ length kinds) × (length sums ≡ 2 * maxNodes) × (few ≡ true → SumsTold joined sums)
+  apart-asked is =
+      (parts .0, rows, omega (arith, parts .0, d .nodes), omega (arith, parts .0, d .groups), k .size, λ f. record { summed = summed (sym is ∙ f); irreflexive = λ p l. compressed .irreflexive p l })
+
   graph : unfolded n first kinds joined ≡ decode s
-  graph = told-unfolded n (toldGroups s) (toldSuperedges s) ordered told (d .nodes) (d .groups) (d .rows) ∙ sym (ap decode file ∙ decode-file n (toldGroups s) (toldSuperedges s))
+  graph = told-unfolded n (toldGroups s) (toldSuperedges s) ordered told ∙ sym (ap decode file ∙ decode-file n (toldGroups s) (toldSuperedges s))
 
   same : apart n first kinds joined ≡ isRelease s
-  same = told-apart n (toldGroups s) (toldSuperedges s) ordered told (d .nodes) (d .groups) (d .rows) w ∙ sym (ap isRelease file ∙ in-order-release n (toldGroups s) (toldSuperedges s) ordered)
+  same = told-apart n (toldGroups s) (toldSuperedges s) ordered told w ∙ sym (ap isRelease file ∙ in-order-release n (toldGroups s) (toldSuperedges s) ordered)
 
-  pub judged-other : {b : Bool} → b ≡ apart n first kinds joined → b ≡ false → Judged s first kinds joined answer.NoRelease
+  pub judged-other : {b : Bool} → b ≡ apart n first kinds joined → b ≡ false → Judged s first kinds joined sums answer.NoRelease
   judged-other c z = judged-no s (sym same ∙ sym c ∙ z)
 
-  pub judged-release : {b : Bool} → b ≡ apart n first kinds joined → b ≡ true → Judged s first kinds joined (answer.Graph n)
+  pub judged-release : {b : Bool} → b ≡ apart n first kinds joined → b ≡ true → Judged s first kinds joined sums (answer.Graph n)
   judged-release {b} c z = record {
     asked = unfold askedNumber firstOf in rw is;
     read = release-number s n is (sym (ap (λ (g : Graph). g .nodeCount) graph) ∙ unfold unfolded in refl);
     graph = λ m x. let q : n ≡ m = cc in ap (λ (k : ℕ). unfolded k first kinds joined) (sym q) ∙ graph;
     exact = λ m x. let q : n ≡ m = cc in subst (λ (k : ℕ). Exact k first kinds joined) q exact;
+    cubed = λ m x. let q : n ≡ m = cc in subst (λ (j : ℕ). isFew (length s) j ≡ true → Cubed j first sums) q cubed;
+    summed = λ m x. let q : n ≡ m = cc in subst (λ (j : ℕ). isFew (length s) j ≡ true → JoinedSummed joined sums) q summed;
   }
     where
       is : isRelease s ≡ true
       is = sym same ∙ sym c ∙ z
 
       by-groups : unfolded n first kinds joined ≡ graphBy n (summaryBy (toldGroups s) (toldSuperedges s))
-      by-groups = told-unfolded n (toldGroups s) (toldSuperedges s) ordered told (d .nodes) (d .groups) (d .rows)
+      by-groups = told-unfolded n (toldGroups s) (toldSuperedges s) ordered told
 
       below : (p : ℕ) → isVisible (unfolded n first kinds joined) p ≡ true → p < maxNodes
       below p v = let l : p < n = unfold unfolded in visible-inside (unfolded n first kinds joined) p v in omega (arith, parts .0)
 
       exact : Exact n first kinds joined
       exact = record {
-        compressed = told-compressed n (toldGroups s) (toldSuperedges s) ordered told (d .nodes) (d .groups) (d .rows);
+        compressed = compressed;
         proper = rw by-groups (told-proper n (toldGroups s) (toldSuperedges s) (parts .0) (parts .1));
         told = λ p v. rw by-groups (told .first p (below p v) ∙ release-least n (toldGroups s) (toldSuperedges s) ordered (sym (ap isRelease file) ∙ is) p (rw by-groups at v));
       }

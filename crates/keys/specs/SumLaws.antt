@@ -16,10 +16,11 @@ use Rattle.model.specs.Tables.{edgeBit}
 use Rattle.model.specs.TestLaws.{differ}
 use Rattle.rows.specs.Rows.{Words}
 use Rattle.search.specs.Search.{edgesIn, graphIn}
+use Rattle.buffers.specs.WordBitsLaws.{cleared-less, lowest-small}
 use Rattle.keys.specs.Totals.{sumOf}
 use Rattle.keys.specs.TotalLaws.{total-cong, total-cubes, total-none, total-set}
 use Rattle.keys.specs.Walk.{ahead}
-use Rattle.keys.specs.WalkLaws.{ahead-end, ahead-gone, ahead-here, ahead-next, ahead-off, ahead-start, cleared-less, lowest-small}
+use Rattle.keys.specs.WalkLaws.{ahead-end, ahead-gone, ahead-here, ahead-next, ahead-off, ahead-start}
 
 -- x is what is left of word w of p's row, sum what c tells of the bits so far, key what it tells of all of them
 pub record Weighing (c : ℕ → ℕ) (key n : ℕ) (edges : List ℕ) (p w x sum : ℕ) : Type 0 where
@@ -32,11 +33,11 @@ pub record Weighing (c : ℕ → ℕ) (key n : ℕ) (edges : List ℕ) (p w x su
 abbrev pub CubesSoFar : ℕ → List ℕ → ℕ → ℕ → ℕ → ℕ → Type 0
 CubesSoFar n edges p w x sum = Weighing (λ q. cube q) (openKey (whole (graphIn n edges)) p) n edges p w x sum
 
-weights-cong : (n : ℕ) (f h : ℕ → Bool) (c : ℕ → ℕ) → ((q : ℕ) → q < n → f q ≡ h q) → sumOf n f c ≡ sumOf n h c
+pub weights-cong : (n : ℕ) (f h : ℕ → Bool) (c : ℕ → ℕ) → ((q : ℕ) → q < n → f q ≡ h q) → sumOf n f c ≡ sumOf n h c
 weights-cong n f h c e = total-cong n (λ q. cond (f q) (c q) 0) (λ q. cond (h q) (c q) 0) (λ q l. ap (λ (b : Bool). cond b (c q) 0) (e q l))
 
 module _ {c : ℕ → ℕ} {key n : ℕ} {edges : List ℕ} {p : ℕ} where
-  pub weighing-start : sumOf n (edgeBit edges p) c % 2 ^ 32 ≡ key → Words edges → Weighing c key n edges p 0 (getD edges (8 * p + 0) 0) 0
+  weighing-start : sumOf n (edgeBit edges p) c % 2 ^ 32 ≡ key → Words edges → Weighing c key n edges p 0 (getD edges (8 * p + 0) 0) 0
   weighing-start e words = record {
     small = words (8 * p + 0);
     fits = omega arith;
@@ -102,7 +103,7 @@ module _ {c : ℕ → ℕ} {key n : ℕ} {edges : List ℕ} {p : ℕ} where
                   rw (on, gone) (omega arith)
 
   -- after the last word
-  pub weighing-done : {x sum w : ℕ} → Weighing c key n edges p w x sum → w ≡ 8 → n ≤ 512 → sum ≡ key
+  weighing-done : {x sum w : ℕ} → Weighing c key n edges p w x sum → w ≡ 8 → n ≤ 512 → sum ≡ key
   weighing-done {x} {sum} {w} h e l = omega (arith, h .total, empty, h .fits)
     where
       empty : sumOf n (ahead edges p w x) c ≡ 0

@@ -231,8 +231,8 @@ fn open_key(edges: &[u64], least: &[u16], keys: &[u32], sums: &[u32], n: usize, 
     low_half(row_sum(edges, sums, p))
 }
 
-// The keys that an edge table demands, with the least members known: for rows with many bits.
-pub fn sum_dense(edges: &[u64], least: &[u16], keys: &mut [u32], n: usize)
+// The keys that an edge table demands, with the least members known: eight bits at a time.
+fn sum_dense(edges: &[u64], least: &[u16], keys: &mut [u32], n: usize)
     requires { ⌜ Within n (now edges) × Proper (graphIn n (now edges)) × LeastTold n (now edges) (now least) × (length (now keys) ≡ 2 * n) ⌝ }
     ensures { λ _. ⌜ now (keys .exit) ≡ keysOf (graphIn n (now (edges .entry))) ⌝ }
 {
@@ -242,4 +242,27 @@ pub fn sum_dense(edges: &[u64], least: &[u16], keys: &mut [u32], n: usize)
         let sum = open_key(edges, least, keys, &sums, n, p);
         put_keys(keys, p, sum);
     }
+}
+
+// The keys that an edge table demands, bit by bit.
+fn sum_each(edges: &[u64], keys: &mut [u32], n: usize)
+    requires { ⌜ Within n (now edges) × (length (now keys) ≡ 2 * n) ⌝ }
+    ensures { λ _. ⌜ now (keys .exit) ≡ keysOf (graphIn n (now (edges .entry))) ⌝ }
+{
+    for p in 0..n {
+        let sum = sum_row(edges, n, p);
+        put_keys(keys, p, sum);
+    }
+}
+
+// The keys that an edge table with many bits demands, with the least members known. For few nodes no table is filled.
+pub fn sum_rows(edges: &[u64], least: &[u16], keys: &mut [u32], n: usize)
+    requires { ⌜ Within n (now edges) × Proper (graphIn n (now edges)) × LeastTold n (now edges) (now least) × (length (now keys) ≡ 2 * n) ⌝ }
+    ensures { λ _. ⌜ now (keys .exit) ≡ keysOf (graphIn n (now (edges .entry))) ⌝ }
+{
+    if n <= 64 {
+        sum_each(edges, keys, n);
+        return;
+    }
+    sum_dense(edges, least, keys, n);
 }

@@ -14,7 +14,7 @@ use Rattle.model.specs.Release.{headRecord, superedgeRecord, u16}
 use Rattle.model.specs.ReleaseLaws.{length-u16s}
 use Rattle.rows.specs.Rows.{leads}
 use Rattle.buffers.specs.Wrote.{Left, Wrote}
-use Rattle.buffers.specs.WroteLaws.{left-done, left-room, left-start, left-step, wrote-before, wrote-length, wrote-then}
+use Rattle.buffers.specs.WroteLaws.{left-done, left-put, left-room, left-start, left-step, wrote-before, wrote-length, wrote-then}
 use Rattle.buffers.specs.Scan.{flat, scan}
 use Rattle.buffers.specs.ScanLaws.{flat-step, scan-length, scan-yes}
 use Rattle.layout.specs.File.{chain, firstTwo, groupBytes, groupMark, inGroup, later, superedgeBetween, u16Bytes}
@@ -158,7 +158,7 @@ leads-no least p w e h = ne-eqb (getD least p 0) p (λ k. h (omega arith))
 
 -- leaders put into a list
 pub collect-yes : (least : List ℕ) (n p : ℕ) {s₀ : List ℕ} {s : List ℕ} {g : ℕ} → Left s₀ 0 (scan (leads least) n 0) s g (scan (leads least) n p) → p < n → leads least p ≡ true → Left s₀ 0 (scan (leads least) n 0) (set s g p) (g + 1) (scan (leads least) n (p + 1))
-collect-yes least n p l h t = left-step {bs = p ∷ []} l (record { bytes = refl; place = refl }) (scan-yes (leads least) n p h t)
+collect-yes least n p l h t = left-put l (scan-yes (leads least) n p h t)
 
 pub later-length : (e : ℕ → ℕ → Bool) (ls : List ℕ) (i : ℕ) → length (later e ls i) ≤ length ls
 unfolding later

@@ -1,151 +1,34 @@
--- Laws of bits walked word by word.
+-- Laws of superedges found word by word.
 use mathlib.Core.Path.{_≡_, refl, sym, ap, _∙_}
 use mathlib.Core.Bool.{Bool, true, false, not, _&&_, cond, and-false}
 use mathlib.Core.List.{List, [], _∷_, _++_, map, append-assoc}
 use mathlib.Core.Logic.{_⊎_, inl, inr}
 use Prim.Native.Nat.{ℕ, suc, zero, _+_, _*_, _-_, _/_, _%_, _^_, _≤_, _<_}
-use native.Mathlib.Nat.{mul-assoc, pow-suc, zero-div, div-eq-of-lt, div-mul-le-self, mod-eq-of-lt}
+use native.Mathlib.Nat.{zero-div, div-mul-le-self, mod-eq-of-lt}
 use native.Mathlib.Omega.{arith}
 use native.Mathlib.Numerals.{add-one}
 use lib.Dec.{eqb, ltb}
-use lib.Bits.{bitAnd, and-step, and-self, and-le-l, and-le-r}
-use lib.Pow.{pow-add, shr-shr, shl-shr}
-use lib.Count.{ones, onesIn, ones-step, trailingZeros}
-use lib.ListN.{length, getD, set, drop, length-append, length-map, length-set, drop-of-length-le, replicate}
+use lib.Bits.{bitAnd, and-le-l, and-le-r}
+use lib.Count.{ones, trailingZeros}
+use lib.ListN.{length, getD, set, drop, length-set, drop-of-length-le, replicate}
 use lib.Seq.{drop-cons, getD-set-same, getD-set-other}
-use borrow.Author.Tests.{eqb-true, eqb-false, eq-eqb, ne-eqb, ltb-true, lt-ltb, le-ltb}
+use borrow.Author.Tests.{eqb-true, eqb-false, ltb-true, lt-ltb, le-ltb}
 use Rattle.model.specs.Lists.{concat, filter, from}
 use Rattle.model.specs.Tables.{bitAt, edgeBit}
 use Rattle.model.specs.Release.{superedgeRecord}
-use Rattle.model.specs.Program.{before}
 use Rattle.model.specs.TestLaws.{decide, iff-eq}
 use Rattle.rows.specs.BitLaws.{bit-and}
 use Rattle.rows.specs.Rows.{leads}
 use Rattle.buffers.specs.Wrote.{Left, Wrote}
 use Rattle.buffers.specs.WroteLaws.{left-room, left-step}
 use Rattle.buffers.specs.Scan.{Counting, scan}
-use Rattle.buffers.specs.ScanLaws.{filter-and, scan-ascends, scan-cong, scan-cut, scan-end, scan-no, scan-skip, scan-yes, upward}
+use Rattle.buffers.specs.WordBits.{bitsFrom}
+use Rattle.buffers.specs.WordBitsLaws.{bit-above, bit-below, counting-bits, from-lowest, from-none, scan-word}
+use Rattle.buffers.specs.ScanLaws.{filter-and, scan-ascends, scan-cong, scan-cut, scan-end, scan-no, scan-yes, upward}
 use Rattle.layout.specs.File.{Partition, Rows, later, leadersOf, superedgeBetween, superedgesTo}
 use Rattle.layout.specs.FileLaws.{length-superedge}
 use Rattle.layout.specs.WholeLaws.{rows-of}
-use Rattle.layout.specs.Words.{AscendingLeaders, LeaderPlaces, LeaderSet, Marking, Rowed, bitsOf, laterRecords, laterWord, markedEdge, positionsOf}
-
--- bits of a word without its low bits
-bit-above : (x t k : ℕ) → t ≤ k → bitAt (x / 2 ^ t * 2 ^ t) k ≡ bitAt x k
-unfolding bitAt
-bit-above x t k h =
-    let e : k ≡ t + (k - t) = omega arith in
-    let d : x / 2 ^ t * 2 ^ t / 2 ^ k ≡ x / 2 ^ k =
-    ap (λ (j : ℕ). x / 2 ^ t * 2 ^ t / 2 ^ j) e ∙ sym (shr-shr (x / 2 ^ t * 2 ^ t) t (k - t)) ∙ ap (λ (y : ℕ). y / 2 ^ (k - t)) (shl-shr (x / 2 ^ t) t) ∙ shr-shr x t (k - t) ∙ ap (λ (j : ℕ). x / 2 ^ j) (sym e) in
-    rw d
-
-bit-below : (y t k : ℕ) → k < t → bitAt (y * 2 ^ t) k ≡ false
-unfolding bitAt
-bit-below y t k h =
-    let e : t ≡ suc (t - suc k) + k = omega arith in
-    let d : y * 2 ^ t / 2 ^ k ≡ y * 2 ^ (t - suc k) * 2 =
-    ap (λ (j : ℕ). y * 2 ^ j / 2 ^ k) e ∙ ap (λ (z : ℕ). y * z / 2 ^ k) (pow-add 2 (suc (t - suc k)) k) ∙ ap (λ (z : ℕ). z / 2 ^ k) (sym (mul-assoc y (2 ^ suc (t - suc k)) (2 ^ k))) ∙ shl-shr (y * 2 ^ suc (t - suc k)) k ∙ ap (λ (z : ℕ). y * z) (pow-suc 2 (t - suc k)) ∙ sym (mul-assoc y (2 ^ (t - suc k)) 2) in
-    let z : y * 2 ^ (t - suc k) * 2 % 2 ≡ 0 = omega arith in
-    rw (d, z)
-
-half-shr : (x k : ℕ) → x / 2 / 2 ^ k ≡ x / 2 ^ suc k
-half-shr x k = let e : 1 + k ≡ suc k = omega arith in rw e at (shr-shr x 1 k)
-
-lowest-bit : (x : ℕ) → bitAt x 0 ≡ eqb (x % 2) 1
-unfolding bitAt
-lowest-bit x = let e : x / 1 ≡ x = omega arith in rw e
-
-bit-suc : (x k : ℕ) → bitAt x (suc k) ≡ bitAt (x / 2) k
-unfolding bitAt
-bit-suc x k = rw (half-shr x k)
-
--- z is the place of the lowest bit of x, and x & (x - 1) is x without it
-pub record LowestBit (x z : ℕ) : Type 0 where
-  pub under : (j : ℕ) → j < z → bitAt x j ≡ false
-  pub here : bitAt x z ≡ true
-  pub rest : bitAnd x (x - 1) ≡ x / 2 ^ suc z * 2 ^ suc z
-
-zeros-odd : (k x : ℕ) → x % 2 ≡ 1 → trailingZeros (suc k) x ≡ 0
-unfolding trailingZeros
-zeros-odd k x e = rw e
-
-zeros-even : (k x : ℕ) → x % 2 ≡ 0 → trailingZeros (suc k) x ≡ suc (trailingZeros k (x / 2))
-unfolding trailingZeros
-zeros-even k x e = rw e
-
-lowest-odd : (x : ℕ) → x % 2 ≡ 1 → LowestBit x 0
-lowest-odd x e = record { under = λ j h. absurd (omega arith); here = lowest-bit x ∙ eq-eqb (x % 2) 1 e; rest = rest }
-  where
-    rest : bitAnd x (x - 1) ≡ x / 2 ^ 1 * 2 ^ 1
-    rest =
-        let a : (x - 1) / 2 ≡ x / 2 = omega arith in
-        let b : (x - 1) % 2 ≡ 0 = omega arith in
-        and-step x (x - 1) ∙ rw (a, b, e, and-self (x / 2)) (omega arith)
-
-lowest-even : (x z : ℕ) → 0 < x → x % 2 ≡ 0 → LowestBit (x / 2) z → LowestBit x (suc z)
-lowest-even x z pos e l = record { under = under; here = bit-suc x z ∙ l .here; rest = rest }
-  where
-    under : (j : ℕ) → j < suc z → bitAt x j ≡ false
-    under zero h = lowest-bit x ∙ ne-eqb (x % 2) 1 (omega arith)
-    under (suc j) h = bit-suc x j ∙ l .under j (omega arith)
-
-    rest : bitAnd x (x - 1) ≡ x / 2 ^ suc (suc z) * 2 ^ suc (suc z)
-    rest =
-        let a : (x - 1) / 2 ≡ x / 2 - 1 = omega arith in
-        and-step x (x - 1) ∙ rw (a, e, l .rest, half-shr x (suc z), pow-suc 2 (suc z)) (omega (arith, mul-assoc (x / 2 ^ suc (suc z)) (2 ^ suc z) 2))
-
-pub lowest : (k x : ℕ) → 0 < x → x < 2 ^ k → (trailingZeros k x < k) × LowestBit x (trailingZeros k x)
-lowest zero x pos h = absurd (omega arith)
-lowest (suc k) x pos h = step (x % 2) refl (omega arith) (lowest k (x / 2))
-  where
-    step : (d : ℕ) → x % 2 ≡ d → d < 2 → (0 < x / 2 → x / 2 < 2 ^ k → (trailingZeros k (x / 2) < k) × LowestBit (x / 2) (trailingZeros k (x / 2))) → (trailingZeros (suc k) x < suc k) × LowestBit x (trailingZeros (suc k) x)
-    step zero e l below =
-        let b = below (omega arith) (omega (arith, pow-suc 2 k)) in
-        rw (zeros-even k x e) (omega (arith, b .0), lowest-even x (trailingZeros k (x / 2)) pos e (b .1))
-    step (suc zero) e l below = rw (zeros-odd k x e) (omega arith, lowest-odd x e)
-    step (suc (suc d)) e l below = absurd (omega arith)
-
--- the bits of a word, lowest first
-pub bits-none : (x : ℕ) → x ≡ 0 → bitsOf x ≡ []
-unfolding bitsOf bitAt
-bits-none x e = scan-skip (bitAt x) 64 64 (omega arith) 0 (λ q a b. rw e (none q)) (omega arith) ∙ scan-end (bitAt x) 64 64 (omega arith)
-  where
-    none : (q : ℕ) → eqb (0 / 2 ^ q % 2) 1 ≡ false
-    none q = let z : 0 / 2 ^ q ≡ 0 = zero-div (2 ^ q) in rw z
-
-pub bits-lowest : (x z : ℕ) → 0 < x → x < 2 ^ 64 → z ≡ trailingZeros 64 x → bitsOf x ≡ z ∷ bitsOf (bitAnd x (x - 1))
-unfolding bitsOf
-bits-lowest x z pos h e =
-    let l = lowest 64 x pos h in
-    let hz : z < 64 = omega (arith, l .0) in
-    let low : LowestBit x z = rw e (l .1) in
-    let z1 : z + 1 ≡ suc z = omega arith in
-    scan-skip (bitAt x) 64 z (omega arith) 0 (λ q a b. low .under q b) (omega arith)
-    ∙ scan-yes (bitAt x) 64 z hz (low .here)
-    ∙ ap (λ (r : List ℕ). z ∷ r)
-    (rw (low .rest, z1)
-    (scan-cong (bitAt x) (bitAt (x / 2 ^ suc z * 2 ^ suc z)) 64 (suc z) (λ q a b. sym (bit-above x (suc z) q a))
-    ∙ sym (scan-skip (bitAt (x / 2 ^ suc z * 2 ^ suc z)) 64 (suc z) (omega arith) 0 (λ q a b. bit-below (x / 2 ^ suc z) (suc z) q b) (omega arith))))
-
--- as many as are counted
-pub bits-ones : (x : ℕ) → x < 2 ^ 64 → ones x ≡ length (bitsOf x)
-unfolding bitsOf bitAt ones onesIn
-bits-ones x h = let e : x / 2 ^ 0 ≡ x = omega arith in rw e at (go 0 (omega arith))
-  where
-    go : (t : ℕ) → t ≤ 64 → ones (x / 2 ^ t) ≡ length (scan (bitAt x) 64 t)
-    go = upward (λ t. t ≤ 64 → ones (x / 2 ^ t) ≡ length (scan (bitAt x) 64 t)) 64 top step
-      where
-        top : (t : ℕ) → 64 ≤ t → t ≤ 64 → ones (x / 2 ^ t) ≡ length (scan (bitAt x) 64 t)
-        top t a b =
-            let e : t ≡ 64 = omega arith in
-            rw (e, div-eq-of-lt h, scan-end (bitAt x) 64 64 (omega arith))
-
-        step : (t : ℕ) → t < 64 → (t + 1 ≤ 64 → ones (x / 2 ^ (t + 1)) ≡ length (scan (bitAt x) 64 (t + 1))) → t ≤ 64 → ones (x / 2 ^ t) ≡ length (scan (bitAt x) 64 t)
-        step t a below b = one t a (below (omega arith)) (decide (bitAt x t))
-          where
-            one : (t : ℕ) → t < 64 → ones (x / 2 ^ (t + 1)) ≡ length (scan (bitAt x) 64 (t + 1)) → (bitAt x t ≡ true) ⊎ (bitAt x t ≡ false) → ones (x / 2 ^ t) ≡ length (scan (bitAt x) 64 t)
-            one t a below (inl y) = omega (arith, ones-step (x / 2 ^ t), ap ones (shr-shr x t 1), eqb-true (x / 2 ^ t % 2) 1 y, ap length (scan-yes (bitAt x) 64 t a y))
-            one t a below (inr y) = let z : x / 2 ^ t % 2 ≡ 1 → ⊥ = eqb-false (x / 2 ^ t % 2) 1 y in omega (arith, ones-step (x / 2 ^ t), ap ones (shr-shr x t 1), ap length (scan-no (bitAt x) 64 t a y))
+use Rattle.layout.specs.Words.{AscendingLeaders, LeaderPlaces, LeaderSet, Marking, Rowed, laterRecords, laterWord, markedEdge, positionsOf}
 
 -- the marked nodes from q on: those of q's word, then those from the next word on
 module _ (edges set : List ℕ) (p q w : ℕ) (at : w ≡ q / 64) where
@@ -162,31 +45,10 @@ module _ (edges set : List ℕ) (p q w : ℕ) (at : w ≡ q / 64) where
   word-before k a = bit-below (bitAnd (getD set (q / 64) 0) (getD edges (8 * p + q / 64) 0) / 2 ^ (q % 64)) (q % 64) k a
 
   module _ (inside : q < 512) where
-    word-from : (k : ℕ) → q % 64 ≤ k → k ≤ 64 → scan (markedEdge edges set p) 512 (64 * w + k) ≡ map (λ k. 64 * w + k) (scan (bitAt (laterWord edges set p q)) 64 k) ++ scan (markedEdge edges set p) 512 (64 * w + 64)
-    word-from = upward (λ k. q % 64 ≤ k → k ≤ 64 → scan (markedEdge edges set p) 512 (64 * w + k) ≡ map (λ k. 64 * w + k) (scan (bitAt (laterWord edges set p q)) 64 k) ++ scan (markedEdge edges set p) 512 (64 * w + 64)) 64 top (λ k h below a b. step k h a (below (omega arith) (omega arith)) (decide (bitAt (laterWord edges set p q) k)))
-      where
-        top : (k : ℕ) → 64 ≤ k → q % 64 ≤ k → k ≤ 64 → scan (markedEdge edges set p) 512 (64 * w + k) ≡ map (λ k. 64 * w + k) (scan (bitAt (laterWord edges set p q)) 64 k) ++ scan (markedEdge edges set p) 512 (64 * w + 64)
-        top k h a b =
-            let e : k ≡ 64 = omega arith in
-            rw (e, scan-end (bitAt (laterWord edges set p q)) 64 64 (omega arith))
-
-        step : (k : ℕ) → k < 64 → q % 64 ≤ k → scan (markedEdge edges set p) 512 (64 * w + (k + 1)) ≡ map (λ k. 64 * w + k) (scan (bitAt (laterWord edges set p q)) 64 (k + 1)) ++ scan (markedEdge edges set p) 512 (64 * w + 64)
-            → (bitAt (laterWord edges set p q) k ≡ true) ⊎ (bitAt (laterWord edges set p q) k ≡ false) → scan (markedEdge edges set p) 512 (64 * w + k) ≡ map (λ k. 64 * w + k) (scan (bitAt (laterWord edges set p q)) 64 k) ++ scan (markedEdge edges set p) 512 (64 * w + 64)
-        step k h a below (inl y) =
-            let e : 64 * w + k + 1 ≡ 64 * w + (k + 1) = omega arith in
-            scan-yes (markedEdge edges set p) 512 (64 * w + k) (omega arith) (sym (word-bit k a h) ∙ y)
-            ∙ rw (e, scan-yes (bitAt (laterWord edges set p q)) 64 k h y) (ap (λ (r : List ℕ). (64 * w + k) ∷ r) below)
-        step k h a below (inr y) =
-            let e : 64 * w + k + 1 ≡ 64 * w + (k + 1) = omega arith in
-            scan-no (markedEdge edges set p) 512 (64 * w + k) (omega arith) (sym (word-bit k a h) ∙ y)
-            ∙ rw (e, scan-no (bitAt (laterWord edges set p q)) 64 k h y) below
-
-    pub word-split : scan (markedEdge edges set p) 512 q ≡ map (λ k. 64 * w + k) (bitsOf (laterWord edges set p q)) ++ scan (markedEdge edges set p) 512 (64 * w + 64)
-    unfolding bitsOf
+    pub word-split : scan (markedEdge edges set p) 512 q ≡ bitsFrom (64 * w) (laterWord edges set p q) ++ scan (markedEdge edges set p) 512 (64 * w + 64)
     word-split =
         let e : q ≡ 64 * w + q % 64 = omega arith in
-        ap (scan (markedEdge edges set p) 512) e ∙ word-from (q % 64) (omega arith) (omega arith)
-        ∙ ap (λ (l : List ℕ). map (λ k. 64 * w + k) l ++ scan (markedEdge edges set p) 512 (64 * w + 64)) (sym (scan-skip (bitAt (laterWord edges set p q)) 64 (q % 64) (omega arith) 0 (λ k a b. word-before k b) (omega arith)))
+        ap (scan (markedEdge edges set p) 512) e ∙ scan-word (markedEdge edges set p) 512 (laterWord edges set p q) w (q % 64) (omega arith) word-bit (omega arith) word-before
 
 -- as the code finds it
 pub later-word-is : (edges set : List ℕ) (p q t w j : ℕ) → t ≡ q % 64 → w ≡ q / 64 → j ≡ 8 * p + q / 64 → getD edges j 0 < 2 ^ 64 → bitAnd (getD set w 0) (getD edges j 0) / 2 ^ t * 2 ^ t % 2 ^ 64 ≡ laterWord edges set p q
@@ -263,17 +125,7 @@ module _ (edges ls set : List ℕ) (m : LeaderSet ls set) (i p : ℕ) (inside : 
 
 -- counting them
 pub counting-word : (edges set : List ℕ) (p q w : ℕ) {total c x : ℕ} → Counting (markedEdge edges set p) 512 total c q → ((i : ℕ) → getD set i 0 < 2 ^ 64) → w ≡ q / 64 → q < 512 → x ≡ laterWord edges set p q → Counting (markedEdge edges set p) 512 total (c + ones x) (64 * w + 64)
-counting-word edges set p q w {total} {c} {x} k h e l is = record {
-  sum = omega (
-    arith,
-    k .sum,
-    ap ones is,
-    bits-ones (laterWord edges set p q) (later-word-lt edges set p q h),
-    ap length (word-split edges set p q w e l),
-    length-append (map (λ k. 64 * w + k) (bitsOf (laterWord edges set p q))) (scan (markedEdge edges set p) 512 (64 * w + 64)),
-    length-map (bitsOf (laterWord edges set p q)) (λ k. 64 * w + k),
-  );
-}
+counting-word edges set p q w k h e l is = rw is (counting-bits (64 * w) (laterWord edges set p q) k (later-word-lt edges set p q h) (word-split edges set p q w e l))
 
 -- writing them
 to-append : (i : ℕ) (a b : List ℕ) → superedgesTo i (a ++ b) ≡ superedgesTo i a ++ superedgesTo i b
@@ -287,10 +139,6 @@ map-split : (f : ℕ → ℕ) (a b : List ℕ) → map f (a ++ b) ≡ map f a ++
 map-split f [] b = refl
 map-split f (x ∷ xs) b = ap (λ (l : List ℕ). f x ∷ l) (map-split f xs b)
 
-map-twice : (f g : ℕ → ℕ) (l : List ℕ) → map f (map g l) ≡ map (λ x. f (g x)) l
-map-twice f g [] = refl
-map-twice f g (x ∷ xs) = ap (λ (l : List ℕ). f (g x) ∷ l) (map-twice f g xs)
-
 module _ (edges set position : List ℕ) (i p q : ℕ) where
   pub records-end : 512 ≤ q → laterRecords edges set position i p q ≡ []
   unfolding laterRecords superedgesTo concat
@@ -301,9 +149,8 @@ module _ (edges set position : List ℕ) (i p q : ℕ) where
     unfolding laterRecords positionsOf
     records-word =
         ap (λ (l : List ℕ). superedgesTo i (map (λ x. getD position x 0) l)) (word-split edges set p q w at inside)
-        ∙ ap (superedgesTo i) (map-split (λ x. getD position x 0) (map (λ k. 64 * w + k) (bitsOf (laterWord edges set p q))) (scan (markedEdge edges set p) 512 (64 * w + 64)))
-        ∙ to-append i (map (λ x. getD position x 0) (map (λ k. 64 * w + k) (bitsOf (laterWord edges set p q)))) (map (λ x. getD position x 0) (scan (markedEdge edges set p) 512 (64 * w + 64)))
-        ∙ ap (λ (l : List ℕ). superedgesTo i l ++ superedgesTo i (map (λ x. getD position x 0) (scan (markedEdge edges set p) 512 (64 * w + 64)))) (map-twice (λ x. getD position x 0) (λ k. 64 * w + k) (bitsOf (laterWord edges set p q)))
+        ∙ ap (superedgesTo i) (map-split (λ x. getD position x 0) (bitsFrom (64 * w) (laterWord edges set p q)) (scan (markedEdge edges set p) 512 (64 * w + 64)))
+        ∙ to-append i (map (λ x. getD position x 0) (bitsFrom (64 * w) (laterWord edges set p q))) (map (λ x. getD position x 0) (scan (markedEdge edges set p) 512 (64 * w + 64)))
 
     pub records-room : {s₀ : List ℕ} {at₀ : ℕ} {all s : List ℕ} {to : ℕ} → Left s₀ at₀ all s to (laterRecords edges set position i p q) → at₀ + length all ≤ length s₀ → to + length (superedgesTo i (positionsOf position (64 * w) (laterWord edges set p q))) ≤ length s
     records-room l room = left-room l room (superedgesTo i (positionsOf position (64 * w) (laterWord edges set p q))) (laterRecords edges set position i p (64 * w + 64)) records-word
@@ -315,24 +162,18 @@ module _ (edges set position : List ℕ) (i p q : ℕ) where
 module _ (position : List ℕ) (i b x : ℕ) where
   pub word-end : x ≡ 0 → superedgesTo i (positionsOf position b x) ≡ []
   unfolding superedgesTo positionsOf concat
-  word-end e = rw (bits-none x e)
+  word-end e = rw (from-none b x e)
 
-  module _ (z : ℕ) (pos : 0 < x) (fits : x < 2 ^ 64) (low : z ≡ trailingZeros 64 x) where
+  module _ (z : ℕ) (fits : x < 2 ^ 64) (some : x ≡ 0 → ⊥) (low : z ≡ trailingZeros 64 x) where
     word-one : superedgesTo i (positionsOf position b x) ≡ superedgeRecord (i, getD position (b + z) 0) ++ superedgesTo i (positionsOf position b (bitAnd x (x - 1)))
     unfolding superedgesTo positionsOf concat
-    word-one = rw (bits-lowest x z pos fits low)
+    word-one = rw (from-lowest b x z fits some low)
 
     pub word-room : {s₀ : List ℕ} {at₀ : ℕ} {all s : List ℕ} {to : ℕ} → Left s₀ at₀ all s to (superedgesTo i (positionsOf position b x)) → at₀ + length all ≤ length s₀ → to + 6 ≤ length s
     word-room l room = omega (arith, left-room l room (superedgeRecord (i, getD position (b + z) 0)) (superedgesTo i (positionsOf position b (bitAnd x (x - 1)))) word-one, length-superedge i (getD position (b + z) 0))
 
     pub word-more : {s₀ : List ℕ} {at₀ : ℕ} {all s : List ℕ} {to : ℕ} {t : List ℕ} {next : ℕ} → Left s₀ at₀ all s to (superedgesTo i (positionsOf position b x)) → Wrote s to (superedgeRecord (i, getD position (b + z) 0)) t next → Left s₀ at₀ all t next (superedgesTo i (positionsOf position b (bitAnd x (x - 1))))
     word-more l v = left-step l v word-one
-
-pub word-within : (x z : ℕ) → 0 < x → x < 2 ^ 64 → z ≡ trailingZeros 64 x → z < 64
-word-within x z pos fits low = omega (arith, lowest 64 x pos fits .0)
-
-pub word-less : (x : ℕ) → 0 < x → bitAnd x (x - 1) < x
-word-less x pos = omega (arith, and-le-r x (x - 1))
 
 -- a set of bits, node after node
 getD-zeros : (k i : ℕ) → _≡_ {A = ℕ} (getD (replicate k 0) i 0) 0
@@ -418,6 +259,3 @@ rowed-of r = record {
 
 pub marked-as : {ls ls′ set : List ℕ} → LeaderSet ls set → ls′ ≡ ls → LeaderSet ls′ set
 marked-as m e = record { size = m .size; words = m .words; list = e ∙ m .list }
-
-pub ne-pos : (x : ℕ) → (x ≡ 0 → ⊥) → 0 < x
-ne-pos x h = omega arith

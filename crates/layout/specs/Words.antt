@@ -6,13 +6,10 @@ use Prim.Native.Nat.{ℕ, _+_, _*_, _/_, _%_, _^_, _≤_, _<_}
 use lib.Bits.{bitAnd}
 use lib.Dec.{ltb}
 use lib.ListN.{length, getD}
-use Rattle.model.specs.Tables.{bitAt, edgeBit}
+use Rattle.model.specs.Tables.{edgeBit}
 use Rattle.buffers.specs.Scan.{scan}
+use Rattle.buffers.specs.WordBits.{bitsFrom}
 use Rattle.layout.specs.File.{superedgesTo}
-
--- the places of the bits of a word, ascending
-unfoldable pub bitsOf : ℕ → List ℕ
-bitsOf x = scan (bitAt x) 64 0
 
 -- q is in the set and has an edge to p
 unfoldable pub markedEdge : List ℕ → List ℕ → ℕ → ℕ → Bool
@@ -24,7 +21,7 @@ laterWord edges set p q = bitAnd (getD set (q / 64) 0) (getD edges (8 * p + q / 
 
 -- the positions of the nodes b + k for the bits k of a word
 unfoldable pub positionsOf : List ℕ → ℕ → ℕ → List ℕ
-positionsOf position b x = map (λ k. getD position (b + k) 0) (bitsOf x)
+positionsOf position b x = map (λ q. getD position q 0) (bitsFrom b x)
 
 -- the records of the i-th group's superedges to the groups of the marked nodes from q on
 unfoldable pub laterRecords : List ℕ → List ℕ → List ℕ → ℕ → ℕ → ℕ → List ℕ

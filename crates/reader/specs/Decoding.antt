@@ -2,7 +2,7 @@
 use mathlib.Core.Path.{_≡_}
 use mathlib.Core.Bool.{Bool, true, false, not, _&&_, _||_, cond}
 use mathlib.Core.List.{List, [], _∷_}
-use Prim.Native.Nat.{ℕ, zero, suc, _+_, _*_, _-_, _≤_, _<_}
+use Prim.Native.Nat.{ℕ, zero, suc, _+_, _*_, _-_, _/_, _≤_, _<_}
 use lib.Dec.{eqb, ltb, leb}
 use lib.ListN.{length, getD, drop, replicate}
 use Rattle.model.specs.Lists.{headOr, member}
@@ -16,9 +16,12 @@ use Rattle.records.specs.declared.Lessened.the-variants.{Left, Over}
 use Rattle.records.specs.declared.Record.{Record}
 use Rattle.records.specs.declared.Record.the-variants.{Head, Group, Superedge, End, Malformed}
 use Rattle.records.specs.Records.{itemIn, lessGroup, lessMember, recordAt, spent}
-use Rattle.drawing.specs.Drawing.{Added, Adding, onePair}
+use Rattle.drawing.specs.Drawing.{Added, Adding, pairBits}
+use Rattle.mirroring.specs.Mirroring.{BlocksFor}
 use Rattle.rows.specs.Rows.{leads, noNode}
 use Rattle.compressed.specs.Compressed.{Told, firstAt, firstMemberOf, kindLed, kindMarked, single}
+use Rattle.sums.specs.Joined.{JoinedSummed, SumsAdded, SumsAdding, pairCubes}
+use Rattle.sums.specs.Sums.{Cubed}
 use Rattle.reader.specs.declared.Grouped.{Grouped}
 use Rattle.reader.specs.declared.Grouped.the-variants.{Taken, Missing}
 use Rattle.reader.specs.declared.Groups.{Groups}
@@ -110,11 +113,17 @@ groupsFrom s at k = groupsAt k (drop at s)
 unfoldable pub bytesAfter : List ℕ → ℕ → ℕ → List ℕ
 bytesAfter s at k = afterGroups k (drop at s)
 
--- first members of groups, by position, as nodes
-pub record FirstsPlaced (g : ℕ) (firsts : List ℕ) : Type 0 where
+-- first members of groups, by position, as nodes with rows among so many words
+pub record FirstsPlaced (g words : ℕ) (firsts : List ℕ) : Type 0 where
   pub few : g ≤ maxNodes
   pub size : g ≤ length firsts
   pub small : (i : ℕ) → i < g → getD firsts i 0 < maxNodes
+  pub rows : (i : ℕ) → i < g → rowWords * getD firsts i 0 + rowWords ≤ words
+
+-- they ascend, and are nodes of n
+pub record FirstsAscend (n g : ℕ) (firsts : List ℕ) : Type 0 where
+  pub small : (i : ℕ) → i < g → getD firsts i 0 < n
+  pub order : (i j : ℕ) → i < j → j < g → getD firsts i 0 < getD firsts j 0
 
 -- underway: i groups are read, and those from the place on are not
 pub record GroupsLeft (n g : ℕ) (c : Counts) (s : List ℕ) (from i low : ℕ) (left : Counts) (at : ℕ) (least firsts kinds : List ℕ) : Type 0 where
@@ -125,16 +134,17 @@ pub record GroupsLeft (n g : ℕ) (c : Counts) (s : List ℕ) (from i low : ℕ)
   pub kind : (p : ℕ) → p < maxNodes → cond (leads least p) (getD kinds p 0) (kindLed (groupsFrom s at (g - i)) p) ≡ kindLed (groupsFrom s from g) p
   pub others : (p : ℕ) → p < maxNodes → leads least p ≡ false → getD kinds p 0 ≡ single
   pub led : (k : ℕ) → k < i → getD firsts k 0 ≡ firstAt (groupsFrom s from g) k
-  pub placed : (k : ℕ) → k < i → getD firsts k 0 < maxNodes
+  pub ascend : FirstsAscend n i firsts
+  pub passed : (k : ℕ) → k < i → getD firsts k 0 < low
   pub shifted : (k : ℕ) → firstAt (groupsFrom s from g) (i + k) ≡ firstAt (groupsFrom s at (g - i)) k
   pub rest : bytesAfter s at (g - i) ≡ bytesAfter s from g
 
 -- all groups are read: first members and kinds stand in the arrays, and what follows the groups stands at the next place
-pub record GroupsHeld (g : ℕ) (s : List ℕ) (from next : ℕ) (least firsts kinds : List ℕ) : Type 0 where
+pub record GroupsHeld (n g : ℕ) (s : List ℕ) (from next : ℕ) (least firsts kinds : List ℕ) : Type 0 where
   pub first : (p : ℕ) → p < maxNodes → getD least p 0 ≡ firstMemberOf (groupsFrom s from g) p
   pub kind : (p : ℕ) → p < maxNodes → getD kinds p 0 ≡ kindLed (groupsFrom s from g) p
   pub led : (i : ℕ) → i < g → getD firsts i 0 ≡ firstAt (groupsFrom s from g) i
-  pub placed : (i : ℕ) → i < g → getD firsts i 0 < maxNodes
+  pub ascend : FirstsAscend n g firsts
   pub rest : drop next s ≡ bytesAfter s from g
 
 pub record GroupsRead (n g : ℕ) (c : Counts) (s : List ℕ) (from : ℕ) (least firsts₀ firsts kinds : List ℕ) (r : Groups) : Type 0 where
@@ -142,7 +152,7 @@ pub record GroupsRead (n g : ℕ) (c : Counts) (s : List ℕ) (from : ℕ) (leas
   pub nodes : length least ≡ maxNodes
   pub groups : length kinds ≡ maxNodes
   pub size : length firsts ≡ length firsts₀
-  pub held : (next : ℕ) (left : Counts) → r ≡ Whole next left → GroupsHeld g s from next least firsts kinds
+  pub held : (next : ℕ) (left : Counts) → r ≡ Whole next left → GroupsHeld n g s from next least firsts kinds
 
 -- the first place, among at most k records, without a superedge in order, and the superedges before it
 abbrev pub onSuperedge : {A : Type 0} → Record → (ℕ → ℕ → A) → A → A
@@ -160,10 +170,19 @@ unfoldable pub pairsTo : ℕ → List ℕ → ℕ → ℕ → ℕ → List (ℕ 
 pairsTo g s last zero at = []
 pairsTo g s last (suc k) at = onSuperedge (itemIn (drop at s)) (λ i j. cond (follows g last i j) ((i, j) ∷ pairsTo g s (pairKey i j) k (at + 6)) []) []
 
--- the bits of first members whose groups have a superedge
-unfoldable pub drawnBy : List ℕ → List (ℕ × ℕ) → ℕ → ℕ → Bool
-drawnBy firsts [] a b = false
-drawnBy firsts (x ∷ xs) a b = onePair (getD firsts (x .0) 0) (getD firsts (x .1) 0) a b || drawnBy firsts xs a b
+-- the bits of first members whose groups have a superedge: in the row of the later one, and in that of the earlier one too if both
+unfoldable pub drawnBy : Bool → List ℕ → List (ℕ × ℕ) → ℕ → ℕ → Bool
+drawnBy both firsts [] a b = false
+drawnBy both firsts (x ∷ xs) a b = pairBits both (getD firsts (x .0) 0) (getD firsts (x .1) 0) a b || drawnBy both firsts xs a b
+
+-- what a superedge between p and q adds to the sum of l: nothing where superedges are many
+unfoldable pub pairAdds : Bool → List ℕ → ℕ → ℕ → ℕ → ℕ
+pairAdds few sums p q l = cond few (pairCubes sums p q l) 0
+
+-- and what superedges add
+unfoldable pub addedBy : Bool → List ℕ → List ℕ → List (ℕ × ℕ) → ℕ → ℕ
+addedBy few firsts sums [] l = 0
+addedBy few firsts sums (x ∷ xs) l = pairAdds few sums (getD firsts (x .0) 0) (getD firsts (x .1) 0) l + addedBy few firsts sums xs l
 
 -- the same for the superedges of one first group
 unfoldable pub inRun : ℕ → ℕ → ℕ → ℕ → ℕ → Bool
@@ -177,34 +196,50 @@ unfoldable pub runPairs : ℕ → ℕ → List ℕ → ℕ → ℕ → ℕ → L
 runPairs g i s last zero at = []
 runPairs g i s last (suc k) at = onSuperedge (itemIn (drop at s)) (λ a j. cond (inRun g i last a j) ((i, j) ∷ runPairs g i s j k (at + 6)) []) []
 
-pub record RunRead (g i : ℕ) (s : List ℕ) (from : ℕ) (firsts joined₀ joined : List ℕ) (r : ℕ) : Type 0 where
+pub record RunRead (g i : ℕ) (few : Bool) (s : List ℕ) (from : ℕ) (firsts joined₀ joined sums₀ sums : List ℕ) (r : ℕ) : Type 0 where
   pub place : r ≡ runStop g i s i (length s) from
-  pub drawn : Added (drawnBy firsts (runPairs g i s i (length s) from)) joined₀ joined
+  pub drawn : Added (drawnBy few firsts (runPairs g i s i (length s) from)) joined₀ joined
+  pub summed : SumsAdded (addedBy few firsts sums₀ (runPairs g i s i (length s) from)) sums₀ sums
 
 -- underway: what is still to be read of a run, in at most so many records
-pub record RunLeft (g i : ℕ) (s : List ℕ) (from : ℕ) (firsts joined₀ joined : List ℕ) (last at : ℕ) : Type 0 where
+pub record RunLeft (g i : ℕ) (few : Bool) (s : List ℕ) (from : ℕ) (firsts joined₀ joined sums₀ sums : List ℕ) (last at : ℕ) : Type 0 where
   pub most : ℕ
   pub enough : length s ≤ at + most
   pub place : runStop g i s last most at ≡ runStop g i s i (length s) from
-  pub drawn : Adding (drawnBy firsts (runPairs g i s i (length s) from)) (drawnBy firsts (runPairs g i s last most at)) joined₀ joined
+  pub drawn : Adding (drawnBy few firsts (runPairs g i s i (length s) from)) (drawnBy few firsts (runPairs g i s last most at)) joined₀ joined
+  pub summed : SumsAdding (addedBy few firsts sums₀ (runPairs g i s i (length s) from)) (addedBy few firsts sums₀ (runPairs g i s last most at)) sums₀ sums
 
 -- no superedge from a group before i stands in order at a place
 abbrev pub RunsPassed : ℕ → List ℕ → ℕ → ℕ → ℕ → Type 0
 RunsPassed g s i last at = (a j : ℕ) → itemIn (drop at s) ≡ Superedge a j → a < i → follows g last a j ≡ false
 
 -- underway: the runs of the groups before i are read
-pub record RunsLeft (g : ℕ) (s : List ℕ) (from : ℕ) (firsts joined₀ joined : List ℕ) (i at : ℕ) : Type 0 where
+pub record RunsLeft (g : ℕ) (few : Bool) (s : List ℕ) (from : ℕ) (firsts joined₀ joined sums₀ sums : List ℕ) (i at : ℕ) : Type 0 where
   pub most : ℕ
   pub last : ℕ
   pub enough : length s ≤ at + most
   pub low : last ≤ i * u16Limit
   pub passed : RunsPassed g s i last at
   pub place : stopAt g s last most at ≡ stopAt g s 0 (length s) from
-  pub drawn : Adding (drawnBy firsts (pairsTo g s 0 (length s) from)) (drawnBy firsts (pairsTo g s last most at)) joined₀ joined
+  pub drawn : Adding (drawnBy few firsts (pairsTo g s 0 (length s) from)) (drawnBy few firsts (pairsTo g s last most at)) joined₀ joined
+  pub summed : SumsAdding (addedBy few firsts sums₀ (pairsTo g s 0 (length s) from)) (addedBy few firsts sums₀ (pairsTo g s last most at)) sums₀ sums
 
-pub record SuperedgesRead (g : ℕ) (s : List ℕ) (from : ℕ) (firsts joined₀ joined : List ℕ) (r : ℕ) : Type 0 where
+pub record SuperedgesRead (g : ℕ) (few : Bool) (s : List ℕ) (from : ℕ) (firsts joined₀ joined sums₀ sums : List ℕ) (r : ℕ) : Type 0 where
   pub place : r ≡ stopAt g s 0 (length s) from
-  pub drawn : Added (drawnBy firsts (pairsTo g s 0 (length s) from)) joined₀ joined
+  pub drawn : Added (drawnBy few firsts (pairsTo g s 0 (length s) from)) joined₀ joined
+  pub summed : SumsAdded (addedBy few firsts sums₀ (pairsTo g s 0 (length s) from)) sums₀ sums
+
+-- few superedges for n nodes, by the length of the file: besides a group of six bytes for each node, 64 superedges and four for each word of each row
+unfoldable pub isFew : ℕ → ℕ → Bool
+isFew bytes n = leb bytes (384 + (6 + 24 * ((n + 63) / 64)) * n)
+
+-- superedges read both ways, and the sums of cubes kept if they are few
+pub record JoinedRead (n g : ℕ) (s : List ℕ) (from : ℕ) (least firsts joined₀ joined sums : List ℕ) (r : ℕ) : Type 0 where
+  pub place : r ≡ stopAt g s 0 (length s) from
+  pub drawn : Added (drawnBy true firsts (pairsTo g s 0 (length s) from)) joined₀ joined
+  pub size : length sums ≡ 2 * maxNodes
+  pub cubed : isFew (length s) n ≡ true → Cubed n least sums
+  pub summed : isFew (length s) n ≡ true → JoinedSummed joined sums
 
 -- no more bytes or counts than the end record
 abbrev pub onEnd : Record → Bool → Bool
@@ -242,27 +277,45 @@ accepted s = onHead (itemIn s) (λ n m g. countsFit n m g && bodyFits s n m g) f
 unfoldable pub decoded : List ℕ → Decoded
 decoded s = cond (accepted s) (answer.Graph (u16At s 2)) answer.NoRelease
 
+-- how many nodes the head tells; 0 if the bytes are too few for a head
+unfoldable pub nodesIn : List ℕ → ℕ
+nodesIn s = cond (ltb (length s) 8) 0 (u16At s 2)
+
+-- rows without a bit, for as many nodes as the head tells
+pub record BlankRows (s joined : List ℕ) : Type 0 where
+  pub bits : joined ≡ replicate (length joined) 0
+  pub room : nodesIn s ≤ maxNodes → BlocksFor (nodesIn s) (length joined)
+
 -- no node has a group, a kind or a bit
-pub record Blank (least kinds joined : List ℕ) : Type 0 where
+pub record Blank (s least kinds joined : List ℕ) : Type 0 where
   pub nodes : least ≡ replicate maxNodes noNode
   pub groups : kinds ≡ replicate maxNodes single
-  pub rows : joined ≡ replicate (rowWords * maxNodes) 0
+  pub rows : BlankRows s joined
 
 -- the body of a file read: the arrays hold what it tells
-pub record BodyRead (s : List ℕ) (n m g : ℕ) (least kinds joined : List ℕ) (r : Bool) : Type 0 where
+pub record BodyRead (s : List ℕ) (n m g : ℕ) (least kinds joined sums : List ℕ) (r : Bool) : Type 0 where
   pub result : r ≡ bodyFits s n m g
   pub nodes : length least ≡ maxNodes
   pub groups : length kinds ≡ maxNodes
-  pub rows : length joined ≡ rowWords * maxNodes
+  pub rows : rowWords * n ≤ length joined
   pub told : r ≡ true → Told (groupsFrom s 8 g) (superedgesAt (length s) (bytesAfter s 8 g)) least kinds joined
+  pub size : length sums ≡ 2 * maxNodes
+  pub cubed : r ≡ true → isFew (length s) n ≡ true → Cubed n least sums
+  pub summed : r ≡ true → isFew (length s) n ≡ true → JoinedSummed joined sums
 
 -- the answer, and what the arrays hold then
 pub record Decodes (s least kinds joined : List ℕ) (r : Decoded) : Type 0 where
   pub result : r ≡ decoded s
   pub nodes : length least ≡ maxNodes
   pub groups : length kinds ≡ maxNodes
-  pub rows : length joined ≡ rowWords * maxNodes
+  pub rows : accepted s ≡ true → rowWords * u16At s 2 ≤ length joined
   pub told : accepted s ≡ true → Told (toldGroups s) (toldSuperedges s) least kinds joined
+
+-- where superedges are few, the sums of cubes were kept
+pub record SumsKept (s least joined sums : List ℕ) : Type 0 where
+  pub size : length sums ≡ 2 * maxNodes
+  pub cubed : accepted s ≡ true → isFew (length s) (u16At s 2) ≡ true → Cubed (u16At s 2) least sums
+  pub summed : accepted s ≡ true → isFew (length s) (u16At s 2) ≡ true → JoinedSummed joined sums
 
 -- the head was just read
 pub record AfterHead (s : List ℕ) (at : ℕ) (head : Record) : Type 0 where

@@ -8,10 +8,10 @@ use native.Mathlib.Omega.{arith}
 use lib.Dec.{eqb, ltb, leb}
 use lib.ListN.{length, getD, drop, set, replicate, length-set, length-drop, length-replicate, getD-replicate}
 use lib.Seq.{drop-drop, getD-drop, getD-set-same, getD-set-other}
-use borrow.Author.Tests.{eqb-true, eqb-false, eq-eqb, ne-eqb, ltb-true, ltb-false, lt-ltb, le-ltb, leb-true, le-leb, lt-leb, not-true, not-false}
+use borrow.Author.Tests.{eqb-true, eqb-false, eq-eqb, ne-eqb, ltb-true, lt-ltb, le-ltb, leb-true, le-leb, lt-leb, not-true, not-false}
 use Rattle.model.specs.Lists.{any, headOr, member}
 use Rattle.model.specs.Graph.{maxNodes}
-use Rattle.model.specs.Reading.{afterGroups, groupsAt, isMark, u16At, u16s}
+use Rattle.model.specs.Reading.{afterGroups, groupsAt, u16At, u16s}
 use Rattle.model.specs.InOrder.{membersAt}
 use Rattle.model.specs.TestLaws.{decide, differ, and-fst, and-snd, or-cases, or-left}
 use Rattle.records.specs.declared.Counts.{Counts}
@@ -20,8 +20,8 @@ use Rattle.records.specs.declared.Lessened.the-variants.{Left, Over}
 use Rattle.records.specs.declared.Record.{Record}
 use Rattle.records.specs.declared.Record.the-variants.{Head, Group, Superedge, End, Malformed}
 use Rattle.records.specs.declared.Read.{Read}
-use Rattle.records.specs.Records.{groupItem, headItem, ifWhole, itemIn, lessGroup, lessMember, readAs, recordAt, sizeOf, superedgeItem}
-use Rattle.records.specs.RecordLaws.{u16-drop}
+use Rattle.records.specs.Records.{itemIn, lessGroup, lessMember, recordAt, sizeOf}
+use Rattle.records.specs.RecordLaws.{Fits, fits-at, item-fits, item-is, next-is, u16-drop}
 use Rattle.rows.specs.Rows.{leads, noNode}
 use Rattle.compressed.specs.Compressed.{clique, firstAt, firstMemberOf, independent, kindLed, kindMarked, single}
 use Rattle.reader.specs.declared.Grouped.{Grouped}
@@ -164,55 +164,14 @@ module _ (s : List ℕ) (at count : ℕ) where
     put = λ d f. subst (λ (l : ℕ). LeastPut (numbersAt s at count) l t now) (is ∙ numbers-first s at count some) (put-done first k from x h);
   }
 
--- what a record that was read tells of the bytes
-abbrev pub Fits : List ℕ → Record → Type 0
-Fits r (Head n m g) = (8 ≤ length r) × (n ≡ u16At r 2) × (m ≡ u16At r 4) × (g ≡ u16At r 6)
-Fits r (Group q count) = (4 ≤ length r) × (count ≡ u16At r 2) × (q ≡ eqb (getD r 1 0) 0x43)
-Fits r (Superedge i j) = (6 ≤ length r) × (i ≡ u16At r 2) × (j ≡ u16At r 4) × (isMark r 0x53 0x45 ≡ true)
-Fits r End = (2 ≤ length r) × (getD r 0 0 ≡ 0x45)
-Fits r Malformed = Unit {0}
-
-whole-fits : (r : List ℕ) (size : ℕ) (i : Record) → (size ≤ length r → Fits r i) → Fits r (ifWhole r size i)
-unfolding ifWhole
-whole-fits r size i f = step (decide (leb size (length r)))
-  where
-    step : (leb size (length r) ≡ true) ⊎ (leb size (length r) ≡ false) → Fits r (cond (leb size (length r)) i Malformed)
-    step (inl t) = rw t (f (leb-true size (length r) t))
-    step (inr t) = rw t tt
-
-cond-fits : (r : List ℕ) (t : Bool) (i j : Record) → (t ≡ true → Fits r i) → (t ≡ false → Fits r j) → Fits r (cond t i j)
-cond-fits r true i j f g = f refl
-cond-fits r false i j f g = g refl
-
-pub item-fits : (r : List ℕ) → Fits r (itemIn r)
-unfolding itemIn isMark superedgeItem groupItem headItem
-item-fits r =
-    cond-fits r (ltb (length r) 2) Malformed _ (λ t. tt) (λ room.
-    cond-fits r (eqb (getD r 0 0) 0x53 && eqb (getD r 1 0) 0x45) (superedgeItem r) _ (λ t. whole-fits r 6 (Superedge (u16At r 2) (u16At r 4)) (λ l. (l, refl, refl, t))) (λ _.
-    cond-fits r (eqb (getD r 0 0) 0x47 && eqb (getD r 1 0) 0x49) (groupItem false r) _ (λ t. whole-fits r 4 (Group false (u16At r 2)) (λ l. (l, refl, sym (ne-eqb (getD r 1 0) 0x43 (λ e. omega (arith, eqb-true (getD r 1 0) 0x49 (and-snd (eqb (getD r 0 0) 0x47) (eqb (getD r 1 0) 0x49) t))))))) (λ _.
-    cond-fits r (eqb (getD r 0 0) 0x47 && eqb (getD r 1 0) 0x43) (groupItem true r) _ (λ t. whole-fits r 4 (Group true (u16At r 2)) (λ l. (l, refl, sym (and-snd (eqb (getD r 0 0) 0x47) (eqb (getD r 1 0) 0x43) t)))) (λ _.
-    cond-fits r (eqb (getD r 0 0) 0x48 && eqb (getD r 1 0) 0x44) (headItem r) _ (λ t. whole-fits r 8 (Head (u16At r 2) (u16At r 4) (u16At r 6)) (λ l. (l, refl, refl, refl))) (λ _.
-    cond-fits r (eqb (getD r 0 0) 0x45 && eqb (getD r 1 0) 0x4E) End Malformed (λ t. (ltb-false (length r) 2 room, eqb-true (getD r 0 0) 0x45 (and-fst (eqb (getD r 0 0) 0x45) (eqb (getD r 1 0) 0x4E) t))) (λ _. tt))))))
-
 -- a record that was read at a place
 module _ (s : List ℕ) (at : ℕ) (r : Read) (read : r ≡ recordAt s at) where
-  pub item-is : r .item ≡ itemIn (drop at s)
-  unfolding recordAt readAs
-  item-is = ap (λ (x : Read). x .item) read
-
-  pub next-is : r .next ≡ at + sizeOf (r .item)
-  unfolding recordAt readAs
-  next-is = ap (λ (x : Read). x .next) read ∙ ap (λ (x : Record). at + sizeOf x) (sym item-is)
-
-  pub fits-at : (i : Record) → r .item ≡ i → Fits (drop at s) i
-  fits-at i e = subst (Fits (drop at s)) (sym item-is ∙ e) (item-fits (drop at s))
-
   -- a group: its count, its kind and its room
   pub group-told : (q : Bool) (count : ℕ) → r .item ≡ Group q count → (r .next ≡ at + 4) × (at + 4 ≤ length s) × (count ≡ countAt s at) × (q ≡ eqb (getD s (at + 1) 0) 0x43)
   unfolding countAt sizeOf
   group-told q count e =
-      let f = fits-at (Group q count) e in
-      let g : r .next ≡ at + 4 = next-is ∙ ap (λ (x : Record). at + sizeOf x) e in
+      let f = fits-at s at r read (Group q count) e in
+      let g : r .next ≡ at + 4 = next-is s at r read ∙ ap (λ (x : Record). at + sizeOf x) e in
       (g, omega (arith, f .0, length-drop at s), f .1 ∙ u16-drop s at 2, f .2 ∙ ap (λ (x : ℕ). eqb x 0x43) (getD-drop at s 1 0))
 
 some : (q : Bool) (count m : ℕ) → m ≡ leastCount q → m ≤ count → 0 < count
@@ -320,31 +279,45 @@ members-free n f low c d (x ∷ xs) e p m = by (λ y h j. members-free n f (suc 
         here (inr j) = rest below (lessMember c) (rw t at e) j
     by below (inr t) = let h : Over ≡ Left d = rw t at e in let z : _≡_ {A = ℕ} 0 1 = cc in absurd (omega arith)
 
+-- and the first of them is not below the lowest that may be
+members-low : (n : ℕ) (f : ℕ → Bool) (low : ℕ) (c d : Counts) (ms : List ℕ) → 0 < length ms → membersRead n f low c ms ≡ Left d → low ≤ headOr 0 ms
+unfolding membersRead
+members-low n f low c d [] h e = absurd (omega arith)
+members-low n f low c d (x ∷ xs) h e = by (decide (leb low x))
+  where
+    by : (leb low x ≡ true) ⊎ (leb low x ≡ false) → low ≤ x
+    by (inl t) = leb-true low x t
+    by (inr t) = let k : Over ≡ Left d = rw t at e in let z : _≡_ {A = ℕ} 0 1 = cc in absurd (omega arith)
+
 -- what a group that was taken tells
-pub record GroupTold (n : ℕ) (f : ℕ → Bool) (s : List ℕ) (at kind first next : ℕ) : Type 0 where
+pub record GroupTold (n : ℕ) (f : ℕ → Bool) (low : ℕ) (s : List ℕ) (at kind first next : ℕ) : Type 0 where
   pub after : next ≡ at + 4 + 2 * countAt s at
   pub leader : first ≡ headOr 0 (listedAt s at)
+  pub from : low ≤ first
   pub listed : member first (listedAt s at) ≡ true
   pub sort : kind ≡ kindMarked (eqb (getD s (at + 1) 0) 0x43) (length (listedAt s at))
   pub free : (p : ℕ) → member p (listedAt s at) ≡ true → (p < n) × (f p ≡ false)
 
 module _ (n : ℕ) (f : ℕ → Bool) (low : ℕ) (c : Counts) (s : List ℕ) (at kind first next : ℕ) (d : Counts) where
-  pub taken-told : groupTaken n f low c s at ≡ Taken kind first next d → GroupTold n f s at kind first next
+  pub taken-told : groupTaken n f low c s at ≡ Taken kind first next d → GroupTold n f low s at kind first next
   unfolding groupTaken
   taken-told e = by-item (itemIn (drop at s)) (item-fits (drop at s)) e
     where
       by-members : (q : Bool) (count : ℕ) (y : Counts) (o : Lessened) → membersRead n f low y (numbersAt s (at + 4) count) ≡ o → 0 < count → count ≡ countAt s at → q ≡ eqb (getD s (at + 1) 0) 0x43
-          → onLess o (λ z. Taken (kindMarked q count) (u16At s (at + 4)) (at + 4 + 2 * count) z) Missing ≡ Taken kind first next d → GroupTold n f s at kind first next
+          → onLess o (λ z. Taken (kindMarked q count) (u16At s (at + 4)) (at + 4 + 2 * count) z) Missing ≡ Taken kind first next d → GroupTold n f low s at kind first next
       by-members q count y (Left z) h some is mark k =
           let i : next ≡ at + 4 + 2 * count = cc in
           let j : first ≡ u16At s (at + 4) = cc in
           let l : kind ≡ kindMarked q count = cc in
           let listed : numbersAt s (at + 4) count ≡ listedAt s at = unfold listedAt in (ap (numbersAt s (at + 4)) is) in
           let size : count ≡ length (listedAt s at) = is ∙ sym (unfold listedAt numbersAt in length-numbers (countAt s at) (drop (at + 4) s)) in
-          let head : first ≡ headOr 0 (listedAt s at) = j ∙ numbers-first s (at + 4) count some ∙ ap (headOr 0) listed in
+          let lead : first ≡ headOr 0 (numbersAt s (at + 4) count) = j ∙ numbers-first s (at + 4) count some in
+          let many : length (numbersAt s (at + 4) count) ≡ count = unfold numbersAt in length-numbers count (drop (at + 4) s) in
+          let head : first ≡ headOr 0 (listedAt s at) = lead ∙ ap (headOr 0) listed in
           record {
             after = i ∙ ap (λ (u : ℕ). at + 4 + 2 * u) is;
             leader = head;
+            from = rw lead (members-low n f low y z (numbersAt s (at + 4) count) (omega arith) h);
             listed = ap (λ (x : ℕ). member x (listedAt s at)) head ∙ head-in (listedAt s at) (omega arith);
             sort = l ∙ ap₂ kindMarked mark size;
             free = λ p m. members-free n f low y z (numbersAt s (at + 4) count) h p (ap (member p) listed ∙ m);
@@ -352,16 +325,16 @@ module _ (n : ℕ) (f : ℕ → Bool) (low : ℕ) (c : Counts) (s : List ℕ) (a
       by-members q count y Over h some is mark k = let z : _≡_ {A = ℕ} 0 1 = cc in absurd (omega arith)
 
       by-count : (q : Bool) (count : ℕ) (o : Lessened) → 0 < count → count ≡ countAt s at → q ≡ eqb (getD s (at + 1) 0) 0x43
-          → onLess o (λ y. onLess (membersRead n f low y (numbersAt s (at + 4) count)) (λ z. Taken (kindMarked q count) (u16At s (at + 4)) (at + 4 + 2 * count) z) Missing) Missing ≡ Taken kind first next d → GroupTold n f s at kind first next
+          → onLess o (λ y. onLess (membersRead n f low y (numbersAt s (at + 4) count)) (λ z. Taken (kindMarked q count) (u16At s (at + 4)) (at + 4 + 2 * count) z) Missing) Missing ≡ Taken kind first next d → GroupTold n f low s at kind first next
       by-count q count (Left y) some is mark k = by-members q count y (membersRead n f low y (numbersAt s (at + 4) count)) refl some is mark k
       by-count q count Over some is mark k = let z : _≡_ {A = ℕ} 0 1 = cc in absurd (omega arith)
 
       by-room : (q : Bool) (count : ℕ) (b : Bool) → (leb (leastCount q) count && leb (at + 4 + 2 * count) (length s)) ≡ b → count ≡ countAt s at → q ≡ eqb (getD s (at + 1) 0) 0x43
-          → groupBy n f low c s at (Group q count) ≡ Taken kind first next d → GroupTold n f s at kind first next
+          → groupBy n f low c s at (Group q count) ≡ Taken kind first next d → GroupTold n f low s at kind first next
       by-room q count true t is mark k = by-count q count (lessGroup c) (some q count (leastCount q) refl (leb-true (leastCount q) count (and-fst (leb (leastCount q) count) (leb (at + 4 + 2 * count) (length s)) t))) is mark (rw t at k)
       by-room q count false t is mark k = let h : Missing ≡ Taken kind first next d = rw t at k in let z : _≡_ {A = ℕ} 0 1 = cc in absurd (omega arith)
 
-      by-item : (i : Record) → Fits (drop at s) i → groupBy n f low c s at i ≡ Taken kind first next d → GroupTold n f s at kind first next
+      by-item : (i : Record) → Fits (drop at s) i → groupBy n f low c s at i ≡ Taken kind first next d → GroupTold n f low s at kind first next
       by-item (Group q count) x k = by-room q count (leb (leastCount q) count && leb (at + 4 + 2 * count) (length s)) refl (unfold countAt in (x .1 ∙ u16-drop s at 2)) (x .2 ∙ ap (λ (y : ℕ). eqb y 0x43) (getD-drop at s 1 0)) k
       by-item (Head x y z) g k = let z : _≡_ {A = ℕ} 0 1 = cc in absurd (omega arith)
       by-item (Superedge x y) g k = let z : _≡_ {A = ℕ} 0 1 = cc in absurd (omega arith)
@@ -495,7 +468,8 @@ module _ (n g : ℕ) (c : Counts) (s : List ℕ) (from : ℕ) where
         kind = λ p h. ap₂ (λ (b : Bool) (x : ℕ). cond b (getD kinds p 0) (kindLed (groupsFrom s from x) p)) (leads-not least p (λ f. omega (arith, none p h))) e;
         others = λ p h _. ap (λ (t : List ℕ). getD t p 0) k ∙ getD-replicate {A = ℕ} maxNodes p single 0 h;
         led = λ t h. absurd (omega arith);
-        placed = λ t h. absurd (omega arith);
+        ascend = record { small = λ t h. absurd (omega arith); order = λ t u a b. absurd (omega arith) };
+        passed = λ t h. absurd (omega arith);
         shifted = λ t. let f : 0 + t ≡ t = omega arith in rw (e, f);
         rest = rw e;
       }
@@ -515,7 +489,7 @@ module _ (n g : ℕ) (c : Counts) (s : List ℕ) (from : ℕ) where
     groups-broken e = sym (read-missing n (g - (i + 1)) (taken least) low left s at (sym (got .result) ∙ e)) ∙ (rw one-more at (before .result))
 
     module _ (small : n ≤ maxNodes) (kind first next : ℕ) (d : Counts) (is : r ≡ Taken kind first next d) where
-      told : GroupTold n (taken least) s at kind first next
+      told : GroupTold n (taken least) low s at kind first next
       told = taken-told n (taken least) low left s at kind first next d (sym (got .result) ∙ is)
 
       put : LeastPut (listedAt s at) first least least′
@@ -603,7 +577,8 @@ module _ (n g : ℕ) (c : Counts) (s : List ℕ) (from : ℕ) where
         kind = λ p h. kind-step p (kindLed others p) h ∙ sym (ap (λ (l : List (Bool × List ℕ)). cond (leads least p) (getD kinds p 0) (kindLed l p)) cons ∙ (unfold kindLed in refl)) ∙ before .kind p h;
         others = λ p h f. unled p h f (decide (eqb p first));
         led = λ k h. led k h (decide (eqb k i));
-        placed = λ k h. placed k h (decide (eqb k i));
+        ascend = record { small = λ k h. inside k h (decide (eqb k i)); order = λ k l a b. order k l a b (decide (eqb l i)) };
+        passed = λ k h. passed k h (decide (eqb k i));
         shifted = λ k. let e : i + 1 + k ≡ i + suc k = omega arith in rw e (before .shifted (suc k) ∙ ap (λ (l : List (Bool × List ℕ)). firstAt l (suc k)) cons ∙ at-suc (eqb (getD s (at + 1) 0) 0x43, listedAt s at) others k);
         rest = sym (after-step s at (g - (i + 1)) next (told .after)) ∙ (rw one-more at (before .rest));
       }
@@ -619,15 +594,25 @@ module _ (n g : ℕ) (c : Counts) (s : List ℕ) (from : ℕ) where
           led k h (inl e) = rw (eqb-true k i e, getD-set-same firsts i first 0 fits) (sym first-here)
           led k h (inr e) = getD-set-other firsts i k first 0 (eqb-false k i e) ∙ before .led k (omega (arith, eqb-false k i e))
 
-          placed : (k : ℕ) → k < i + 1 → (eqb k i ≡ true) ⊎ (eqb k i ≡ false) → getD (set firsts i first) k 0 < maxNodes
-          placed k h (inl e) = rw (eqb-true k i e, getD-set-same firsts i first 0 fits) first-small
-          placed k h (inr e) = rw (getD-set-other firsts i k first 0 (eqb-false k i e)) (before .placed k (omega (arith, eqb-false k i e)))
+          inside : (k : ℕ) → k < i + 1 → (eqb k i ≡ true) ⊎ (eqb k i ≡ false) → getD (set firsts i first) k 0 < n
+          inside k h (inl e) = rw (eqb-true k i e, getD-set-same firsts i first 0 fits) (told .free first (told .listed) .0)
+          inside k h (inr e) = rw (getD-set-other firsts i k first 0 (eqb-false k i e)) (before .ascend .small k (omega (arith, eqb-false k i e)))
+
+          order : (k l : ℕ) → k < l → l < i + 1 → (eqb l i ≡ true) ⊎ (eqb l i ≡ false) → getD (set firsts i first) k 0 < getD (set firsts i first) l 0
+          order k l a b (inl e) =
+              let h : l ≡ i = eqb-true l i e in
+              rw (h, getD-set-same firsts i first 0 fits, getD-set-other firsts i k first 0 (λ d. omega arith)) (omega (arith, before .passed k (omega arith), told .from))
+          order k l a b (inr e) = rw (getD-set-other firsts i k first 0 (λ d. omega arith), getD-set-other firsts i l first 0 (eqb-false l i e)) (before .ascend .order k l a (omega (arith, eqb-false l i e)))
+
+          passed : (k : ℕ) → k < i + 1 → (eqb k i ≡ true) ⊎ (eqb k i ≡ false) → getD (set firsts i first) k 0 < first + 1
+          passed k h (inl e) = rw (eqb-true k i e, getD-set-same firsts i first 0 fits) (omega arith)
+          passed k h (inr e) = rw (getD-set-other firsts i k first 0 (eqb-false k i e)) (omega (arith, before .passed k (omega (arith, eqb-false k i e)), told .from))
 
   -- what the function hands back: all groups, or none
   pub groups-none : (least firsts₀ firsts kinds : List ℕ) → length least ≡ maxNodes → length kinds ≡ maxNodes → length firsts ≡ length firsts₀ → Broken ≡ groupsRead n g (λ p. false) 0 c s from → GroupsRead n g c s from least firsts₀ firsts kinds Broken
   groups-none least firsts₀ firsts kinds a b h e = record { result = e; nodes = a; groups = b; size = h; held = λ next left f. none f }
     where
-      none : {next : ℕ} {left : Counts} → Broken ≡ Whole next left → GroupsHeld g s from next least firsts kinds
+      none : {next : ℕ} {left : Counts} → Broken ≡ Whole next left → GroupsHeld n g s from next least firsts kinds
       none f = let z : _≡_ {A = ℕ} 0 1 = cc in absurd (omega arith)
 
   pub groups-all : (i low : ℕ) (left : Counts) (at : ℕ) (least firsts₀ firsts kinds : List ℕ) → i ≡ g → length firsts ≡ length firsts₀ → GroupsLeft n g c s from i low left at least firsts kinds → GroupsRead n g c s from least firsts₀ firsts kinds (Whole at left)
@@ -643,7 +628,7 @@ module _ (n g : ℕ) (c : Counts) (s : List ℕ) (from : ℕ) where
           first = λ p h. sym (taken-or least p) ∙ sym (ap (λ (y : List (Bool × List ℕ)). cond (taken least p) (getD least p 0) (firstMemberOf y p)) ended ∙ (unfold firstMemberOf in refl)) ∙ x .first p h;
           kind = λ p h. sym (unmarked p h (decide (leads least p))) ∙ sym (ap (λ (y : List (Bool × List ℕ)). cond (leads least p) (getD kinds p 0) (kindLed y p)) ended ∙ (unfold kindLed in refl)) ∙ x .kind p h;
           led = λ k h. x .led k (omega arith);
-          placed = λ k h. x .placed k (omega arith);
+          ascend = record { small = λ k h. x .ascend .small k (omega arith); order = λ k m a b. x .ascend .order k m a (omega arith) };
           rest = ap (λ (y : ℕ). drop y s) f ∙ sym (after (g - i) none) ∙ x .rest;
         };
   }

@@ -1,6 +1,9 @@
 pub mod Decoding
 pub mod GroupLaws
+pub mod AddedLaws
 pub mod SuperedgeLaws
+pub mod MirrorLaws
+pub mod SummedLaws
 pub mod DecodingLaws
 pub mod Bytes
 pub mod BytesLaws

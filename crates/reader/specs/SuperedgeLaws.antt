@@ -15,44 +15,49 @@ use Rattle.records.specs.declared.Counts.{Counts}
 use Rattle.records.specs.declared.Record.{Record}
 use Rattle.records.specs.declared.Record.the-variants.{Head, Group, Superedge, End, Malformed}
 use Rattle.records.specs.declared.Read.{Read}
-use Rattle.records.specs.Records.{itemIn, recordAt, sizeOf, spent}
-use Rattle.drawing.specs.Drawing.{Added, onePair}
+use Rattle.records.specs.Records.{itemIn, recordAt, sizeOf, spent, superedgeFrom}
+use Rattle.records.specs.RecordLaws.{Fits, fits-at, from-is, from-not, item-fits, item-is, next-is}
+use Rattle.drawing.specs.Drawing.{Added, pairBits}
 use Rattle.drawing.specs.DrawingLaws.{adding-done, adding-start, adding-step}
-use Rattle.reader.specs.GroupLaws.{Fits, fits-at, item-fits, item-is, next-is}
-use Rattle.reader.specs.Decoding.{RunLeft, RunRead, RunsLeft, RunsPassed, SuperedgesRead, drawnBy, endsAt, inRun, onSuperedge, pairsTo, runPairs, runStop, stopAt}
+use Rattle.sums.specs.Joined.{SumsAdded}
+use Rattle.sums.specs.JoinedLaws.{cubes-start}
+use Rattle.reader.specs.AddedLaws.{all-added, one-added, some-added}
+use Rattle.reader.specs.Decoding.{RunLeft, RunRead, RunsLeft, RunsPassed, SuperedgesRead, addedBy, drawnBy, endsAt, inRun, onSuperedge, pairAdds, pairsTo, runPairs, runStop, stopAt}
 
--- a record that was read at a place
-module _ (s : List ℕ) (at : ℕ) (r : Read) (read : r ≡ recordAt s at) where
-  -- a superedge has six bytes
-  pub superedge-next : (i j : ℕ) → r .item ≡ Superedge i j → r .next ≡ at + 6
+-- a superedge has six bytes
+module _ (s : List ℕ) (at i : ℕ) (r : Read) (read : r ≡ superedgeFrom i s at) (a j : ℕ) (item : r .item ≡ Superedge a j) where
+  read-here : r ≡ recordAt s at
+  read-here = from-is s at i r read a j item .0
+
+  pub superedge-next : r .next ≡ at + 6
   unfolding sizeOf
-  superedge-next i j e = next-is s at r read ∙ ap (λ (x : Record). at + sizeOf x) e
+  superedge-next = next-is s at r read-here ∙ ap (λ (x : Record). at + sizeOf x) item
 
-  pub superedge-room : (i j : ℕ) → r .item ≡ Superedge i j → at + 6 ≤ length s
-  superedge-room i j e = let f = fits-at s at r read (Superedge i j) e in omega (arith, f .0, length-drop at s)
+  pub superedge-room : at + 6 ≤ length s
+  superedge-room = let f = fits-at s at r read-here (Superedge a j) item in omega (arith, f .0, length-drop at s)
 
-  -- the end record, judged by the record just read
-  module _ (c : Counts) where
-    pub ends-other : (r .item ≡ End → ⊥) → false ≡ endsAt c s at
-    ends-other h = by-kind (r .item) refl
-      where
-        by-kind : (i : Record) → r .item ≡ i → false ≡ endsAt c s at
-        by-kind (Superedge i j) e = unfold endsAt in rw (← item-is s at r read, e)
-        by-kind End e = absurd (h e)
-        by-kind (Head x y z) e = unfold endsAt in rw (← item-is s at r read, e)
-        by-kind (Group x y) e = unfold endsAt in rw (← item-is s at r read, e)
-        by-kind Malformed e = unfold endsAt in rw (← item-is s at r read, e)
+-- the end record, judged by the record just read
+module _ (s : List ℕ) (at : ℕ) (r : Read) (read : r ≡ recordAt s at) (c : Counts) where
+  pub ends-other : (r .item ≡ End → ⊥) → false ≡ endsAt c s at
+  ends-other h = by-kind (r .item) refl
+    where
+      by-kind : (i : Record) → r .item ≡ i → false ≡ endsAt c s at
+      by-kind (Superedge i j) e = unfold endsAt in rw (← item-is s at r read, e)
+      by-kind End e = absurd (h e)
+      by-kind (Head x y z) e = unfold endsAt in rw (← item-is s at r read, e)
+      by-kind (Group x y) e = unfold endsAt in rw (← item-is s at r read, e)
+      by-kind Malformed e = unfold endsAt in rw (← item-is s at r read, e)
 
-    module _ (end : r .item ≡ End) where
-      pub ends-unspent : false ≡ spent c → false ≡ endsAt c s at
-      unfolding endsAt
-      ends-unspent e = rw (← item-is s at r read, end, ← e)
+  module _ (end : r .item ≡ End) where
+    pub ends-unspent : false ≡ spent c → false ≡ endsAt c s at
+    unfolding endsAt
+    ends-unspent e = rw (← item-is s at r read, end, ← e)
 
-      pub ends-spent : true ≡ spent c → eqb (r .next) (length s) ≡ endsAt c s at
-      unfolding endsAt
-      ends-spent e =
-          let two : r .next ≡ at + 2 = unfold sizeOf in (next-is s at r read ∙ ap (λ (x : Record). at + sizeOf x) end) in
-          rw (← item-is s at r read, end, ← e, two)
+    pub ends-spent : true ≡ spent c → eqb (r .next) (length s) ≡ endsAt c s at
+    unfolding endsAt
+    ends-spent e =
+        let two : r .next ≡ at + 2 = unfold sizeOf in (next-is s at r read ∙ ap (λ (x : Record). at + sizeOf x) end) in
+        rw (← item-is s at r read, end, ← e, two)
 
 -- the record at a place
 module _ (s : List ℕ) (at : ℕ) where
@@ -83,7 +88,7 @@ on-none (Group q count) t f x h = refl
 on-none Malformed t f x h = refl
 
 -- which superedges a run takes
-pub other-first : (g i last a j : ℕ) → (a ≡ i → ⊥) → inRun g i last a j ≡ false
+other-first : (g i last a j : ℕ) → (a ≡ i → ⊥) → inRun g i last a j ≡ false
 unfolding inRun
 other-first g i last a j h = rw (ne-eqb a i h)
 
@@ -104,7 +109,7 @@ no-position g i last a j h = step (decide (eqb a i)) (decide (ltb last j))
     step (inl t) (inr u) = rw (t, u)
     step (inr t) u = rw t
 
-pub in-run : (g i last a j : ℕ) → a ≡ i → last < j → j < g → inRun g i last a j ≡ true
+in-run : (g i last a j : ℕ) → a ≡ i → last < j → j < g → inRun g i last a j ≡ true
 unfolding inRun
 in-run g i last a j e l h = rw (eq-eqb a i e, lt-ltb last j l, lt-ltb j g h)
 
@@ -141,55 +146,66 @@ module _ (g i : ℕ) (s : List ℕ) (last at : ℕ) where
     run-pair = rw (here, taken)
 
 -- the loop over the records of a run
-pub run-start : (g i : ℕ) (s : List ℕ) (from : ℕ) (firsts joined : List ℕ) → RunLeft g i s from firsts joined joined i from
-run-start g i s from firsts joined = record {
+pub run-start : (g i : ℕ) (few : Bool) (s : List ℕ) (from : ℕ) (firsts joined sums : List ℕ) → RunLeft g i few s from firsts joined joined sums sums i from
+run-start g i few s from firsts joined sums = record {
   most = length s;
   enough = omega arith;
   place = refl;
-  drawn = adding-start (drawnBy firsts (runPairs g i s i (length s) from)) (drawnBy firsts (runPairs g i s i (length s) from)) joined (λ a b. refl);
+  drawn = adding-start (drawnBy few firsts (runPairs g i s i (length s) from)) (drawnBy few firsts (runPairs g i s i (length s) from)) joined (λ a b. refl);
+  summed = cubes-start (addedBy few firsts sums (runPairs g i s i (length s) from)) sums;
 }
 
-module _ (g i : ℕ) (s : List ℕ) (from : ℕ) (firsts joined₀ joined : List ℕ) (last at : ℕ) (left : RunLeft g i s from firsts joined₀ joined last at) where
-  run-ends : NotHere g i s last at → RunRead g i s from firsts joined₀ joined at
+module _ (g i : ℕ) (few : Bool) (s : List ℕ) (from : ℕ) (firsts joined₀ joined sums₀ sums : List ℕ) (last at : ℕ) (left : RunLeft g i few s from firsts joined₀ joined sums₀ sums last at) where
+  run-ends : NotHere g i s last at → RunRead g i few s from firsts joined₀ joined sums₀ sums at
   run-ends h = record {
     place = sym (run-stops g i s last at (left .most) h) ∙ left .place;
-    drawn = adding-done (left .drawn) (λ a b. ap (λ (l : List (ℕ × ℕ)). drawnBy firsts l a b) (run-empty g i s last at (left .most) h) ∙ (unfold drawnBy in refl));
+    drawn = adding-done (left .drawn) (λ a b. ap (λ (l : List (ℕ × ℕ)). drawnBy few firsts l a b) (run-empty g i s last at (left .most) h) ∙ (unfold drawnBy in refl));
+    summed = all-added few firsts (left .summed) (run-empty g i s last at (left .most) h);
   }
 
-  module _ (r : Read) (read : r ≡ recordAt s at) where
-    pub run-other : ((a j : ℕ) → r .item ≡ Superedge a j → ⊥) → RunRead g i s from firsts joined₀ joined at
-    run-other h = run-ends (λ a j e. absurd (h a j (item-is s at r read ∙ e)))
+  module _ (r : Read) (read : r ≡ superedgeFrom i s at) where
+    pub run-other : ((a j : ℕ) → r .item ≡ Superedge a j → ⊥) → RunRead g i few s from firsts joined₀ joined sums₀ sums at
+    run-other h = run-ends (λ a j e. by a j e (decide (eqb a i)))
+      where
+        by : (a j : ℕ) → itemIn (drop at s) ≡ Superedge a j → (eqb a i ≡ true) ⊎ (eqb a i ≡ false) → inRun g i last a j ≡ false
+        by a j e (inl t) = absurd (from-not s at i r read h j (e ∙ ap (λ (x : ℕ). Superedge x j) (eqb-true a i t)))
+        by a j e (inr t) = other-first g i last a j (eqb-false a i t)
 
     module _ (a j : ℕ) (item : r .item ≡ Superedge a j) where
       here : itemIn (drop at s) ≡ Superedge a j
-      here = sym (item-is s at r read) ∙ item
+      here = sym (item-is s at r (read-here s at i r read a j item)) ∙ item
 
-      pub run-over : inRun g i last a j ≡ false → RunRead g i s from firsts joined₀ joined at
+      pub run-over : inRun g i last a j ≡ false → RunRead g i few s from firsts joined₀ joined sums₀ sums at
       run-over h = run-ends (λ b k e. one b k (sym here ∙ e))
         where
           one : (b k : ℕ) → Superedge a j ≡ Superedge b k → inRun g i last b k ≡ false
           one b k e = let x : a ≡ b = cc in let y : j ≡ k = cc in rw (← x, ← y) h
 
-      pub run-more : (joined′ : List ℕ) (p q : ℕ) → inRun g i last a j ≡ true → p ≡ getD firsts i 0 → q ≡ getD firsts j 0 → Added (onePair p q) joined joined′ → RunLeft g i s from firsts joined₀ joined′ j (r .next)
-      run-more joined′ p q t ep eq x = record {
+      pub run-more : (joined′ sums′ : List ℕ) (p q : ℕ) → last < j → j < g → p ≡ getD firsts i 0 → q ≡ getD firsts j 0
+          → Added (pairBits few p q) joined joined′ → SumsAdded (pairAdds few sums p q) sums sums′ → RunLeft g i few s from firsts joined₀ joined′ sums₀ sums′ j (r .next)
+      run-more joined′ sums′ p q l h ep eq x y = record {
         most = left .most - 1;
-        enough = omega (arith, left .enough, superedge-next s at r read a j item);
-        place = ap (runStop g i s j (left .most - 1)) (superedge-next s at r read a j item) ∙ sym (run-goes g i s last at (left .most - 1) a j here t) ∙ ap (λ (k : ℕ). runStop g i s last k at) (sym most-is) ∙ left .place;
-        drawn = adding-step (left .drawn) x (λ b c. ap (λ (l : List (ℕ × ℕ)). drawnBy firsts l b c) pairs ∙ (unfold drawnBy in rw (ep, eq)));
+        enough = omega (arith, left .enough, superedge-next s at i r read a j item);
+        place = ap (runStop g i s j (left .most - 1)) (superedge-next s at i r read a j item) ∙ sym (run-goes g i s last at (left .most - 1) a j here t) ∙ ap (λ (k : ℕ). runStop g i s last k at) (sym most-is) ∙ left .place;
+        drawn = adding-step (left .drawn) x (λ b c. ap (λ (l : List (ℕ × ℕ)). drawnBy few firsts l b c) pairs ∙ (unfold drawnBy in rw (ep, eq)));
+        summed = one-added few firsts (left .summed) i j (runPairs g i s j (left .most - 1) (r .next)) p q pairs ep eq y;
       }
         where
+          t : inRun g i last a j ≡ true
+          t = in-run g i last a j (from-is s at i r read a j item .1) l h
+
           most-is : left .most ≡ suc (left .most - 1)
-          most-is = omega (arith, left .enough, superedge-room s at r read a j item)
+          most-is = omega (arith, left .enough, superedge-room s at i r read a j item)
 
           pairs : runPairs g i s last (left .most) at ≡ (i, j) ∷ runPairs g i s j (left .most - 1) (r .next)
-          pairs = ap (λ (k : ℕ). runPairs g i s last k at) most-is ∙ run-pair g i s last at (left .most - 1) a j here t ∙ ap (λ (z : ℕ). (i, j) ∷ runPairs g i s j (left .most - 1) z) (sym (superedge-next s at r read a j item))
+          pairs = ap (λ (k : ℕ). runPairs g i s last k at) most-is ∙ run-pair g i s last at (left .most - 1) a j here t ∙ ap (λ (z : ℕ). (i, j) ∷ runPairs g i s j (left .most - 1) z) (sym (superedge-next s at i r read a j item))
 
 -- which superedges stand in order
-ordered-first : (g last i j : ℕ) → follows g last i j ≡ true → i < j
+pub ordered-first : (g last i j : ℕ) → follows g last i j ≡ true → i < j
 unfolding follows
 ordered-first g last i j t = ltb-true i j (and-fst (ltb i j) (ltb j g && ltb last (pairKey i j)) t)
 
-ordered-second : (g last i j : ℕ) → follows g last i j ≡ true → j < g
+pub ordered-second : (g last i j : ℕ) → follows g last i j ≡ true → j < g
 unfolding follows
 ordered-second g last i j t = ltb-true j g (and-fst (ltb j g) (ltb last (pairKey i j)) (and-snd (ltb i j) (ltb j g && ltb last (pairKey i j)) t))
 
@@ -201,7 +217,7 @@ in-order : (g last i j : ℕ) → i < j → j < g → last < i * u16Limit + j �
 unfolding follows pairKey
 in-order g last i j a b c = rw (lt-ltb i j a, lt-ltb j g b, lt-ltb last (i * u16Limit + j) c)
 
-refuted : (b : Bool) → (b ≡ true → ⊥) → b ≡ false
+pub refuted : (b : Bool) → (b ≡ true → ⊥) → b ≡ false
 refuted true h = absurd (h refl)
 refuted false h = refl
 
@@ -331,46 +347,50 @@ module _ (g i : ℕ) (s : List ℕ) (few : g ≤ u16Limit) where
   walked (suc kr) = one kr (walked kr)
 
 -- superedges in two parts
-drawn-append : (firsts : List ℕ) (xs ys : List (ℕ × ℕ)) (a b : ℕ) → drawnBy firsts (xs ++ ys) a b ≡ (drawnBy firsts xs a b || drawnBy firsts ys a b)
+drawn-append : (both : Bool) (firsts : List ℕ) (xs ys : List (ℕ × ℕ)) (a b : ℕ) → drawnBy both firsts (xs ++ ys) a b ≡ (drawnBy both firsts xs a b || drawnBy both firsts ys a b)
 unfolding drawnBy
-drawn-append firsts [] ys a b = refl
-drawn-append firsts (x ∷ xs) ys a b = after (onePair (getD firsts (x .0) 0) (getD firsts (x .1) 0) a b) (drawnBy firsts (xs ++ ys) a b) (drawnBy firsts xs a b) (drawnBy firsts ys a b) (drawn-append firsts xs ys a b)
+drawn-append both firsts [] ys a b = refl
+drawn-append both firsts (x ∷ xs) ys a b = after (pairBits both (getD firsts (x .0) 0) (getD firsts (x .1) 0) a b) (drawnBy both firsts (xs ++ ys) a b) (drawnBy both firsts xs a b) (drawnBy both firsts ys a b) (drawn-append both firsts xs ys a b)
   where
     after : (u v w z : Bool) → v ≡ (w || z) → (u || v) ≡ ((u || w) || z)
     after true v w z e = refl
     after false v w z e = e
 
 -- the loop over the runs
-pub runs-start : (g : ℕ) (s : List ℕ) (from : ℕ) (firsts joined : List ℕ) → RunsLeft g s from firsts joined joined 0 from
-runs-start g s from firsts joined = record {
+pub runs-start : (g : ℕ) (few : Bool) (s : List ℕ) (from : ℕ) (firsts joined sums : List ℕ) → RunsLeft g few s from firsts joined joined sums sums 0 from
+runs-start g few s from firsts joined sums = record {
   most = length s;
   last = 0;
   enough = omega arith;
   low = omega arith;
   passed = λ a j e l. absurd (omega arith);
   place = refl;
-  drawn = adding-start (drawnBy firsts (pairsTo g s 0 (length s) from)) (drawnBy firsts (pairsTo g s 0 (length s) from)) joined (λ a b. refl);
+  drawn = adding-start (drawnBy few firsts (pairsTo g s 0 (length s) from)) (drawnBy few firsts (pairsTo g s 0 (length s) from)) joined (λ a b. refl);
+  summed = cubes-start (addedBy few firsts sums (pairsTo g s 0 (length s) from)) sums;
 }
 
-module _ (g : ℕ) (s : List ℕ) (from : ℕ) (firsts joined₀ joined : List ℕ) (i at : ℕ) (left : RunsLeft g s from firsts joined₀ joined i at) where
-  pub runs-step : (joined′ : List ℕ) (r : ℕ) → g ≤ u16Limit → RunRead g i s at firsts joined joined′ r → RunsLeft g s from firsts joined₀ joined′ (i + 1) r
-  runs-step joined′ r few x = record {
+module _ (g : ℕ) (few : Bool) (s : List ℕ) (from : ℕ) (firsts joined₀ joined sums₀ sums : List ℕ) (i at : ℕ) (left : RunsLeft g few s from firsts joined₀ joined sums₀ sums i at) where
+  pub runs-step : (joined′ sums′ : List ℕ) (r : ℕ) → g ≤ u16Limit → RunRead g i few s at firsts joined joined′ sums sums′ r
+      → RunsLeft g few s from firsts joined₀ joined′ sums₀ sums′ (i + 1) r
+  runs-step joined′ sums′ r small x = record {
     most = after .most;
     last = after .final;
     enough = rw (x .place) (after .enough);
     low = let l = after .low in omega arith;
     passed = rw (x .place) (λ a j e l. after .passed a j e (omega arith));
     place = ap (stopAt g s (after .final) (after .most)) (x .place) ∙ after .place ∙ left .place;
-    drawn = adding-step (left .drawn) (x .drawn) (λ a b. ap (λ (l : List (ℕ × ℕ)). drawnBy firsts l a b) (after .pairs) ∙ drawn-append firsts (runPairs g i s i (length s) at) (pairsTo g s (after .final) (after .most) (runStop g i s i (length s) at)) a b ∙ rw (← x .place) refl);
+    drawn = adding-step (left .drawn) (x .drawn) (λ a b. ap (λ (l : List (ℕ × ℕ)). drawnBy few firsts l a b) (after .pairs) ∙ drawn-append few firsts (runPairs g i s i (length s) at) (pairsTo g s (after .final) (after .most) (runStop g i s i (length s) at)) a b ∙ rw (← x .place) refl);
+    summed = some-added few firsts (left .summed) (runPairs g i s i (length s) at) (pairsTo g s (after .final) (after .most) r) (rw (x .place) (after .pairs)) (x .summed);
   }
     where
-      after : AfterRun g i s few (left .most) (left .last) i (length s) at
-      after = walked g i s few (length s) (left .most) (left .last) i at (left .enough) (omega arith) (agree-first g i s few (left .last) (left .low)) (left .passed)
+      after : AfterRun g i s small (left .most) (left .last) i (length s) at
+      after = walked g i s small (length s) (left .most) (left .last) i at (left .enough) (omega arith) (agree-first g i s small (left .last) (left .low)) (left .passed)
 
-  pub runs-end : g ≤ i → SuperedgesRead g s from firsts joined₀ joined at
+  pub runs-end : g ≤ i → SuperedgesRead g few s from firsts joined₀ joined sums₀ sums at
   runs-end l = record {
     place = sym (stops g s (left .last) at (left .most) none) ∙ left .place;
-    drawn = adding-done (left .drawn) (λ a b. ap (λ (x : List (ℕ × ℕ)). drawnBy firsts x a b) (stops-empty g s (left .last) at (left .most) none) ∙ (unfold drawnBy in refl));
+    drawn = adding-done (left .drawn) (λ a b. ap (λ (x : List (ℕ × ℕ)). drawnBy few firsts x a b) (stops-empty g s (left .last) at (left .most) none) ∙ (unfold drawnBy in refl));
+    summed = all-added few firsts (left .summed) (stops-empty g s (left .last) at (left .most) none);
   }
     where
       none : NoneHere g s (left .last) at

@@ -5,8 +5,12 @@ ghost use lib.ListN.{length, replicate};
 ghost use Rattle.model.specs.Graph.{maxNodes, rowWords};
 ghost use Rattle.rows.specs.Rows.{noNode};
 ghost use Rattle.compressed.specs.Compressed.{kindMarked, single};
+ghost use Rattle.drawing.specs.Drawing.{Added, pairBits};
+ghost use Rattle.mirroring.specs.Mirroring.{BlocksFor};
 ghost use Rattle.records.specs.Records.{recordAt};
-ghost use Rattle.reader.specs.Decoding.{AfterHead, Blank, BodyRead, Decodes, FirstsPlaced, GroupTaken, GroupsRead, MembersRead, RunRead, SuperedgesRead, countsFit, endsAt, leastCount, numbersAt};
+ghost use Rattle.sums.specs.Joined.{SumsAdded};
+ghost use Rattle.sums.specs.Sums.{FirstsAreNodes};
+ghost use Rattle.reader.specs.Decoding.{AfterHead, Blank, BodyRead, Decodes, FirstsAscend, FirstsPlaced, GroupTaken, GroupsRead, JoinedRead, MembersRead, RunRead, SumsKept, SuperedgesRead, countsFit, endsAt, isFew, leastCount, nodesIn, numbersAt, pairAdds};
 use compressed::CLIQUE;
 use compressed::INDEPENDENT;
 use compressed::SINGLE;
@@ -167,30 +171,41 @@ fn read_groups(
     Groups::Whole { next: at, left }
 }
 
+// The superedge between p and q: one bit, or both and the cubes of each added to the other's sum.
+fn join(joined: &mut [u64], sums: &mut [u32], p: usize, q: usize, few: bool)
+    requires { ⌜ (p < maxNodes) × (q < maxNodes) × (rowWords * p + rowWords ≤ length (now joined)) × (rowWords * q + rowWords ≤ length (now joined)) × (length (now sums) ≡ 2 * maxNodes) ⌝ }
+    ensures { λ _. ⌜ Added (pairBits few p q) (now (joined .entry)) (now (joined .exit)) ⌝ }
+    ensures { λ _. ⌜ SumsAdded (pairAdds few (now (sums .entry)) p q) (now (sums .entry)) (now (sums .exit)) ⌝ }
+{
+    drawing::join(joined, p, q, few);
+    if few {
+        sums::add_pair(sums, p, q);
+    }
+}
+
 // The superedges from a place on that go from group i to groups after it, ascending. The place after them.
 fn read_run(
     file: &[u8],
     from: usize,
     g: usize,
     i: usize,
+    few: bool,
     firsts: &[u16],
     joined: &mut [u64],
+    sums: &mut [u32],
 ) -> usize
-    requires { ⌜ FirstsPlaced g (now firsts) × (i < g) × (length (now joined) ≡ rowWords * maxNodes) ⌝ }
-    ensures { λ r. ⌜ RunRead g i (now (file .entry)) from (now (firsts .entry)) (now (joined .entry)) (now (joined .exit)) r ⌝ }
+    requires { ⌜ FirstsPlaced g (length (now joined)) (now firsts) × (i < g) × (length (now sums) ≡ 2 * maxNodes) ⌝ }
+    ensures { λ r. ⌜ RunRead g i few (now (file .entry)) from (now (firsts .entry)) (now (joined .entry)) (now (joined .exit)) (now (sums .entry)) (now (sums .exit)) r ⌝ }
 {
     let p = rows::wide(firsts[i]);
     let mut at = from;
     let mut last = i;
     loop {
-        let read = records::record_at(file, at);
+        let read = records::superedge_from(file, at, i);
         let item = read.item;
-        let Record::Superedge { first, second } = item else {
+        let Record::Superedge { second, .. } = item else {
             return at;
         };
-        if first as usize != i {
-            return at;
-        }
         let j = second as usize;
         if j <= last {
             return at;
@@ -198,21 +213,61 @@ fn read_run(
         if j >= g {
             return at;
         }
-        drawing::set_pair(joined, p, rows::wide(firsts[j]));
+        join(joined, sums, p, rows::wide(firsts[j]), few);
         last = j;
         at = read.next;
     }
 }
 
 // The superedges of a file, run by run. The first place without one in order.
-fn read_superedges(file: &[u8], from: usize, g: usize, firsts: &[u16], joined: &mut [u64]) -> usize
-    requires { ⌜ FirstsPlaced g (now firsts) × (length (now joined) ≡ rowWords * maxNodes) ⌝ }
-    ensures { λ r. ⌜ SuperedgesRead g (now (file .entry)) from (now (firsts .entry)) (now (joined .entry)) (now (joined .exit)) r ⌝ }
+fn read_superedges(
+    file: &[u8],
+    from: usize,
+    g: usize,
+    few: bool,
+    firsts: &[u16],
+    joined: &mut [u64],
+    sums: &mut [u32],
+) -> usize
+    requires { ⌜ FirstsPlaced g (length (now joined)) (now firsts) × (length (now sums) ≡ 2 * maxNodes) ⌝ }
+    ensures { λ r. ⌜ SuperedgesRead g few (now (file .entry)) from (now (firsts .entry)) (now (joined .entry)) (now (joined .exit)) (now (sums .entry)) (now (sums .exit)) r ⌝ }
 {
     let mut at = from;
     for i in 0..g {
-        at = read_run(file, at, g, i, firsts, joined);
+        at = read_run(file, at, g, i, few, firsts, joined, sums);
     }
+    at
+}
+
+// Whether a file of so many bytes with n nodes has few superedges: at most about four for each word of each row.
+pub fn are_few(bytes: usize, n: usize) -> bool
+    requires { ⌜ n ≤ maxNodes ⌝ }
+    ensures { λ r. ⌜ r ≡ isFew bytes n ⌝ }
+{
+    bytes <= 384 + (6 + 24 * rows::word_of(n + 63)) * n
+}
+
+// The superedges of a file, both ways; the sums of groups if they are few. The first place without one in order.
+fn read_joined(
+    file: &[u8],
+    from: usize,
+    n: usize,
+    g: usize,
+    least: &[u16],
+    firsts: &[u16],
+    joined: &mut [u64],
+    sums: &mut [u32],
+) -> usize
+    requires { ⌜ FirstsAreNodes n (now least) × FirstsPlaced g (length (now joined)) (now firsts) × FirstsAscend n g (now firsts) ⌝ }
+    requires { ⌜ (now joined ≡ replicate (length (now joined)) 0) × BlocksFor n (length (now joined)) × (now sums ≡ replicate (2 * maxNodes) 0) ⌝ }
+    ensures { λ r. ⌜ JoinedRead n g (now (file .entry)) from (now (least .entry)) (now (firsts .entry)) (now (joined .entry)) (now (joined .exit)) (now (sums .exit)) r ⌝ }
+{
+    if are_few(file.len(), n) {
+        sums::sum_groups(least, n, sums);
+        return read_superedges(file, from, g, true, firsts, joined, sums);
+    }
+    let at = read_superedges(file, from, g, false, firsts, joined, sums);
+    mirroring::mirror(joined, n);
     at
 }
 
@@ -260,9 +315,10 @@ fn read_body(
     least: &mut [u16],
     kinds: &mut [u16],
     joined: &mut [u64],
+    sums: &mut [u32],
 ) -> bool
-    requires { ⌜ (from ≡ 8) × (n ≤ maxNodes) × (g ≤ maxNodes) × Blank (now least) (now kinds) (now joined) ⌝ }
-    ensures { λ r. ⌜ BodyRead (now (file .entry)) n m g (now (least .exit)) (now (kinds .exit)) (now (joined .exit)) r ⌝ }
+    requires { ⌜ (from ≡ 8) × (n ≤ maxNodes) × (g ≤ maxNodes) × Blank (now file) (now least) (now kinds) (now joined) × BlocksFor n (length (now joined)) × (now sums ≡ replicate (2 * maxNodes) 0) ⌝ }
+    ensures { λ r. ⌜ BodyRead (now (file .entry)) n m g (now (least .exit)) (now (kinds .exit)) (now (joined .exit)) (now (sums .exit)) r ⌝ }
 {
     let mut firsts = [0u16; Graph::NODES];
     let counts = Counts {
@@ -281,7 +337,7 @@ fn read_body(
     ) else {
         return false;
     };
-    let at = read_superedges(file, next, g, &firsts, joined);
+    let at = read_joined(file, next, n, g, least, &firsts, joined, sums);
     is_end(file, at, left)
 }
 
@@ -293,9 +349,11 @@ fn graph_at(
     least: &mut [u16],
     kinds: &mut [u16],
     joined: &mut [u64],
+    sums: &mut [u32],
 ) -> Decoded
-    requires { ⌜ AfterHead (now file) at head × Blank (now least) (now kinds) (now joined) ⌝ }
+    requires { ⌜ AfterHead (now file) at head × (Blank (now file) (now least) (now kinds) (now joined) × (now sums ≡ replicate (2 * maxNodes) 0)) ⌝ }
     ensures { λ r. ⌜ Decodes (now (file .entry)) (now (least .exit)) (now (kinds .exit)) (now (joined .exit)) r ⌝ }
+    ensures { λ _. ⌜ SumsKept (now (file .entry)) (now (least .exit)) (now (joined .exit)) (now (sums .exit)) ⌝ }
 {
     let Record::Head { n, m, g } = head else {
         return Decoded::NoRelease;
@@ -306,7 +364,7 @@ fn graph_at(
     if !head_fits(nodes, visible, groups) {
         return Decoded::NoRelease;
     }
-    if !read_body(file, at, nodes, visible, groups, least, kinds, joined) {
+    if !read_body(file, at, nodes, visible, groups, least, kinds, joined, sums) {
         return Decoded::NoRelease;
     }
     Decoded::Graph { n: nodes }
@@ -352,22 +410,41 @@ impl<'a> Reader<'a> {
         least: &mut [u16],
         kinds: &mut [u16],
         joined: &mut [u64],
+        sums: &mut [u32],
     ) -> Decoded
-        requires { ⌜ AfterHead (now (self .file)) (self .at) head × Blank (now least) (now kinds) (now joined) ⌝ }
+        requires { ⌜ AfterHead (now (self .file)) (self .at) head × (Blank (now (self .file)) (now least) (now kinds) (now joined) × (now sums ≡ replicate (2 * maxNodes) 0)) ⌝ }
         ensures { λ r. ⌜ Decodes (now (self .entry .file)) (now (least .exit)) (now (kinds .exit)) (now (joined .exit)) r ⌝ }
+        ensures { λ _. ⌜ SumsKept (now (self .entry .file)) (now (least .exit)) (now (joined .exit)) (now (sums .exit)) ⌝ }
     {
-        graph_at(self.file, self.at, head, least, kinds, joined)
+        graph_at(self.file, self.at, head, least, kinds, joined, sums)
     }
 }
 
-// A release file read into the lent arrays, in which no node has a group, a kind or a bit before.
-pub fn decode(file: &[u8], least: &mut [u16], kinds: &mut [u16], joined: &mut [u64]) -> Decoded
-    requires { ⌜ Blank (now least) (now kinds) (now joined) ⌝ }
+// How many nodes the head of a file tells; 0 if the bytes are too few for a head.
+pub fn nodes_in(file: &[u8]) -> usize
+    ensures { λ r. ⌜ r ≡ nodesIn (now (file .entry)) ⌝ }
+{
+    if file.len() < 8 {
+        return 0;
+    }
+    records::node_at(file, 2)
+}
+
+// A release file read into the lent arrays, in which no node has a group, a kind, a bit or a sum before.
+pub fn decode(
+    file: &[u8],
+    least: &mut [u16],
+    kinds: &mut [u16],
+    joined: &mut [u64],
+    sums: &mut [u32],
+) -> Decoded
+    requires { ⌜ Blank (now file) (now least) (now kinds) (now joined) × (now sums ≡ replicate (2 * maxNodes) 0) ⌝ }
     ensures { λ r. ⌜ Decodes (now (file .entry)) (now (least .exit)) (now (kinds .exit)) (now (joined .exit)) r ⌝ }
+    ensures { λ _. ⌜ SumsKept (now (file .entry)) (now (least .exit)) (now (joined .exit)) (now (sums .exit)) ⌝ }
 {
     let reader = start(file, 0);
     let read = reader.record();
     reader
         .moved(read.next)
-        .graph(read.item, least, kinds, joined)
+        .graph(read.item, least, kinds, joined, sums)
 }

@@ -1,7 +1,7 @@
 -- Document 01, "Release file": the record at the front of bytes, and the head's counts used up one by one.
 use mathlib.Core.Bool.{Bool, true, false, _&&_, cond}
-use mathlib.Core.List.{List}
-use Prim.Native.Nat.{ℕ, _+_, _-_}
+use mathlib.Core.List.{List, [], _∷_}
+use Prim.Native.Nat.{ℕ, _+_, _*_, _-_}
 use lib.Dec.{eqb, ltb, leb}
 use lib.ListN.{length, getD, drop}
 use Rattle.model.specs.Reading.{isMark, u16At}
@@ -74,3 +74,23 @@ superedgeAt s at = readAs at (superedgeItem (drop at s))
 
 unfoldable pub recordAt : List ℕ → ℕ → Read
 recordAt s at = readAs at (itemIn (drop at s))
+
+-- the number of 32 bits at a place
+unfoldable pub u32At : List ℕ → ℕ → ℕ
+u32At s at = u16At s at + 65536 * u16At s (at + 2)
+
+-- the four bytes that a superedge from group i begins with, as one number
+unfoldable pub leadOf : ℕ → ℕ
+leadOf i = u16At (0x53 ∷ 0x45 ∷ []) 0 + 65536 * i
+
+-- a superedge from group i
+unfoldable pub isFrom : ℕ → Record → Bool
+isFrom i (Superedge first second) = eqb first i
+isFrom i (Head n m g) = false
+isFrom i (Group clique count) = false
+isFrom i End = false
+isFrom i Malformed = false
+
+-- the superedge at a place that goes from group i, or no record
+unfoldable pub superedgeFrom : ℕ → List ℕ → ℕ → Read
+superedgeFrom i s at = cond (isFrom i (recordAt s at .item)) (recordAt s at) (malformedAt at)

@@ -3,7 +3,8 @@ ghost use mathlib.Core.Path.{_≡_};
 ghost use Prim.Native.Nat.{_+_, _*_, _≤_, _<_};
 ghost use lib.ListN.{length};
 ghost use Rattle.model.specs.Reading.{u16At};
-ghost use Rattle.records.specs.Records.{lessMember, lessGroup, spent, markAt, malformedAt, headAt, groupAt, superedgeAt, recordAt};
+ghost use Rattle.model.specs.Release.{u16Limit};
+ghost use Rattle.records.specs.Records.{groupAt, headAt, leadOf, lessGroup, lessMember, malformedAt, markAt, recordAt, spent, superedgeAt, superedgeFrom, u32At};
 
 // What the head still promises: members and groups not yet read.
 pub struct Counts {
@@ -87,6 +88,22 @@ fn is_mark(file: &[u8], at: usize, mark: &[u8; 2]) -> bool
     ensures { λ r. ⌜ r ≡ markAt (now (file .entry)) at (now (mark .entry)) ⌝ }
 {
     u16_at(file, at) == wide(mark[0]) + 256 * wide(mark[1])
+}
+
+// The number of 32 bits at a place, by its two halves.
+fn u32_at(file: &[u8], at: usize) -> u32
+    requires { ⌜ at + 4 ≤ length (now file) ⌝ }
+    ensures { λ r. ⌜ r ≡ u32At (now (file .entry)) at ⌝ }
+{
+    (u16_at(file, at) as u32) + 65536 * (u16_at(file, at + 2) as u32)
+}
+
+// The four bytes that a superedge from group i begins with, as one number.
+fn lead_of(i: usize) -> u32
+    requires { ⌜ i < u16Limit ⌝ }
+    ensures { λ r. ⌜ r ≡ leadOf i ⌝ }
+{
+    (u16_at(b"SE", 0) as u32) + 65536 * (i as u32)
 }
 
 // No record: the place stays.
@@ -176,6 +193,23 @@ pub fn record_at(file: &[u8], at: usize) -> Read
         };
     }
     malformed(at)
+}
+
+// The superedge at a place that goes from group i; no record if there is none. Mark and group are compared as one number.
+pub fn superedge_from(file: &[u8], at: usize, i: usize) -> Read
+    requires { ⌜ i < u16Limit ⌝ }
+    ensures { λ r. ⌜ r ≡ superedgeFrom i (now (file .entry)) at ⌝ }
+{
+    if file.len() < 6 {
+        return malformed(at);
+    }
+    if file.len() - 6 < at {
+        return malformed(at);
+    }
+    if u32_at(file, at) != lead_of(i) {
+        return malformed(at);
+    }
+    record_at(file, at)
 }
 
 // The number at a place, as an index.

@@ -10,6 +10,8 @@ use Rattle.search.specs.Search.{graphIn}
 use Rattle.keys.specs.KeySums.{LeastTold}
 use Rattle.rows.specs.Rows.{noNode}
 use Rattle.compressed.specs.Compressed.{unfolded}
+use Rattle.sums.specs.Sums.{Cubed}
+use Rattle.sums.specs.Joined.{JoinedSummed}
 use Rattle.judging.specs.Judging.{Exact}
 
 -- the mark of a node by its first member: a node of no group is hidden
@@ -26,10 +28,13 @@ pub record MarksTaken (i : ℕ) (nodes t after : List ℕ) : Type 0 where
   pub size : length after ≡ length t
   pub marks : (p : ℕ) → p < i → getD after p 0 ≡ nodeNumber nodes p 3
 
--- the edge table of a graph held by its groups
-pub record EdgesFilled (n : ℕ) (first kinds joined edges : List ℕ) : Type 0 where
+-- the edge table of a graph held by its groups, with their sums of cubes
+pub record SumsFilled (n : ℕ) (first kinds sums edges : List ℕ) : Type 0 where
+  pub joined : List ℕ
   pub exact : Exact n first kinds joined
   pub edges-of : edges ≡ edgesOf (unfolded n first kinds joined)
+  pub cubed : Cubed n first sums
+  pub summed : JoinedSummed joined sums
 
 -- the least members of the groups of all nodes, and the keys
 pub record Keyed (n : ℕ) (edges lst keys : List ℕ) : Type 0 where

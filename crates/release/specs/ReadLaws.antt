@@ -1,6 +1,6 @@
 -- Reading a release back, and asking it, are the model's calls.
 use mathlib.Core.Path.{_≡_, refl, sym, ap, ap₂, subst, _∙_}
-use mathlib.Core.Bool.{Bool, true, false, cond, not, _&&_}
+use mathlib.Core.Bool.{Bool, true, false, cond, not, _&&_, and-false}
 use mathlib.Core.List.{List, [], _∷_}
 use mathlib.Core.Logic.{_≢_, _⊎_, inl, inr}
 use Prim.Native.Nat.{ℕ, _≤_, _<_}
@@ -20,7 +20,7 @@ use Rattle.model.specs.Calls.{openRefused, readReasons, readCall, listRefused, 
 use Rattle.model.specs.TestLaws.{decide}
 use Rattle.model.specs.RefusalLaws.{first-none}
 use Rattle.model.specs.ListLaws.{filter-cong, nodes-out}
-use Rattle.buffers.specs.ScanLaws.{scan-nodes}
+use Rattle.buffers.specs.ScanLaws.{scan-cut, scan-nodes}
 use Rattle.buffers.specs.Scan.{scan}
 use Rattle.buffers.specs.WroteLaws.{sets-onto}
 use Rattle.reader.specs.declared.Decoded.{Decoded}
@@ -30,6 +30,9 @@ use Rattle.compressed.specs.Compressed.{placed, unfolded}
 use Rattle.unfolding.specs.Unfolding.{NeighbourRow}
 use Rattle.index.specs.Index.{opened, listed}
 use Rattle.index.specs.IndexLaws.{call-refused, call-done}
+use Rattle.reader.specs.Decoding.{isFew}
+use Rattle.sums.specs.Sums.{Cubed}
+use Rattle.sums.specs.Joined.{JoinedSummed}
 use Rattle.judging.specs.Numbers.{askedNumber, readNumber}
 use Rattle.judging.specs.Judging.{Exact, Judged}
 use Rattle.release.specs.Release.{rowTold}
@@ -40,7 +43,7 @@ unfolding firstOf
 no-first true z = absurd (omega arith)
 no-first false z = refl
 
-module _ {s first kinds joined : List ℕ} {r : Decoded} (j : Judged s first kinds joined r) where
+module _ {s first kinds joined sums : List ℕ} {r : Decoded} (j : Judged s first kinds joined sums r) where
   passed : (m : ℕ) → r ≡ answer.Graph m → isRelease s ≡ true
   passed m z = not-false _ (first-none (not (isRelease s)) 19 [] refl (sym (j .asked) ∙ ap askedNumber z ∙ unfold askedNumber in refl) .0)
 
@@ -53,7 +56,7 @@ module _ (n : ℕ) (t : Tables) (s : List ℕ) (f : Bool) (e : f ≡ not (wrongS
   unfolding readCall readReasons firstOf
   read-size z = rw (not-false (wrongSize n (lengths t)) (sym e ∙ z))
 
-  module _ (fits : f ≡ true) {first kinds joined : List ℕ} {r : Decoded} (j : Judged s first kinds joined r) where
+  module _ (fits : f ≡ true) {first kinds joined sums : List ℕ} {r : Decoded} (j : Judged s first kinds joined sums r) where
     right : wrongSize n (lengths t) ≡ false
     right = not-true (wrongSize n (lengths t)) (sym e ∙ fits)
 
@@ -80,7 +83,7 @@ module _ (n : ℕ) (t : Tables) (s : List ℕ) (f : Bool) (e : f ≡ not (wrongS
     read-done m z d w = rw (right, passed j m z, eq-eqb (decode s .nodeCount) n (count m z ∙ d)) (ap (opened 0) (w ∙ ap tablesOf (ap (λ (k : ℕ). unfolded k first kinds joined) (sym d) ∙ j .graph m z)))
 
 -- neighbours asked of a file
-module _ (s : List ℕ) (p : ℕ) (out : List ℕ) {first kinds joined : List ℕ} {r : Decoded} (j : Judged s first kinds joined r) where
+module _ (s : List ℕ) (p : ℕ) (out : List ℕ) {first kinds joined sums : List ℕ} {r : Decoded} (j : Judged s first kinds joined sums r) where
   pub ask-none : r ≡ answer.NoRelease → listed 19 0 out ≡ fileNeighboursCall s p out
   unfolding fileNeighboursCall fileNeighboursReasons firstOf
   ask-none z = rw (failed j z)
@@ -102,15 +105,22 @@ module _ (s : List ℕ) (p : ℕ) (out : List ℕ) {first kinds joined : List �
     unfolding placed
     ask-placed h v = rw (lt-ltb p n h, ne-eqb (getD first p 0) noNode v)
 
-    pub ask-row : p < n → (getD first p 0 ≡ noNode → ⊥) → {row : List ℕ} → NeighbourRow n first kinds joined p row → rowTold row n out ≡ fileNeighboursCall s p out
+    pub ask-row : p < n → (getD first p 0 ≡ noNode → ⊥) → {row : List ℕ} → NeighbourRow n first kinds joined p row → rowTold row out ≡ fileNeighboursCall s p out
     unfolding rowTold
     ask-row h v {row} w = rw list (step (decide (ltb (length out) (length (neighbours (decode s) p)))))
       where
         small : n ≤ maxNodes
         small = j .exact n z .compressed .small
 
-        list : scan (edgeBit row 0) n 0 ≡ neighbours (decode s) p
-        list = scan-nodes (edgeBit row 0) n ∙ told ∙ ap (λ (g : Graph). neighbours g p) (j .graph n z)
+        -- the row has no bit from n on
+        after : (q : ℕ) → n ≤ q → q < maxNodes → edgeBit row 0 q ≡ false
+        after q a b = w .bits q b ∙ unfold unfolded in rw (none, and-false (placed n first p))
+          where
+            none : placed n first q ≡ false
+            none = unfold placed in rw (le-ltb q n a)
+
+        list : scan (edgeBit row 0) maxNodes 0 ≡ neighbours (decode s) p
+        list = scan-cut (edgeBit row 0) n maxNodes small after 0 (omega arith) ∙ scan-nodes (edgeBit row 0) n ∙ told ∙ ap (λ (g : Graph). neighbours g p) (j .graph n z)
           where
             told : filter (edgeBit row 0) (nodes n) ≡ neighbours (unfolded n first kinds joined) p
             told = unfold neighbours unfolded in filter-cong (edgeBit row 0) _ (nodes n) (λ q m. w .bits q (omega (arith, nodes-out n q m, small)))
@@ -127,17 +137,23 @@ module _ (s : List ℕ) (p : ℕ) (out : List ℕ) {first kinds joined : List �
         step (inr x) = unfold fileNeighboursCall in rw x (call-done (fileNeighboursReasons s p out) (listRefused out) _ (number ∙ rw x))
 
 -- a row listed
-module _ (row : List ℕ) (n : ℕ) (out : List ℕ) {k : ℕ} (c : k ≡ length (scan (edgeBit row 0) n 0)) where
-  pub row-short : length out < k → listed 18 0 out ≡ rowTold row n out
+module _ (row out : List ℕ) {k : ℕ} (c : k ≡ length (scan (edgeBit row 0) maxNodes 0)) where
+  pub row-short : length out < k → listed 18 0 out ≡ rowTold row out
   unfolding rowTold
-  row-short l = rw (lt-ltb (length out) (length (scan (edgeBit row 0) n 0)) (omega (arith, c)))
+  row-short l = rw (lt-ltb (length out) (length (scan (edgeBit row 0) maxNodes 0)) (omega (arith, c)))
 
-  pub row-done : k ≤ length out → {out₁ : List ℕ} → out₁ ≡ sets out 0 (scan (edgeBit row 0) n 0) → listed 0 k out₁ ≡ rowTold row n out
+  pub row-done : k ≤ length out → {out₁ : List ℕ} → out₁ ≡ sets out 0 (scan (edgeBit row 0) maxNodes 0) → listed 0 k out₁ ≡ rowTold row out
   unfolding rowTold
   row-done l w =
-      rw (le-ltb (length out) (length (scan (edgeBit row 0) n 0)) (omega (arith, c)))
-      (ap₂ (listed 0) c (w ∙ sets-onto (scan (edgeBit row 0) n 0) out (omega (arith, c))))
+      rw (le-ltb (length out) (length (scan (edgeBit row 0) maxNodes 0)) (omega (arith, c)))
+      (ap₂ (listed 0) c (w ∙ sets-onto (scan (edgeBit row 0) maxNodes 0) out (omega (arith, c))))
 
 -- what is filled
-pub judged-exact : {s first kinds joined : List ℕ} {r : Decoded} → Judged s first kinds joined r → (m : ℕ) → r ≡ answer.Graph m → (n : ℕ) → m ≡ n → Exact n first kinds joined
-judged-exact {first = first} {kinds = kinds} {joined = joined} j m e n d = subst (λ (k : ℕ). Exact k first kinds joined) d (j .exact m e)
+module _ {s first kinds joined sums : List ℕ} {r : Decoded} (j : Judged s first kinds joined sums r) (m : ℕ) (e : r ≡ answer.Graph m) (n : ℕ) (d : m ≡ n) where
+  pub judged-exact : Exact n first kinds joined
+  judged-exact = subst (λ (k : ℕ). Exact k first kinds joined) d (j .exact m e)
+
+  pub judged-sums : {few : Bool} → few ≡ isFew (length s) n → few ≡ true → Cubed n first sums × JoinedSummed joined sums
+  judged-sums {few} f t =
+      let k : isFew (length s) m ≡ true = ap (isFew (length s)) d ∙ sym f ∙ t in
+      (subst (λ (x : ℕ). Cubed x first sums) d (j .cubed m e k), j .summed m e k)

@@ -1,8 +1,7 @@
 // The neighbours that a row tells.
 ghost use mathlib.Core.Path.{_≡_};
-ghost use Prim.Native.Nat.{_≤_};
 ghost use lib.ListN.{length};
-ghost use Rattle.model.specs.Graph.{maxNodes, rowWords};
+ghost use Rattle.model.specs.Graph.{rowWords};
 ghost use Rattle.index.specs.Index.{listed};
 ghost use Rattle.release.specs.Release.{rowTold};
 use index::Listed;
@@ -18,15 +17,15 @@ pub fn refused(number: u16) -> Listed
 }
 
 // The nodes of a row, or 18.
-pub fn answer(row: &[u64], n: usize, out: &mut [u16]) -> Listed
-    requires { ⌜ (n ≤ maxNodes) × (length (now row) ≡ rowWords) ⌝ }
-    ensures { λ r. ⌜ listed (r .result) (r .count) (now (out .exit)) ≡ rowTold (now (row .entry)) n (now (out .entry)) ⌝ }
+pub fn answer(row: &[u64], out: &mut [u16]) -> Listed
+    requires { ⌜ length (now row) ≡ rowWords ⌝ }
+    ensures { λ r. ⌜ listed (r .result) (r .count) (now (out .exit)) ≡ rowTold (now (row .entry)) (now (out .entry)) ⌝ }
 {
-    let count = queries::count_neighbours(row, n);
+    let count = queries::count_neighbours(row);
     if out.len() < count {
         return refused(18);
     }
-    queries::write_neighbours(row, n, out);
+    queries::write_neighbours(row, out);
     Listed {
         result: 0,
         count: count as u16,

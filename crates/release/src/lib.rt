@@ -1,5 +1,6 @@
 // Releases: written, read back, asked. Each call is the model's (Calls) on every input.
 ghost use mathlib.Core.Path.{_≡_};
+ghost use mathlib.Core.Bool.{true};
 ghost use lib.ListN.{length};
 ghost use Prim.Native.Nat.{_*_, _≤_};
 ghost use Rattle.model.specs.Graph.{rowWords};
@@ -9,10 +10,13 @@ ghost use Rattle.rows.specs.Rows.{lent};
 ghost use Rattle.masking.specs.Masking.{Drawn, markedGraph};
 ghost use Rattle.layout.specs.Truth.{Truth};
 ghost use Rattle.writer.specs.Written.{releasedBy};
+ghost use Rattle.compressed.specs.Compressed.{smallNodes};
+ghost use Rattle.reader.specs.Decoding.{BlankRows, nodesIn};
 ghost use Rattle.index.specs.Index.{listed, opened};
 ghost use Rattle.tables.specs.Lent.{Held};
 ghost use Rattle.release.specs.Release.{told};
 use compressed::SINGLE;
+use compressed::SMALL;
 use index::Listed;
 use reader::Decoded;
 use rows::Graph;
@@ -70,8 +74,23 @@ pub fn release(n: usize, edges: &[u64], nodes: &[u16], keys: &[u32], out: &mut [
     write_visible(n, edges, nodes, keys, out)
 }
 
-// A release read back into tables: hidden nodes are those missing, without edges. 0, or 11, 19, 20.
-pub fn read(n: usize, edges: &mut [u64], nodes: &mut [u16], keys: &mut [u32], file: &[u8]) -> u16
+// Whether the head of a file tells no more nodes than a small graph has.
+fn is_small(file: &[u8]) -> bool
+    ensures { λ r. ⌜ (r ≡ true → nodesIn (now (file .entry)) ≤ smallNodes) ⌝ }
+{
+    reader::nodes_in(file) <= SMALL
+}
+
+// A release read back into tables, with rows for the superedges between its groups.
+fn read_with(
+    n: usize,
+    edges: &mut [u64],
+    nodes: &mut [u16],
+    keys: &mut [u32],
+    file: &[u8],
+    joined: &mut [u64],
+) -> u16
+    requires { ⌜ BlankRows (now file) (now joined) ⌝ }
     ensures { λ r. ⌜ opened r (lent (now (edges .exit)) (now (nodes .exit)) (now (keys .exit))) ≡ readCall n (lent (now (edges .entry)) (now (nodes .entry)) (now (keys .entry))) (now (file .entry)) ⌝ }
 {
     if !tables::right_size(n, edges, nodes, keys) {
@@ -79,26 +98,50 @@ pub fn read(n: usize, edges: &mut [u64], nodes: &mut [u16], keys: &mut [u32], fi
     }
     let mut least = [Graph::NONE; Graph::NODES];
     let mut kinds = [SINGLE; Graph::NODES];
-    let mut joined = [0u64; Graph::NODES * Graph::ROW_WORDS];
-    let judged = judging::judge(file, &mut least, &mut kinds, &mut joined);
+    let mut sums = [0u32; 2 * Graph::NODES];
+    let judged = judging::judge(file, &mut least, &mut kinds, joined, &mut sums);
     let Decoded::Graph { n: told } = judged else {
         return 19;
     };
     if told != n {
         return 20;
     }
-    reading::fill(n, &mut least, &kinds, &joined, edges, nodes, keys);
+    let few = reader::are_few(file.len(), n);
+    reading::fill(
+        n,
+        few,
+        &mut least,
+        &kinds,
+        joined,
+        &sums,
+        edges,
+        nodes,
+        keys,
+    );
     0
 }
 
-// The neighbours of p, asked of a release, ascending, and their count. 0, or 19, 14 (out of range or hidden), 18.
-pub fn file_neighbours(file: &[u8], p: u16, out: &mut [u16]) -> Listed
+// A release read back into tables: hidden nodes are those missing, without edges. 0, or 11, 19, 20.
+pub fn read(n: usize, edges: &mut [u64], nodes: &mut [u16], keys: &mut [u32], file: &[u8]) -> u16
+    ensures { λ r. ⌜ opened r (lent (now (edges .exit)) (now (nodes .exit)) (now (keys .exit))) ≡ readCall n (lent (now (edges .entry)) (now (nodes .entry)) (now (keys .entry))) (now (file .entry)) ⌝ }
+{
+    if is_small(file) {
+        let mut joined = [0u64; SMALL * Graph::ROW_WORDS];
+        return read_with(n, edges, nodes, keys, file, &mut joined);
+    }
+    let mut joined = [0u64; Graph::NODES * Graph::ROW_WORDS];
+    read_with(n, edges, nodes, keys, file, &mut joined)
+}
+
+// The neighbours of p, asked of a release, with rows for the superedges between its groups.
+fn ask_with(file: &[u8], p: u16, out: &mut [u16], joined: &mut [u64]) -> Listed
+    requires { ⌜ BlankRows (now file) (now joined) ⌝ }
     ensures { λ r. ⌜ listed (r .result) (r .count) (now (out .exit)) ≡ fileNeighboursCall (now (file .entry)) p (now (out .entry)) ⌝ }
 {
     let mut least = [Graph::NONE; Graph::NODES];
     let mut kinds = [SINGLE; Graph::NODES];
-    let mut joined = [0u64; Graph::NODES * Graph::ROW_WORDS];
-    let judged = judging::judge(file, &mut least, &mut kinds, &mut joined);
+    let mut sums = [0u32; 2 * Graph::NODES];
+    let judged = judging::judge(file, &mut least, &mut kinds, joined, &mut sums);
     let Decoded::Graph { n } = judged else {
         return asking::refused(19);
     };
@@ -109,6 +152,18 @@ pub fn file_neighbours(file: &[u8], p: u16, out: &mut [u16]) -> Listed
     if least[node] == Graph::NONE {
         return asking::refused(14);
     }
-    let row = unfolding::neighbour_row(&least, &kinds, &joined, n, node);
-    asking::answer(&row, n, out)
+    let row = unfolding::neighbour_row(&least, &kinds, joined, n, node);
+    asking::answer(&row, out)
+}
+
+// The neighbours of p, asked of a release, ascending, and their count. 0, or 19, 14 (out of range or hidden), 18.
+pub fn file_neighbours(file: &[u8], p: u16, out: &mut [u16]) -> Listed
+    ensures { λ r. ⌜ listed (r .result) (r .count) (now (out .exit)) ≡ fileNeighboursCall (now (file .entry)) p (now (out .entry)) ⌝ }
+{
+    if is_small(file) {
+        let mut joined = [0u64; SMALL * Graph::ROW_WORDS];
+        return ask_with(file, p, out, &mut joined);
+    }
+    let mut joined = [0u64; Graph::NODES * Graph::ROW_WORDS];
+    ask_with(file, p, out, &mut joined)
 }

@@ -1,14 +1,17 @@
 // A release read back into tables.
 ghost use mathlib.Core.Path.{_≡_};
+ghost use mathlib.Core.Bool.{true};
 ghost use Prim.Native.Nat.{_*_};
 ghost use lib.ListN.{length};
 ghost use Rattle.model.specs.Tables.{tablesOf};
 ghost use Rattle.rows.specs.Rows.{lent};
 ghost use Rattle.compressed.specs.Compressed.{unfolded};
+ghost use Rattle.sums.specs.Sums.{Cubed};
+ghost use Rattle.sums.specs.Joined.{JoinedSummed};
 ghost use Rattle.judging.specs.Judging.{Exact};
 ghost use Rattle.adopting.specs.Adopting.{VisibleTold};
 ghost use Rattle.tables.specs.Lent.{Sized};
-ghost use Rattle.release.specs.Fill.{EdgesFilled, Keyed};
+ghost use Rattle.release.specs.Fill.{Keyed, SumsFilled};
 use crate::copies;
 
 // The first members of all nodes, and with them the keys by rows: for rows with many bits.
@@ -17,59 +20,63 @@ fn key_rows(n: usize, least: &mut [u16], edges: &[u64], keys: &mut [u32])
     ensures { λ _. ⌜ Keyed n (now (edges .entry)) (now (least .exit)) (now (keys .exit)) ⌝ }
 {
     adopting::adopt_hidden(edges, n, least);
-    keys::sum_dense(edges, least, keys, n);
+    keys::sum_rows(edges, least, keys, n);
 }
 
-// The keys by groups, and the first members of all nodes.
+// The keys by the sums of groups, and the first members of all nodes.
 fn key_groups(
     n: usize,
     least: &mut [u16],
     kinds: &[u16],
-    joined: &[u64],
+    sums: &[u32],
     edges: &[u64],
     keys: &mut [u32],
 )
-    requires { ⌜ EdgesFilled n (now least) (now kinds) (now joined) (now edges) × (length (now keys) ≡ 2 * n) ⌝ }
+    requires { ⌜ SumsFilled n (now least) (now kinds) (now sums) (now edges) × (length (now keys) ≡ 2 * n) ⌝ }
     ensures { λ _. ⌜ Keyed n (now (edges .entry)) (now (least .exit)) (now (keys .exit)) ⌝ }
 {
-    sums::sum_grouped(joined, least, kinds, keys, n);
+    sums::key_groups(least, kinds, sums, keys, n);
     adopting::adopt_hidden(edges, n, least);
 }
 
-// The keys, and the first members of all nodes, hidden ones among those without edges.
+// The keys, by sums where they were kept, and the first members of all nodes, hidden ones among those without edges.
 fn fill_keys(
     n: usize,
+    few: bool,
     least: &mut [u16],
     kinds: &[u16],
-    joined: &[u64],
+    sums: &[u32],
     edges: &[u64],
     keys: &mut [u32],
 )
-    requires { ⌜ EdgesFilled n (now least) (now kinds) (now joined) (now edges) × (length (now keys) ≡ 2 * n) ⌝ }
+    requires { ⌜ VisibleTold n (now edges) (now least) × (few ≡ true → SumsFilled n (now least) (now kinds) (now sums) (now edges)) × (length (now keys) ≡ 2 * n) ⌝ }
     ensures { λ _. ⌜ Keyed n (now (edges .entry)) (now (least .exit)) (now (keys .exit)) ⌝ }
 {
-    if keys::has_many_bits(joined) {
-        key_rows(n, least, edges, keys);
+    if few {
+        key_groups(n, least, kinds, sums, edges, keys);
         return;
     }
-    key_groups(n, least, kinds, joined, edges, keys);
+    key_rows(n, least, edges, keys);
 }
 
-// The tables of a graph held by its groups. Their first members become those of all nodes.
+// The tables of a graph held by its groups, whose sums were kept if superedges are few. Their first members become those of all nodes.
 pub fn fill(
     n: usize,
+    few: bool,
     least: &mut [u16],
     kinds: &[u16],
     joined: &[u64],
+    sums: &[u32],
     edges: &mut [u64],
     nodes: &mut [u16],
     keys: &mut [u32],
 )
     requires { ⌜ Exact n (now least) (now kinds) (now joined) × Sized n (lent (now edges) (now nodes) (now keys)) ⌝ }
+    requires { ⌜ (few ≡ true → Cubed n (now least) (now sums) × JoinedSummed (now joined) (now sums)) ⌝ }
     ensures { λ _. ⌜ lent (now (edges .exit)) (now (nodes .exit)) (now (keys .exit)) ≡ tablesOf (unfolded n (now (least .entry)) (now (kinds .entry)) (now (joined .entry))) ⌝ }
 {
     unfolding::fill_edges(least, kinds, joined, n, edges);
     copies::put_marks(least, n, nodes);
-    fill_keys(n, least, kinds, joined, edges, keys);
+    fill_keys(n, few, least, kinds, sums, edges, keys);
     groups::build(nodes, least, n);
 }

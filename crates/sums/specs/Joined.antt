@@ -26,8 +26,18 @@ pub record JoinedSummed (joined sums : List ℕ) : Type 0 where
 unfoldable pub pairCubes : List ℕ → ℕ → ℕ → ℕ → ℕ
 pairCubes sums p q l = cond (eqb l p) (ownCubes sums q) 0 + cond (eqb l q) (ownCubes sums p) 0
 
--- the cubes of each of two groups are added to the sum of the other
-pub record PairAdded (p q : ℕ) (t after : List ℕ) : Type 0 where
+-- f is added to the sums of joined groups, wrapping at 32 bits; own cubes are as they were
+pub record SumsAdded (f : ℕ → ℕ) (t after : List ℕ) : Type 0 where
   pub size : length after ≡ length t
   pub own : (l : ℕ) → ownCubes after l ≡ ownCubes t l
-  pub near : (l : ℕ) → l < maxNodes → getD t l 0 < 2 ^ 32 → getD after l 0 ≡ (getD t l 0 + pairCubes t p q l) % 2 ^ 32
+  pub near : (l : ℕ) → l < maxNodes → getD t l 0 < 2 ^ 32 → getD after l 0 ≡ (getD t l 0 + f l) % 2 ^ 32
+
+-- underway: with the rest added, all will have been added
+pub record SumsAdding (all rest : ℕ → ℕ) (t now : List ℕ) : Type 0 where
+  pub size : length now ≡ length t
+  pub own : (l : ℕ) → ownCubes now l ≡ ownCubes t l
+  pub near : (l : ℕ) → l < maxNodes → getD t l 0 < 2 ^ 32 → (getD now l 0 < 2 ^ 32) × ((getD now l 0 + rest l) % 2 ^ 32 ≡ (getD t l 0 + all l) % 2 ^ 32)
+
+-- the cubes of each of two groups are added to the sum of the other
+abbrev pub PairAdded : ℕ → ℕ → List ℕ → List ℕ → Type 0
+PairAdded p q t after = SumsAdded (pairCubes t p q) t after

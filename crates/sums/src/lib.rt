@@ -1,92 +1,71 @@
-// The keys of a graph held by its groups: the cubes of each group added up once, and those sums for each first member.
+// The keys of a graph held by its groups, from sums of cubes: at a first member those of the groups joined to its own, and in the
+// second half those of its own group.
 ghost use mathlib.Core.Path.{_≡_};
-ghost use Prim.Native.Nat.{_+_, _*_, _≤_, _<_};
-ghost use lib.ListN.{length};
-ghost use Rattle.model.specs.Graph.{maxNodes, rowWords};
+ghost use mathlib.Core.List.{List};
+ghost use Prim.Native.Nat.{ℕ, _+_, _*_, _<_};
+ghost use lib.ListN.{length, getD, replicate};
+ghost use Rattle.model.specs.Graph.{maxNodes};
 ghost use Rattle.model.specs.Tables.{keysOf};
+ghost use Rattle.rows.specs.Rows.{noNode};
 ghost use Rattle.compressed.specs.Compressed.{Compressed, unfolded};
-ghost use Rattle.sums.specs.Sums.{Cubed, FirstsAreNodes, groupRowCubes, keyBy, otherCubes};
+ghost use Rattle.sums.specs.Joined.{JoinedSummed, PairAdded};
+ghost use Rattle.sums.specs.Sums.{Cubed, FirstsAreNodes, NoneJoined, memberKey, nodeKey};
 use compressed::CLIQUE;
 use rows::Graph;
 
-// The cubes of the members of each group, at its first member.
-fn sum_cubes(least: &[u16], n: usize, cubes: &mut [u32])
-    requires { ⌜ FirstsAreNodes n (now least) × Cubed 0 (now least) (now cubes) ⌝ }
-    ensures { λ _. ⌜ Cubed n (now (least .entry)) (now (cubes .exit)) ⌝ }
+// The cubes of the members of each group, in the second half of the sums.
+pub fn sum_groups(least: &[u16], n: usize, sums: &mut [u32])
+    requires { ⌜ FirstsAreNodes n (now least) × (now sums ≡ replicate (2 * maxNodes) 0) ⌝ }
+    ensures { λ _. ⌜ Cubed n (now (least .entry)) (now (sums .exit)) × NoneJoined (now (sums .exit)) ⌝ }
 {
     for p in 0..n {
         if least[p] != Graph::NONE {
-            let l = rows::wide(least[p]);
-            cubes[l] = std::num::wrapping_add_u32(cubes[l], rows::cube_of(p));
+            let own = Graph::NODES + rows::wide(least[p]);
+            sums[own] = std::num::wrapping_add_u32(sums[own], rows::cube_of(p));
         }
     }
 }
 
-// The cubes of the groups whose first members stand in a row.
-fn row_cubes(row: &[u64], cubes: &[u32]) -> u32
-    requires { ⌜ (length (now row) ≡ rowWords) × (length (now cubes) ≡ maxNodes) ⌝ }
-    ensures { λ r. ⌜ r ≡ groupRowCubes (now (row .entry)) (now (cubes .entry)) ⌝ }
+// The cubes of each of two groups added to the sum of the other.
+pub fn add_pair(sums: &mut [u32], p: usize, q: usize)
+    requires { ⌜ (p < maxNodes) × (q < maxNodes) × (length (now sums) ≡ 2 * maxNodes) ⌝ }
+    ensures { λ _. ⌜ PairAdded p q (now (sums .entry)) (now (sums .exit)) ⌝ }
 {
-    let mut sum = 0u32;
-    let mut w = 0;
-    while w < Graph::ROW_WORDS {
-        let mut x = row[w];
-        while x != 0 {
-            sum = std::num::wrapping_add_u32(sum, cubes[64 * w + rows::lowest(x)]);
-            x = x & (x - 1);
-        }
-        w += 1;
-    }
-    sum
+    sums[p] = std::num::wrapping_add_u32(sums[p], sums[Graph::NODES + q]);
+    sums[q] = std::num::wrapping_add_u32(sums[q], sums[Graph::NODES + p]);
 }
 
-// The cubes of the other members of a clique that l leads; none of another group.
-fn other_cubes(kind: u16, l: usize, cubes: &[u32]) -> u32
-    requires { ⌜ (l < maxNodes) × (length (now cubes) ≡ maxNodes) ⌝ }
-    ensures { λ r. ⌜ r ≡ otherCubes kind l (now (cubes .entry)) ⌝ }
+// The open key that p has as a member of the group that l leads: a clique's members have each other too.
+fn member_key(sums: &[u32], kind: u16, l: usize, p: usize) -> u32
+    requires { ⌜ (l < maxNodes) × (p < maxNodes) × (length (now sums) ≡ 2 * maxNodes) ⌝ }
+    ensures { λ r. ⌜ r ≡ memberKey (now (sums .entry)) kind l p ⌝ }
 {
     if kind == CLIQUE {
-        return std::num::wrapping_sub_u32(cubes[l], rows::cube_of(l));
+        let all = std::num::wrapping_add_u32(sums[l], sums[Graph::NODES + l]);
+        return std::num::wrapping_sub_u32(all, rows::cube_of(p));
     }
-    0
+    sums[l]
 }
 
-// The open key of p: by that of its first member, or by its row.
-fn open_key(
-    joined: &[u64],
-    least: &[u16],
-    kinds: &[u16],
-    cubes: &[u32],
-    keys: &[u32],
-    p: usize,
-) -> u32
-    requires { ⌜ (p < maxNodes) × (length (now joined) ≡ rowWords * maxNodes) × (length (now least) ≡ maxNodes) × (length (now kinds) ≡ maxNodes) ⌝ }
-    requires { ⌜ (length (now cubes) ≡ maxNodes) × (2 * p ≤ length (now keys)) ⌝ }
-    ensures { λ r. ⌜ r ≡ keyBy (now (joined .entry)) (now (least .entry)) (now (kinds .entry)) (now (cubes .entry)) (now (keys .entry)) p ⌝ }
+// The open key of p; 0 for a node of no group.
+fn open_key(least: &[u16], kinds: &[u16], sums: &[u32], p: usize) -> u32
+    requires { ⌜ (p < maxNodes) × (length (now least) ≡ maxNodes) × (length (now kinds) ≡ maxNodes) × (length (now sums) ≡ 2 * maxNodes) ⌝ }
+    requires { ⌜ ((getD (now least) p 0 ≡ noNode → ⊥) → getD (now least) p 0 < maxNodes) ⌝ }
+    ensures { λ r. ⌜ r ≡ nodeKey (now (least .entry)) (now (kinds .entry)) (now (sums .entry)) p ⌝ }
 {
     if least[p] == Graph::NONE {
         return 0;
     }
     let l = rows::wide(least[p]);
-    if l < p {
-        return keys::twin_key(keys, kinds[l] == CLIQUE, l, p);
-    }
-    let a = Graph::ROW_WORDS * p;
-    std::num::wrapping_add_u32(
-        row_cubes(&joined[a..a + Graph::ROW_WORDS], cubes),
-        other_cubes(kinds[p], p, cubes),
-    )
+    member_key(sums, kinds[l], l, p)
 }
 
-// The keys of a graph held by its groups.
-pub fn sum_grouped(joined: &[u64], least: &[u16], kinds: &[u16], keys: &mut [u32], n: usize)
-    requires { ⌜ Compressed n (now least) (now kinds) (now joined) × (length (now keys) ≡ 2 * n) ⌝ }
-    ensures { λ _. ⌜ now (keys .exit) ≡ keysOf (unfolded n (now (least .entry)) (now (kinds .entry)) (now (joined .entry))) ⌝ }
+// The keys of a graph held by its groups, by the sums of its groups.
+pub fn key_groups(least: &[u16], kinds: &[u16], sums: &[u32], keys: &mut [u32], n: usize)
+    requires { ⌜ FirstsAreNodes n (now least) × (length (now kinds) ≡ maxNodes) × Cubed n (now least) (now sums) × (length (now keys) ≡ 2 * n) ⌝ }
+    ensures { λ _. ⌜ ((joined : List ℕ) → Compressed n (now (least .entry)) (now (kinds .entry)) joined → JoinedSummed joined (now (sums .entry)) → now (keys .exit) ≡ keysOf (unfolded n (now (least .entry)) (now (kinds .entry)) joined)) ⌝ }
 {
-    let mut cubes = [0u32; Graph::NODES];
-    sum_cubes(least, n, &mut cubes);
     for p in 0..n {
-        let sum = open_key(joined, least, kinds, &cubes, keys, p);
-        keys::put_keys(keys, p, sum);
+        keys::put_keys(keys, p, open_key(least, kinds, sums, p));
     }
 }

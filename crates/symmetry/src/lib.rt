@@ -81,7 +81,7 @@ fn swap_digit(a: &[u64], b: &mut [u64], k: usize, high: u64, low: u64)
 }
 
 // The rows and columns of a block exchanged, digit by digit; b is room to work in.
-fn transpose(a: &mut [u64], b: &mut [u64])
+pub fn transpose(a: &mut [u64], b: &mut [u64])
     requires { ⌜ (length (now a) ≡ 64) × (length (now b) ≡ 64) ⌝ }
     ensures { λ _. ⌜ Transposed (now (a .entry)) (now (a .exit)) ⌝ }
 {
@@ -105,7 +105,7 @@ fn word_at(edges: &[u64], n: usize, p: usize, w: usize) -> u64
 }
 
 // Word j of the 64 rows of block i.
-fn load(edges: &[u64], n: usize, i: usize, j: usize, a: &mut [u64])
+pub fn load(edges: &[u64], n: usize, i: usize, j: usize, a: &mut [u64])
     requires { ⌜ (n ≤ maxNodes) × (length (now edges) ≡ rowWords * n) × (i < 8) × (j < 8) × (length (now a) ≡ 64) ⌝ }
     ensures { λ _. ⌜ Loaded (now (edges .entry)) i j 64 (now (a .exit)) ⌝ }
 {

@@ -14,9 +14,9 @@ use borrow.Author.Tests.{eqb-false, eqb-true, eq-eqb, le-ltb, lt-ltb, ltb-false,
 use Rattle.model.specs.Tables.{bitAt, edgeBit}
 use Rattle.model.specs.TestLaws.{and-fst, and-one, and-snd, decide, differ}
 use Rattle.rows.specs.BitLaws.{bit-zero, row-bit, word-bit}
-use Rattle.keys.specs.WalkLaws.{cleared-here, cleared-off, lowest-set, lowest-small}
+use Rattle.buffers.specs.WordBitsLaws.{cleared-here, cleared-off, lowest-set, lowest-small}
 use Rattle.drawing.specs.Drawing.{Added, Adding, oneBit, rowTo}
-use Rattle.drawing.specs.BitLaws.{blank-bit}
+use Rattle.drawing.specs.BitLaws.{added-only}
 use Rattle.drawing.specs.DrawingLaws.{added-as, added-none, added-then, adding-done, adding-start, adding-step}
 use Rattle.compressed.specs.Compressed.{Compressed, placed}
 use Rattle.unfolding.specs.Filling.{
@@ -221,13 +221,9 @@ module _ {n : ℕ} {least kinds joined : List ℕ} (c : Compressed n least kinds
   pub row-room : {size : ℕ} (l : ℕ) → size ≡ 8 * n → RowRoom size joined l
   row-room l e = record { row = λ a h s. omega (arith, c .joins l a h s .1) }
 
-  module _ {members : List ℕ} (m : Added (otherBit n least) (replicate 4096 0) members) (l : ℕ) where
-    blank : (b : ℕ) → edgeBit (replicate 4096 0) l b ≡ false
-    unfolding edgeBit
-    blank b = blank-bit 4096 (8 * l + b / 64) (b % 64)
-
+  module _ {none members : List ℕ} (blank : none ≡ replicate (length none) 0) (m : Added (otherBit n least) none members) (l : ℕ) where
     held : (b : ℕ) → b < 512 → edgeBit members l b ≡ otherBit n least l b
-    held b h = m .bits l b h ∙ ap (λ (z : Bool). z || otherBit n least l b) (blank b)
+    held b h = added-only none blank m l b h
 
     group-one : (a b : ℕ) → b < 512 → (eqb (getD least b 0) l ≡ true) ⊎ (eqb (getD least b 0) l ≡ false) → groupTo kinds joined members l a b ≡ onlyAt (firstMember least) (drawnBit n least kinds joined) l a b
     unfolding groupTo onlyAt drawnBit otherBit isFollower

@@ -10,7 +10,7 @@ use lib.ListN.{getD, length, length-set, set}
 use lib.Seq.{getD-set-same, getD-set-other}
 use borrow.Author.Tests.{eqb-false, eqb-true, eq-eqb, le-ltb, lt-ltb, ltb-false, ltb-true, ne-eqb}
 use Rattle.model.specs.Tables.{bitAt, edgeBit, edgesOf}
-use Rattle.model.specs.TestLaws.{and-fst, decide, differ}
+use Rattle.model.specs.TestLaws.{decide, differ}
 use Rattle.rows.specs.BitLaws.{xor-cond}
 use Rattle.rows.specs.EdgeLaws.{edges-by-bits}
 use Rattle.rows.specs.Rows.{Flipped, Words, leads}
@@ -145,10 +145,6 @@ module _ {n : ℕ} {least kinds joined : List ℕ} (c : Compressed n least kinds
   placed-is : (p : ℕ) → p < n → getD least p 0 < 512 → placed n least p ≡ true
   unfolding placed
   placed-is p h l = rw (lt-ltb p n h, ne-eqb (getD least p 0) 65535 (λ e. omega arith))
-
-  placed-below : (p : ℕ) → placed n least p ≡ true → p < n
-  unfolding placed
-  placed-below p h = ltb-true p n (and-fst (ltb p n) _ h)
 
   leads-is : (p : ℕ) → leads least p ≡ true → getD least p 0 ≡ p
   unfolding leads

@@ -1,24 +1,24 @@
 -- Rows of first members spread over the members of their groups.
 use mathlib.Core.Path.{_≡_, refl, sym, ap, _∙_}
-use mathlib.Core.Bool.{Bool, true, false, not, _&&_, _||_, cond, or-false}
+use mathlib.Core.Bool.{Bool, true, false, not, _&&_, _||_, cond, and-false, or-false}
 use mathlib.Core.List.{List}
 use mathlib.Core.Logic.{_⊎_, inl, inr}
-use Prim.Native.Nat.{ℕ, _+_, _*_, _-_, _/_, _%_, _^_, _≤_, _<_}
+use Prim.Native.Nat.{ℕ, _+_, _*_, _-_, _/_, _%_, _^_, _≤_, _<_, max, min}
 use native.Mathlib.Omega.{arith}
-use lib.Bits.{bitOr, bitXor, or-zero-r}
+use lib.Bits.{bitOr, bitXor}
 use lib.Dec.{eqb, ltb}
 use lib.ListN.{drop, getD, length, length-set, replicate, set, take}
-use lib.Seq.{getD-set-other, getD-set-same, set-getD}
-use borrow.Author.Tests.{eqb-false, eqb-true, eq-eqb, le-ltb, lt-ltb, ltb-false, ltb-true, ne-eqb}
+use lib.Seq.{getD-set-other, getD-set-same}
+use borrow.Author.Tests.{eqb-false, eqb-true, eq-eqb, le-ltb, lt-ltb, ltb-true, ne-eqb}
 use Rattle.model.specs.Tables.{bitAt, edgeBit}
-use Rattle.model.specs.TestLaws.{and-fst, decide, differ}
-use Rattle.rows.specs.BitLaws.{flipped-at, one-shl, row-bit}
+use Rattle.model.specs.TestLaws.{and-fst, and-one, decide, differ, iff-eq}
+use Rattle.rows.specs.BitLaws.{bit-pow, bit-zero, flipped-at, one-shl, row-bit}
+use Rattle.buffers.specs.StoreLaws.{stored, stored-size}
 use Rattle.search.specs.Search.{ownBit}
 use Rattle.search.specs.TwinRowLaws.{own-bit}
 use Rattle.compressed.specs.Compressed.{Compressed, placed, unfolded, unfoldedEdge}
-use Rattle.drawing.specs.Drawing.{oneBit}
-use Rattle.drawing.specs.BitLaws.{bit-or, bit-set, blank-bit}
-use Rattle.unfolding.specs.Unfolding.{FirstsFit, NeighbourRow, Spread, SpreadBut, joinBit, reached}
+use Rattle.drawing.specs.BitLaws.{bit-or}
+use Rattle.unfolding.specs.Unfolding.{FirstsFit, NeighbourRow, Spread, SpreadBut, SpreadWord, joinBit, reached}
 
 -- the bit of one first member
 pub join-none : (row : List ℕ) (l : ℕ) → l ≡ 65535 → _≡_ {A = ℕ} 0 (cond (joinBit row l) 1 0)
@@ -39,63 +39,79 @@ join-some row l i k {x} e d a b =
     let z : l % 64 ≡ k = omega arith in
     rw (ne-eqb l 65535 d, y, z) (odd (getD row i 0 / 2 ^ k))
 
--- a node more, whose bit x is shifted to its place
-pub spread-none : (first : List ℕ) (P : ℕ → Bool) → Spread 0 first P (replicate 8 0)
-unfolding reached placed edgeBit
-spread-none first P = record { size = refl; bits = λ q l. blank-bit 8 (8 * 0 + q / 64) (q % 64) ∙ sym (none q) }
-  where
-    none : (q : ℕ) → ((ltb q 0 && not (eqb (getD first q 0) 65535)) && P (getD first q 0)) ≡ false
-    none q = rw (le-ltb q 0 (omega arith))
-
-module _ {q : ℕ} {first : List ℕ} {P : ℕ → Bool} {all : List ℕ} (h : Spread q first P all) where
-  placed-other : (b : ℕ) → (b ≡ q → ⊥) → ltb b (q + 1) ≡ ltb b q
-  placed-other b d = step (decide (ltb b q))
-    where
-      step : (ltb b q ≡ true) ⊎ (ltb b q ≡ false) → ltb b (q + 1) ≡ ltb b q
-      step (inl t) = let l : b < q = ltb-true b q t in lt-ltb b (q + 1) (omega arith) ∙ sym t
-      step (inr t) = let l : q ≤ b = ltb-false b q t in le-ltb b (q + 1) (omega arith) ∙ sym t
-
-  reached-other : (b : ℕ) → (b ≡ q → ⊥) → reached (q + 1) first P b ≡ reached q first P b
+-- a node is reached among n and among m, if it is below both or neither
+module _ (first : List ℕ) (P : ℕ → Bool) where
+  reached-as : (n m b : ℕ) → ltb b n ≡ ltb b m → reached n first P b ≡ reached m first P b
   unfolding reached placed
-  reached-other b d = rw (placed-other b d)
+  reached-as n m b e = rw e
 
-  reached-last : reached (q + 1) first P q ≡ (not (eqb (getD first q 0) 65535) && P (getD first q 0))
+  reached-no : (n b : ℕ) → n ≤ b → reached n first P b ≡ false
   unfolding reached placed
-  reached-last = rw (lt-ltb q (q + 1) (omega arith))
+  reached-no n b h = rw (le-ltb b n h)
 
-  reached-before : reached q first P q ≡ false
+  reached-last : (q : ℕ) → reached (q + 1) first P q ≡ (not (eqb (getD first q 0) 65535) && P (getD first q 0))
   unfolding reached placed
-  reached-before = rw (le-ltb q q (omega arith))
+  reached-last q = rw (lt-ltb q (q + 1) (omega arith))
 
-  pub spread-more : q < 512 → {i x k : ℕ} → i ≡ q / 64 → x ≡ cond (not (eqb (getD first q 0) 65535) && P (getD first q 0)) 1 0 → k ≡ q % 64
-      → Spread (q + 1) first P (set all i (bitOr (getD all i 0) (x * 2 ^ k % 18446744073709551616)))
-  spread-more l {i} {x} {k} e f g = step (decide (not (eqb (getD first q 0) 65535) && P (getD first q 0)))
-    where
-      step : ((not (eqb (getD first q 0) 65535) && P (getD first q 0)) ≡ true) ⊎ ((not (eqb (getD first q 0) 65535) && P (getD first q 0)) ≡ false)
-          → Spread (q + 1) first P (set all i (bitOr (getD all i 0) (x * 2 ^ k % 18446744073709551616)))
-      step (inl t) =
-          let y : x ≡ 1 = f ∙ ap (λ (z : Bool). cond z 1 0) t in
-          let shl : x * 2 ^ k % 18446744073709551616 ≡ 2 ^ (q % 64) = rw (y, g) (one-shl (q % 64) (omega arith)) in
-          let added = bit-set all 0 q i (x * 2 ^ k % 18446744073709551616) l (omega (arith, h .size)) (omega arith) shl in
-          record { size = added .size ∙ h .size; bits = λ b m. added .bits 0 b m ∙ ap (λ (z : Bool). z || oneBit 0 q 0 b) (h .bits b m) ∙ (unfold oneBit in at b (decide (eqb b q))) }
-        where
-          at : (b : ℕ) → (eqb b q ≡ true) ⊎ (eqb b q ≡ false) → (reached q first P b || (eqb 0 0 && eqb b q)) ≡ reached (q + 1) first P b
-          at b (inl s) = let z : b ≡ q = eqb-true b q s in rw (z, reached-before, eq-eqb q q refl) (sym (reached-last ∙ t))
-          at b (inr s) = let d : b ≡ q → ⊥ = eqb-false b q s in rw (s, reached-other b d) (or-false (reached q first P b))
-      step (inr t) =
-          let y : x ≡ 0 = f ∙ ap (λ (z : Bool). cond z 1 0) t in
-          let shl : x * 2 ^ k % 18446744073709551616 ≡ 0 = rw y (omega arith) in
-          let same : set all i (bitOr (getD all i 0) (x * 2 ^ k % 18446744073709551616)) ≡ all = rw (shl, or-zero-r (getD all i 0)) (set-getD all i 0) in
-          rw same (record { size = h .size; bits = λ b m. h .bits b m ∙ at b (decide (eqb b q)) })
-        where
-          at : (b : ℕ) → (eqb b q ≡ true) ⊎ (eqb b q ≡ false) → reached q first P b ≡ reached (q + 1) first P b
-          at b (inl s) = let z : b ≡ q = eqb-true b q s in rw (z, reached-before) (sym (reached-last ∙ t))
-          at b (inr s) = let d : b ≡ q → ⊥ = eqb-false b q s in sym (reached-other b d)
+same-below : (b n m : ℕ) → (b < n → b < m) → (b < m → b < n) → ltb b n ≡ ltb b m
+same-below b n m f g = iff-eq (ltb b n) (ltb b m) (λ t. lt-ltb b m (f (ltb-true b n t))) (λ t. lt-ltb b n (g (ltb-true b m t)))
 
-pub spread-join : {q : ℕ} {first : List ℕ} (row : List ℕ) {all : List ℕ} → Spread q first (edgeBit row 0) all → q < 512 → {i x k : ℕ} → i ≡ q / 64 → x ≡ cond (joinBit row (getD first q 0)) 1 0 → k ≡ q % 64
-    → Spread (q + 1) first (edgeBit row 0) (set all i (bitOr (getD all i 0) (x * 2 ^ k % 18446744073709551616)))
+-- a bit shifted to its place
+bit-shl : (b : Bool) (k j : ℕ) → k < 64 → bitAt (cond b 1 0 * 2 ^ k % 18446744073709551616) j ≡ (b && eqb j k)
+bit-shl true k j h = rw (one-shl k h) (bit-pow j k)
+bit-shl false k j h = let z : 0 * 2 ^ k % 18446744073709551616 ≡ 0 = omega arith in rw z (bit-zero j)
+
+-- a word, node after node
+pub word-none : (w : ℕ) (first : List ℕ) (P : ℕ → Bool) → SpreadWord w (64 * w) first P 0
+word-none w first P = record { bits = λ k h. bit-zero k ∙ sym (reached-no first P (64 * w) (64 * w + k) (omega arith)) }
+
+pub spread-more : {w q : ℕ} {first : List ℕ} (row : List ℕ) {x : ℕ} → SpreadWord w q first (edgeBit row 0) x → 64 * w ≤ q → q < 64 * w + 64
+    → {y k : ℕ} → y ≡ cond (joinBit row (getD first q 0)) 1 0 → k ≡ q % 64
+    → SpreadWord w (q + 1) first (edgeBit row 0) (bitOr x (y * 2 ^ k % 18446744073709551616))
 unfolding joinBit
-spread-join row h l e f g = spread-more h l e f g
+spread-more {w} {q} {first} row {x} s a b {y} {k} e f = record {
+  bits =
+      λ j h.
+      bit-or x (y * 2 ^ k % 18446744073709551616) j
+      ∙ rw (e, s .bits j h, bit-shl (joinBit row (getD first q 0)) k j (omega arith)) (step j h (decide (eqb j k)));
+}
+  where
+    step : (j : ℕ) → j < 64 → (eqb j k ≡ true) ⊎ (eqb j k ≡ false)
+        → (reached q first (edgeBit row 0) (64 * w + j) || (joinBit row (getD first q 0) && eqb j k)) ≡ reached (q + 1) first (edgeBit row 0) (64 * w + j)
+    step j h (inl t) =
+        let z : 64 * w + j ≡ q = omega (arith, eqb-true j k t) in
+        rw (t, z, reached-no first (edgeBit row 0) q q (omega arith)) (and-one (joinBit row (getD first q 0)) ∙ sym (reached-last first (edgeBit row 0) q))
+    step j h (inr t) =
+        let d : j ≡ k → ⊥ = eqb-false j k t in
+        rw (t, and-false (joinBit row (getD first q 0)), or-false (reached q first (edgeBit row 0) (64 * w + j)))
+        (reached-as first (edgeBit row 0) q (q + 1) (64 * w + j) (same-below (64 * w + j) q (q + 1) (λ l. omega arith) (λ l. omega arith)))
+
+pub spread-done : {w q n : ℕ} {first : List ℕ} {P : ℕ → Bool} {x : ℕ} → SpreadWord w q first P x → 64 * w ≤ q → q ≤ max (64 * w) (min n (64 * w + 64)) → min n (64 * w + 64) ≤ q
+    → SpreadWord w n first P x
+spread-done {w} {q} {n} {first} {P} s a b c = record { bits = λ k h. s .bits k h ∙ reached-as first P q n (64 * w + k) (same-below (64 * w + k) q n (λ l. omega arith) (λ l. omega arith)) }
+
+-- a row, the first w words
+pub record Spreading (w n : ℕ) (first : List ℕ) (P : ℕ → Bool) (all : List ℕ) : Type 0 where
+  pub size : length all ≡ 8
+  pub words : (i : ℕ) → i < w → SpreadWord i n first P (getD all i 0)
+
+pub spreading-none : (n : ℕ) (first : List ℕ) (P : ℕ → Bool) → Spreading 0 n first P (replicate 8 0)
+spreading-none n first P = record { size = refl; words = λ i h. absurd (omega arith) }
+
+pub spreading-more : {w n : ℕ} {first : List ℕ} {P : ℕ → Bool} {all : List ℕ} {x : ℕ} → Spreading w n first P all → w < 8 → SpreadWord w n first P x → Spreading (w + 1) n first P (set all w x)
+spreading-more {w} {n} {first} {P} {all} {x} s h y =
+    let fits : w < length all = omega (arith, s .size) in
+    record { size = stored-size all w x fits (s .size); words = stored all w x fits (λ i z. SpreadWord i n first P z) (s .words) y }
+
+pub spreading-done : {w n : ℕ} {first : List ℕ} {P : ℕ → Bool} {all : List ℕ} → Spreading w n first P all → 8 ≤ w → Spread n first P all
+unfolding edgeBit
+spreading-done {w} {n} {first} {P} {all} s h = record { size = s .size; bits = bits }
+  where
+    bits : (q : ℕ) → q < 512 → bitAt (getD all (8 * 0 + q / 64) 0) (q % 64) ≡ reached n first P q
+    bits q l =
+        let y : 8 * 0 + q / 64 ≡ q / 64 = omega arith in
+        let z : 64 * (q / 64) + q % 64 ≡ q = omega arith in
+        rw y (s .words (q / 64) (omega arith) .bits (q % 64) (omega arith) ∙ ap (reached n first P) z)
 
 -- the row of a clique with its own first member put in, the first w words
 pub record Owning (row : List ℕ) (l w : ℕ) (own : List ℕ) : Type 0 where

@@ -2,11 +2,11 @@
 use mathlib.Core.Path.{_≡_}
 use mathlib.Core.Bool.{Bool, not, _&&_, cond}
 use mathlib.Core.List.{List}
-use Prim.Native.Nat.{ℕ, _<_}
+use Prim.Native.Nat.{ℕ, _+_, _*_, _<_}
 use lib.Dec.{eqb}
 use lib.ListN.{length, getD}
 use Rattle.model.specs.Graph.{maxNodes, rowWords}
-use Rattle.model.specs.Tables.{edgeBit}
+use Rattle.model.specs.Tables.{bitAt, edgeBit}
 use Rattle.rows.specs.Rows.{noNode}
 use Rattle.compressed.specs.Compressed.{placed, unfolded}
 
@@ -34,3 +34,7 @@ pub record Spread (n : ℕ) (first : List ℕ) (P : ℕ → Bool) (row : List �
 -- and p's bit is the other way
 pub record SpreadBut (p n : ℕ) (first : List ℕ) (P : ℕ → Bool) (row : List ℕ) : Type 0 where
   pub bits : (q : ℕ) → q < maxNodes → edgeBit row 0 q ≡ cond (eqb q p) (not (reached n first P q)) (reached n first P q)
+
+-- a word of a row has the bits of its nodes whose first members are chosen
+pub record SpreadWord (w n : ℕ) (first : List ℕ) (P : ℕ → Bool) (x : ℕ) : Type 0 where
+  pub bits : (k : ℕ) → k < 64 → bitAt x k ≡ reached n first P (64 * w + k)

@@ -1,7 +1,7 @@
 // The edge table of a graph held by its groups.
 ghost use mathlib.Core.Path.{_≡_};
 ghost use Prim.Native.Nat.{_+_, _*_, _≤_, _<_};
-ghost use lib.ListN.{getD, length};
+ghost use lib.ListN.{getD, length, replicate};
 ghost use Rattle.model.specs.Graph.{maxNodes, rowWords};
 ghost use Rattle.model.specs.Tables.{edgesOf};
 ghost use Rattle.compressed.specs.Compressed.{Compressed, unfolded};
@@ -24,6 +24,7 @@ ghost use Rattle.unfolding.specs.Filling.{
 };
 use compressed::CLIQUE;
 use compressed::SINGLE;
+use compressed::SMALL;
 use rows::Graph;
 
 fn copy_words(from: &[u64], to: &mut [u64])
@@ -37,7 +38,7 @@ fn copy_words(from: &[u64], to: &mut [u64])
 
 // Node p put into the row of its first member, if that is another node.
 fn put_other(least: &[u16], p: usize, members: &mut [u64])
-    requires { ⌜ (p < maxNodes) × (p < length (now least)) × (length (now members) ≡ rowWords * maxNodes) ⌝ }
+    requires { ⌜ (p < maxNodes) × (p < length (now least)) × (rowWords * p + rowWords ≤ length (now members)) ⌝ }
     ensures { λ _. ⌜ Added (otherAt (now (least .entry)) p) (now (members .entry)) (now (members .exit)) ⌝ }
 {
     let l = rows::wide(least[p]);
@@ -48,7 +49,7 @@ fn put_other(least: &[u16], p: usize, members: &mut [u64])
 
 // The members of each group but its first, as a row of that one.
 fn other_members(least: &[u16], n: usize, members: &mut [u64])
-    requires { ⌜ (n ≤ maxNodes) × (n ≤ length (now least)) × (length (now members) ≡ rowWords * maxNodes) ⌝ }
+    requires { ⌜ (n ≤ maxNodes) × (n ≤ length (now least)) × (rowWords * n ≤ length (now members)) ⌝ }
     ensures { λ _. ⌜ Added (otherBit n (now (least .entry))) (now (members .entry)) (now (members .exit)) ⌝ }
 {
     for p in 0..n {
@@ -70,7 +71,7 @@ fn draw_each(edges: &mut [u64], word: u64, w: usize, set: &[u64])
 
 // A set put into the rows of the nodes of l's row.
 fn draw_joined(edges: &mut [u64], joined: &[u64], l: usize, set: &[u64])
-    requires { ⌜ (l < maxNodes) × (length (now joined) ≡ rowWords * maxNodes) × RowRoom (length (now edges)) (now joined) l × (rowWords ≤ length (now set)) ⌝ }
+    requires { ⌜ (l < maxNodes) × (rowWords * l + rowWords ≤ length (now joined)) × RowRoom (length (now edges)) (now joined) l × (rowWords ≤ length (now set)) ⌝ }
     ensures { λ _. ⌜ Added (joinedTo (now (joined .entry)) l (now (set .entry))) (now (edges .entry)) (now (edges .exit)) ⌝ }
 {
     let a = Graph::ROW_WORDS * l;
@@ -91,7 +92,7 @@ fn draw_own(edges: &mut [u64], l: usize, set: &[u64], kind: u16)
 
 // The other members of l's group put into the rows of first members that are to have them.
 fn draw_group(kinds: &[u16], joined: &[u64], members: &[u64], l: usize, edges: &mut [u64])
-    requires { ⌜ (l < maxNodes) × (l < length (now kinds)) × (length (now joined) ≡ rowWords * maxNodes) × (length (now members) ≡ rowWords * maxNodes) ⌝ }
+    requires { ⌜ (l < maxNodes) × (l < length (now kinds)) × (rowWords * l + rowWords ≤ length (now joined)) × (rowWords * l + rowWords ≤ length (now members)) ⌝ }
     requires { ⌜ (rowWords * l + rowWords ≤ length (now edges)) × RowRoom (length (now edges)) (now joined) l ⌝ }
     ensures { λ _. ⌜ Added (groupTo (now (kinds .entry)) (now (joined .entry)) (now (members .entry)) l) (now (edges .entry)) (now (edges .exit)) ⌝ }
 {
@@ -103,16 +104,37 @@ fn draw_group(kinds: &[u16], joined: &[u64], members: &[u64], l: usize, edges: &
     }
 }
 
-// The same for all groups. The bits of first members are there already.
+// The same for all groups, whose members are put into rows without a bit. The bits of first members are there already.
+fn draw_members(
+    least: &[u16],
+    kinds: &[u16],
+    joined: &[u64],
+    n: usize,
+    members: &mut [u64],
+    edges: &mut [u64],
+)
+    requires { ⌜ Compressed n (now least) (now kinds) (now joined) × (length (now edges) ≡ rowWords * n) ⌝ }
+    requires { ⌜ (now members ≡ replicate (length (now members)) 0) × (rowWords * n ≤ length (now members)) ⌝ }
+    ensures { λ _. ⌜ Added (drawnBit n (now (least .entry)) (now (kinds .entry)) (now (joined .entry))) (now (edges .entry)) (now (edges .exit)) ⌝ }
+{
+    other_members(least, n, members);
+    for l in 0..n {
+        draw_group(kinds, joined, members, l, edges);
+    }
+}
+
+// The same, with rows for as many nodes as a small graph has, or for all.
 fn draw_groups(least: &[u16], kinds: &[u16], joined: &[u64], n: usize, edges: &mut [u64])
     requires { ⌜ Compressed n (now least) (now kinds) (now joined) × (length (now edges) ≡ rowWords * n) ⌝ }
     ensures { λ _. ⌜ Added (drawnBit n (now (least .entry)) (now (kinds .entry)) (now (joined .entry))) (now (edges .entry)) (now (edges .exit)) ⌝ }
 {
-    let mut members = [0u64; Graph::NODES * Graph::ROW_WORDS];
-    other_members(least, n, &mut members);
-    for l in 0..n {
-        draw_group(kinds, joined, &members, l, edges);
+    if n <= SMALL {
+        let mut members = [0u64; SMALL * Graph::ROW_WORDS];
+        draw_members(least, kinds, joined, n, &mut members, edges);
+        return;
     }
+    let mut members = [0u64; Graph::NODES * Graph::ROW_WORDS];
+    draw_members(least, kinds, joined, n, &mut members, edges);
 }
 
 // Row l copied to p.

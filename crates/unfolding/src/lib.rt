@@ -2,13 +2,13 @@
 ghost use mathlib.Core.Path.{_≡_};
 ghost use mathlib.Core.Bool.{true, cond, _||_};
 ghost use lib.Dec.{eqb};
-ghost use Prim.Native.Nat.{_+_, _*_, _≤_, _<_};
+ghost use Prim.Native.Nat.{_+_, _*_, _≤_, _<_, min};
 ghost use lib.ListN.{length};
 ghost use Rattle.model.specs.Graph.{maxNodes, rowWords};
 ghost use Rattle.model.specs.Tables.{edgeBit};
 ghost use Rattle.rows.specs.Rows.{noNode};
 ghost use Rattle.compressed.specs.Compressed.{Compressed, placed};
-ghost use Rattle.unfolding.specs.Unfolding.{FirstsFit, NeighbourRow, Spread, SpreadBut, joinBit};
+ghost use Rattle.unfolding.specs.Unfolding.{FirstsFit, NeighbourRow, Spread, SpreadBut, SpreadWord, joinBit};
 use compressed::CLIQUE;
 use rows::Graph;
 
@@ -28,15 +28,38 @@ fn join_bit(row: &[u64], first: u16) -> u64
     (row[rows::word_of(l)] >> rows::bit_of(l)) % 2
 }
 
+// Where the nodes of word w end, of n.
+fn word_end(n: usize, w: usize) -> usize
+    requires { ⌜ w < rowWords ⌝ }
+    ensures { λ r. ⌜ r ≡ min n (64 * w + 64) ⌝ }
+{
+    let end = 64 * w + 64;
+    if n < end {
+        return n;
+    }
+    end
+}
+
+// The nodes of word w whose first members are in a row.
+fn spread_word(least: &[u16], n: usize, row: &[u64], w: usize) -> u64
+    requires { ⌜ (w < rowWords) × (n ≤ length (now least)) × FirstsFit n (now least) × (length (now row) ≡ rowWords) ⌝ }
+    ensures { λ r. ⌜ SpreadWord w n (now (least .entry)) (edgeBit (now (row .entry)) 0) r ⌝ }
+{
+    let mut bits = 0u64;
+    for q in 64 * w..word_end(n, w) {
+        bits = bits | (join_bit(row, least[q]) << rows::bit_of(q));
+    }
+    bits
+}
+
 // The nodes whose first members are in a row.
 fn spread(least: &[u16], n: usize, row: &[u64]) -> [u64; 8]
     requires { ⌜ (n ≤ maxNodes) × (n ≤ length (now least)) × FirstsFit n (now least) × (length (now row) ≡ rowWords) ⌝ }
     ensures { λ r. ⌜ Spread n (now (least .entry)) (edgeBit (now (row .entry)) 0) r ⌝ }
 {
     let mut all = [0u64; 8];
-    for q in 0..n {
-        let w = rows::word_of(q);
-        all[w] = all[w] | (join_bit(row, least[q]) << rows::bit_of(q));
+    for w in 0..Graph::ROW_WORDS {
+        all[w] = spread_word(least, n, row, w);
     }
     all
 }

@@ -13,8 +13,7 @@ slice-aggregate-are-all-apart-2 c = search needs
 
 are-all-apart-requires : tie.Need-are-all-apart-requires
 are-all-apart-requires c κs =
-    let pre = c .before .before .before .before .before .pre in
-    (pre .0, pre .1, pre .2, pre .3, links-none, links-none)
+    (c .before .before .before .before .before .before .pre, (links-none, links-none))
 
 returns : tie.Need-returns
 returns c = search needs

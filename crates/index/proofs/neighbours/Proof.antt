@@ -42,31 +42,32 @@ part-row-end c =
 count-neighbours-requires : tie.Need-count-neighbours-requires
 count-neighbours-requires c κs =
     let s = table-sized _ _ _ (c .before .before .before .refusal .ensures) (c .before .before .if1 .left) in
-    (s .small, simp (length-take, length-drop) (omega (arith, s .edges, c .before .if2 .left)))
+    simp (length-take, length-drop) (omega (arith, s .edges, c .before .if2 .left))
 
 returns-3 : tie.Need-returns-3
 returns-3 c =
-    let s = table-sized _ _ _ (c .before .before .before .before .before .refusal .ensures) (c .before .before .before .before .if1 .left) in
-    neighbours-short _ _ _ _ _ (c .before .before .before .before .before .refusal .ensures) (c .before .before .before .before .if1 .left) _ (c .before .before .before .if2 .left) (c .before .count-neighbours .ensures ∙ ap length (scan-row _ _ _ (s .small))) (c .if3 .taken)
+    let l = c .before .before .before in
+    neighbours-short _ _ _ _ _ (l .before .before .refusal .ensures) (l .before .if1 .left) _ (l .if2 .left) (c .before .count-neighbours .ensures ∙ ap length (scan-row _ _)) (c .if3 .taken)
 
 write-neighbours-requires : tie.Need-write-neighbours-requires
 write-neighbours-requires c κs =
     let s = table-sized _ _ _ (c .before .before .before .before .before .before .refusal .ensures) (c .before .before .before .before .before .if1 .left) in
-    (s .small, simp (length-take, length-drop) (omega (arith, s .edges, c .before .before .before .before .if2 .left)), rw (c .before .before .count-neighbours .ensures) at (c .before .if3 .left))
+    (simp (length-take, length-drop) (omega (arith, s .edges, c .before .before .before .before .if2 .left)), rw (c .before .before .count-neighbours .ensures) at (c .before .if3 .left))
 
 cast-t21 : tie.Need-cast-t21
 cast-t21 c =
-    let s = table-sized _ _ _ (c .before .before .before .before .before .before .before .before .before .refusal .ensures) (c .before .before .before .before .before .before .before .before .if1 .left) in
     let k = scan-small _ _ _ (c .before .before .before .before .before .count-neighbours .ensures) in
-    omega (arith, s .small)
+    omega arith
 
 same-length : tie.Need-same-length
 same-length c = search needs
 
 returns-4 : tie.Need-returns-4
 returns-4 c =
-    let s = table-sized _ _ _ (c .before .before .before .before .before .before .before .before .before .refusal .ensures) (c .before .before .before .before .before .before .before .before .if1 .left) in
-    neighbours-done _ _ _ _ _ (c .before .before .before .before .before .before .before .before .before .refusal .ensures) (c .before .before .before .before .before .before .before .before .if1 .left) _ (c .before .before .before .before .before .before .before .if2 .left) (c .before .before .before .before .before .count-neighbours .ensures ∙ ap length (scan-row _ _ _ (s .small))) (c .before .before .before .before .if3 .left) (c .before .before .write-neighbours .ensures ∙ ap (sets _ 0) (scan-row _ _ _ (s .small)))
+    let k = c .before .before .before .before .before in
+    let l = k .before .before in
+    neighbours-done _ _ _ _ _ (l .before .before .refusal .ensures) (l .before .if1 .left) _ (l .if2 .left) (k .count-neighbours .ensures ∙ ap length (scan-row _ _)) (c .before .before .before .before .if3 .left)
+    (c .before .before .write-neighbours .ensures ∙ ap (sets _ 0) (scan-row _ _))
 
 pub neighbours-spec : {M : Type 1} → statement M
 neighbours-spec =

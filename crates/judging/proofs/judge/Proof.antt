@@ -2,7 +2,7 @@
 use native.Mathlib.Omega.{arith}
 use borrow.Author.Needs.{needs}
 use borrow.Author.Tests.{not-false, not-true}
-use Rattle.judging.specs.JudgeLaws.{apart-asked, judged-none, judged-other, judged-release}
+use Rattle.judging.specs.JudgeLaws.{apart-asked, judged-none, judged-other, judged-release, nodes-few}
 use Rattle.judging.proofs.judge.Statement.{statement}
 use Rattle.judging.proofs.judge.Tie as tie
 
@@ -24,14 +24,17 @@ same-length-2 c = search needs
 same-length-3 : tie.Need-same-length-3
 same-length-3 c = search needs
 
-returns : tie.Need-returns
-returns c = judged-none _ (c .before .before .before .before .before .before .before .before .decode .ensures) (c .enum-told .given .1)
-
-are-apart-requires : tie.Need-are-apart-requires
-are-apart-requires c κs = apart-asked (c .before .before .before .before .before .before .before .before .before .before .before .before .before .before .before .before .before .before .before .before .args .file .now) (λ i. omega (arith, c .before .before .before .before .before .before .before .before .before .before .before .before .before .before .before .before .before .before .before .shared-slice-known .given i)) _ (c .before .before .before .before .before .before .before .before .before .before .before .before .decode .ensures) (c .before .before .before .before .told .given .1) (λ i. omega (arith, c .before .before .before .before .before .before .slice-known6 .given i))
-
 same-length-4 : tie.Need-same-length-4
 same-length-4 c = search needs
+
+returns : tie.Need-returns
+returns c = judged-none _ (c .before .before .before .before .before .before .before .before .before .before .decode .ensures .0) (c .enum-told .given .1)
+
+are-few-requires : tie.Need-are-few-requires
+are-few-requires c κs = nodes-few (c .before .before .before .before .before .before .before .before .before .before .before .before .before .before .before .before .before .before .before .before .before .args .file .now) (λ i. omega (arith, c .before .before .before .before .before .before .before .before .before .before .before .before .before .before .before .before .before .before .before .before .shared-slice-known .given i)) _ (c .before .before .before .before .before .before .before .before .before .before .before .decode .ensures .0) (c .before .before .before .before .before .before .before .before .before .before .before .decode .ensures .1) (c .before .told .given .1) (λ i. omega (arith, c .before .before .before .before .before .slice-known7 .given i))
+
+are-apart-requires : tie.Need-are-apart-requires
+are-apart-requires c κs = apart-asked (c .before .before .before .before .before .before .before .before .before .before .before .before .before .before .before .before .before .before .before .before .before .before .before .before .before .before .args .file .now) (λ i. omega (arith, c .before .before .before .before .before .before .before .before .before .before .before .before .before .before .before .before .before .before .before .before .before .before .before .before .before .shared-slice-known .given i)) _ (c .before .before .before .before .before .before .before .before .before .before .before .before .before .before .before .before .decode .ensures .0) (c .before .before .before .before .before .before .before .before .before .before .before .before .before .before .before .before .decode .ensures .1) (c .before .before .before .before .before .before .told .given .1) (λ i. omega (arith, c .before .before .before .before .before .before .before .before .before .before .slice-known7 .given i)) (c .before .before .before .before .are-few .ensures)
 
 same-length-5 : tie.Need-same-length-5
 same-length-5 c = search needs
@@ -39,20 +42,29 @@ same-length-5 c = search needs
 same-length-6 : tie.Need-same-length-6
 same-length-6 c = search needs
 
-returns-2 : tie.Need-returns-2
-returns-2 c = judged-other (c .before .before .before .before .before .before .before .before .before .before .before .before .before .before .before .before .before .before .before .before .before .before .args .file .now) (λ i. omega (arith, c .before .before .before .before .before .before .before .before .before .before .before .before .before .before .before .before .before .before .before .before .before .shared-slice-known .given i)) _ (c .before .before .before .before .before .before .before .before .before .before .before .before .before .before .decode .ensures) (c .before .before .before .before .before .before .told .given .1) (λ i. omega (arith, c .before .before .before .before .before .before .before .before .slice-known6 .given i)) (c .before .are-apart .ensures) (not-true _ (c .if1 .taken))
-
 same-length-7 : tie.Need-same-length-7
 same-length-7 c = search needs
 
 same-length-8 : tie.Need-same-length-8
 same-length-8 c = search needs
 
+returns-2 : tie.Need-returns-2
+returns-2 c = judged-other (c .before .before .before .before .before .before .before .before .before .before .before .before .before .before .before .before .before .before .before .before .before .before .before .before .before .before .before .before .args .file .now) (λ i. omega (arith, c .before .before .before .before .before .before .before .before .before .before .before .before .before .before .before .before .before .before .before .before .before .before .before .before .before .before .before .shared-slice-known .given i)) _ (c .before .before .before .before .before .before .before .before .before .before .before .before .before .before .before .before .before .before .decode .ensures .0) (c .before .before .before .before .before .before .before .before .before .before .before .before .before .before .before .before .before .before .decode .ensures .1) (c .before .before .before .before .before .before .before .before .told .given .1) (λ i. omega (arith, c .before .before .before .before .before .before .before .before .before .before .before .before .slice-known7 .given i)) (c .before .are-apart .ensures) (not-true _ (c .if1 .taken))
+
 same-length-9 : tie.Need-same-length-9
 same-length-9 c = search needs
 
+same-length-10 : tie.Need-same-length-10
+same-length-10 c = search needs
+
+same-length-11 : tie.Need-same-length-11
+same-length-11 c = search needs
+
+same-length-12 : tie.Need-same-length-12
+same-length-12 c = search needs
+
 returns-3 : tie.Need-returns-3
-returns-3 c = judged-release (c .before .before .before .before .before .before .before .before .before .before .before .before .before .before .before .before .before .before .before .before .before .before .args .file .now) (λ i. omega (arith, c .before .before .before .before .before .before .before .before .before .before .before .before .before .before .before .before .before .before .before .before .before .shared-slice-known .given i)) _ (c .before .before .before .before .before .before .before .before .before .before .before .before .before .before .decode .ensures) (c .before .before .before .before .before .before .told .given .1) (λ i. omega (arith, c .before .before .before .before .before .before .before .before .slice-known6 .given i)) (c .before .are-apart .ensures) (not-false _ (c .if1 .left))
+returns-3 c = judged-release (c .before .before .before .before .before .before .before .before .before .before .before .before .before .before .before .before .before .before .before .before .before .before .before .before .before .before .before .before .args .file .now) (λ i. omega (arith, c .before .before .before .before .before .before .before .before .before .before .before .before .before .before .before .before .before .before .before .before .before .before .before .before .before .before .before .shared-slice-known .given i)) _ (c .before .before .before .before .before .before .before .before .before .before .before .before .before .before .before .before .before .before .decode .ensures .0) (c .before .before .before .before .before .before .before .before .before .before .before .before .before .before .before .before .before .before .decode .ensures .1) (c .before .before .before .before .before .before .before .before .told .given .1) (λ i. omega (arith, c .before .before .before .before .before .before .before .before .before .before .before .before .slice-known7 .given i)) (c .before .are-apart .ensures) (not-false _ (c .if1 .left))
 
 pub judge-spec : {M : Type 1} → statement M
 judge-spec =
@@ -64,13 +76,17 @@ judge-spec =
     same-length
     same-length-2
     same-length-3
-    returns
-    are-apart-requires
     same-length-4
+    returns
+    are-few-requires
+    are-apart-requires
     same-length-5
     same-length-6
-    returns-2
     same-length-7
     same-length-8
+    returns-2
     same-length-9
+    same-length-10
+    same-length-11
+    same-length-12
     returns-3)

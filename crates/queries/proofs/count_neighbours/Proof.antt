@@ -1,43 +1,57 @@
 -- `queries::count_neighbours` meets its contract.
-use mathlib.Core.Logic.{⊎-elim}
-use mathlib.Core.Path.{sym, _∙_}
-use Prim.Native.Nat.{_-_, _≤_}
+use Prim.Native.Nat.{_*_, _-_, _≤_}
 use native.Mathlib.Omega.{arith}
-use lib.ListN.{length}
+use lib.Count.{ones-le}
+use lib.ListN.{getD, length}
 use Rattle.buffers.specs.Scan.{scan, Counting}
-use Rattle.buffers.specs.ScanLaws.{counting-start, counting-yes, counting-no, counting-done}
+use Rattle.buffers.specs.ScanLaws.{counting-start, counting-done}
 use Rattle.model.specs.Tables.{edgeBit}
+use Rattle.queries.specs.QueryLaws.{row-counted}
 use Rattle.queries.proofs.count_neighbours.Statement.{statement}
 use Rattle.queries.proofs.count_neighbours.Tie as tie
 
 abbrev Inv-loop : tie.InvT-loop
-Inv-loop row n count₀ q₀ count q = (count ≤ q) × Counting (edgeBit row 0) n (length (scan (edgeBit row 0) n 0)) count q
+Inv-loop row count₀ w₀ count w = (w ≤ 8) × (count ≤ 64 * w) × Counting (edgeBit row 0) 512 (length (scan (edgeBit row 0) 512 0)) count (64 * w)
 
 abbrev μ-loop : tie.MeasureT-loop
-μ-loop row n count₀ q₀ count q = n - q
+μ-loop row count₀ w₀ count w = 8 - w
 
 loop-holds : tie.Need-loop-holds Inv-loop μ-loop
-loop-holds c = (omega arith, counting-start _ _ _)
+loop-holds c = (omega arith, omega arith, counting-start _ _ _)
 
-edge-requires : tie.Need-edge-requires Inv-loop μ-loop
-edge-requires c κs = omega arith
+mul-count : tie.Need-mul-count Inv-loop μ-loop
+mul-count c = omega arith
+
+shared-slice-read-count : tie.Need-shared-slice-read-count Inv-loop μ-loop
+shared-slice-read-count c = omega arith
+
+cast-count : tie.Need-cast-count Inv-loop μ-loop
+cast-count c =
+    let l = c .before .before in
+    let k = ones-le 64 (getD (l .before .args .row .now) (l .loop .w) 0) (c .shared-slice-known .given (l .loop .w) .fits) in
+    omega arith
 
 add-count : tie.Need-add-count Inv-loop μ-loop
-add-count c = omega arith
+add-count c =
+    let l = c .before .before in
+    let k = ones-le 64 (getD (l .before .args .row .now) (l .loop .w) 0) (c .shared-slice-known .given (l .loop .w) .fits) in
+    omega arith
 
-add-q : tie.Need-add-q Inv-loop μ-loop
-add-q c = omega arith
+add-w : tie.Need-add-w Inv-loop μ-loop
+add-w c = omega arith
 
 loop-less : tie.Need-loop-less Inv-loop μ-loop
 loop-less c = omega arith
 
 loop-again : tie.Need-loop-again Inv-loop μ-loop
 loop-again c =
-    let l = c .before .before .before in
-    ⊎-elim (λ w. (omega arith, rw (w .1) (counting-yes (l .loop .inv .1) (c .before .before .loop-test .taken) (sym (c .before .edge .ensures) ∙ w .0 .taken)))) (λ w. (omega arith, rw (w .1) (counting-no (l .loop .inv .1) (c .before .before .loop-test .taken) (sym (c .before .edge .ensures) ∙ w .0 .left)))) (c .if1 .came)
+    let l = c .before .before in
+    let f = c .shared-slice-known .given (l .loop .w) .fits in
+    let k = ones-le 64 (getD (l .before .args .row .now) (l .loop .w) 0) f in
+    (omega arith, omega arith, row-counted _ _ (c .before .loop-test .taken) (l .loop .inv .2) f)
 
 returns : tie.Need-returns Inv-loop μ-loop
-returns c = counting-done (c .before .loop .inv .1) (c .loop-test .left)
+returns c = counting-done (c .before .loop .inv .2) (omega arith)
 
 pub count-neighbours-spec : {M : Type 1} → statement M
 count-neighbours-spec =
@@ -46,9 +60,11 @@ count-neighbours-spec =
     Inv-loop
     μ-loop
     loop-holds
-    edge-requires
+    mul-count
+    shared-slice-read-count
+    cast-count
     add-count
-    add-q
+    add-w
     loop-less
     loop-again
     returns)

@@ -2,7 +2,7 @@
 use Prim.Native.Nat.{ℕ}
 use borrow.Author.Needs.{needs}
 use lib.ListN.{length-replicate}
-use Rattle.reader.specs.DecodingLaws.{blank-rows, body-broken, body-placed, body-read}
+use Rattle.reader.specs.DecodingLaws.{body-ascend, body-broken, body-nodes, body-placed, body-read}
 use Rattle.reader.proofs.read_body.Statement.{statement}
 use Rattle.reader.proofs.read_body.Tie as tie
 
@@ -25,13 +25,23 @@ same-length-2 : tie.Need-same-length-2
 same-length-2 c = search needs
 
 returns : tie.Need-returns
-returns c = body-broken _ _ _ _ _ _ _ _ _ _ _ _ _ (c .before .before .before .before .before .before .before .before .before .before .before .before .before .before .before .pre .0) (c .before .before .before .before .before .before .before .before .before .before .before .before .before .before .before .pre .3) (c .before .before .before .before .before .before .before .read-groups .ensures) (c .enum-told .given .1)
+returns c = let pre = c .before .before .before .before .before .before .before .before .before .before .before .before .before .before .before .before .pre in body-broken _ _ _ _ _ _ _ _ _ _ _ _ _ (pre .0) (pre .3) (pre .4) (c .before .before .before .before .before .before .before .read-groups .ensures) (pre .5) (c .enum-told .given .1)
 
-slice-aggregate-read-superedges : tie.Need-slice-aggregate-read-superedges
-slice-aggregate-read-superedges c = search needs
+slice-aggregate-read-joined : tie.Need-slice-aggregate-read-joined
+slice-aggregate-read-joined c = search needs
 
-read-superedges-requires : tie.Need-read-superedges-requires
-read-superedges-requires c κs = (body-placed _ _ _ _ _ _ _ _ _ _ _ _ _ (c .before .before .before .before .before .before .before .before .before .before .before .before .before .before .before .before .before .before .pre .0) (c .before .before .before .before .before .before .before .before .before .before .before .before .before .before .before .before .before .before .pre .3) (c .before .before .before .before .before .before .before .before .before .before .read-groups .ensures) _ _ (c .before .before .before .next .given .1) (c .before .before .before .before .before .before .before .before .before .before .before .before .before .before .before .before .before .before .pre .2) (length-replicate {A = ℕ} 512 0), blank-rows _ _ _ (c .before .before .before .before .before .before .before .before .before .before .before .before .before .before .before .before .before .before .pre .3))
+read-joined-requires : tie.Need-read-joined-requires
+read-joined-requires c κs =
+    let pre = c .before .before .before .before .before .before .before .before .before .before .before .before .before .before .before .before .before .before .before .before .before .pre in
+    let groups = c .before .before .before .before .before .before .before .before .before .before .before .before .read-groups .ensures in
+    let whole = c .before .before .before .before .before .next .given .1 in (
+      (
+        body-nodes _ _ _ _ _ _ _ _ _ _ _ _ _ (pre .0) (pre .3) (pre .4) groups _ _ whole (pre .1),
+        body-placed _ _ _ _ _ _ _ _ _ _ _ _ _ (pre .0) (pre .3) (pre .4) groups _ _ whole (pre .1) (pre .2) (length-replicate {A = ℕ} 512 0),
+        body-ascend _ _ _ _ _ _ _ _ _ _ _ _ _ (pre .0) (pre .3) (pre .4) groups _ _ whole,
+      ),
+      (pre .3 .rows .bits, pre .4, pre .5),
+    )
 
 is-end-requires : tie.Need-is-end-requires
 is-end-requires c κs = search needs
@@ -45,8 +55,13 @@ same-length-4 c = search needs
 same-length-5 : tie.Need-same-length-5
 same-length-5 c = search needs
 
+same-length-6 : tie.Need-same-length-6
+same-length-6 c = search needs
+
 returns-2 : tie.Need-returns-2
-returns-2 c = body-read _ _ _ _ _ _ _ _ _ _ _ _ _ (c .before .before .before .before .before .before .before .before .before .before .before .before .before .before .before .before .before .before .before .before .before .before .pre .0) (c .before .before .before .before .before .before .before .before .before .before .before .before .before .before .before .before .before .before .before .before .before .before .pre .3) (c .before .before .before .before .before .before .before .before .before .before .before .before .before .before .read-groups .ensures) _ _ (c .before .before .before .before .before .before .before .next .given .1) _ _ _ (c .before .before .before .read-superedges .ensures) (c .is-end .ensures)
+returns-2 c =
+    let pre = c .before .before .before .before .before .before .before .before .before .before .before .before .before .before .before .before .before .before .before .before .before .before .before .before .before .before .before .pre in
+    body-read _ _ _ _ _ _ _ _ _ _ _ _ _ (pre .0) (pre .3) (pre .4) (c .before .before .before .before .before .before .before .before .before .before .before .before .before .before .before .before .before .before .read-groups .ensures) _ _ (c .before .before .before .before .before .before .before .before .before .before .before .next .given .1) _ _ _ _ (c .before .before .before .before .before .read-joined .ensures) (c .is-end .ensures)
 
 pub read-body-spec : {M : Type 1} → statement M
 read-body-spec =
@@ -59,10 +74,11 @@ read-body-spec =
     same-length
     same-length-2
     returns
-    slice-aggregate-read-superedges
-    read-superedges-requires
+    slice-aggregate-read-joined
+    read-joined-requires
     is-end-requires
     same-length-3
     same-length-4
     same-length-5
+    same-length-6
     returns-2)

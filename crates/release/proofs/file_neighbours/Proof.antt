@@ -1,114 +1,47 @@
 -- `release::file_neighbours` meets its contract.
-use mathlib.Core.Path.{_∙_}
-use mathlib.Core.List.{[]}
-use native.Mathlib.Omega.{arith}
 use borrow.Author.Needs.{needs}
-use Rattle.release.specs.ReadLaws.{ask-hidden, ask-none, ask-outside, ask-placed, ask-row}
+use native.Mathlib.Omega.{arith}
+use Rattle.reader.specs.DecodingLaws.{blank-rows}
 use Rattle.release.proofs.file_neighbours.Statement.{statement}
 use Rattle.release.proofs.file_neighbours.Tie as tie
 
-slice-aggregate-judge : tie.Need-slice-aggregate-judge
-slice-aggregate-judge c = search needs
+is-small-requires : tie.Need-is-small-requires
+is-small-requires c κs = search needs
 
-slice-aggregate-judge-2 : tie.Need-slice-aggregate-judge-2
-slice-aggregate-judge-2 c = search needs
+slice-aggregate-ask-with : tie.Need-slice-aggregate-ask-with
+slice-aggregate-ask-with c = search needs
 
-slice-aggregate-judge-3 : tie.Need-slice-aggregate-judge-3
-slice-aggregate-judge-3 c = search needs
-
-judge-requires : tie.Need-judge-requires
-judge-requires c κs = search needs
-
-enum-known-judged : tie.Need-enum-known-judged
-enum-known-judged c = search needs
-
-enum-told : tie.Need-enum-told
-enum-told c = search needs
-
-refused-requires : tie.Need-refused-requires
-refused-requires c κs = search needs
-
-returns : tie.Need-returns
-returns c =
-    let e = c .refused .ensures in
-    rw (e .0, e .1) (ask-none _ _ _ (c .before .before .before .before .before .before .judge .ensures) (c .before .enum-told .given .1))
-
-refused-requires-2 : tie.Need-refused-requires-2
-refused-requires-2 c κs = search needs
-
-returns-2 : tie.Need-returns-2
-returns-2 c =
-    let e = c .refused2 .ensures in
-    rw (e .0, e .1) (ask-outside _ _ _ (c .before .before .before .before .before .before .before .before .judge .ensures) _ (c .before .before .before .judged .given .1) (c .before .if1 .taken))
-
-mul-if2 : tie.Need-mul-if2
-mul-if2 c = search needs
-
-array-read-if2 : tie.Need-array-read-if2
-array-read-if2 c =
-    let x = c .before .before .before .before .before .before .before .judge .ensures .exact _ (c .before .before .judged .given .1) .compressed in
-    omega (arith, c .if1 .left, x .small, x .nodes)
-
-refused-requires-3 : tie.Need-refused-requires-3
-refused-requires-3 c κs = search needs
-
-returns-3 : tie.Need-returns-3
-returns-3 c =
-    let e = c .refused3 .ensures in
-    rw (e .0, e .1) (ask-hidden _ _ _ (c .before .before .before .before .before .before .before .before .before .judge .ensures) _ (c .before .before .before .before .judged .given .1) (c .before .before .if1 .left) (c .before .if2 .taken))
-
-slice-aggregate-neighbour-row : tie.Need-slice-aggregate-neighbour-row
-slice-aggregate-neighbour-row c = search needs
-
-slice-aggregate-neighbour-row-2 : tie.Need-slice-aggregate-neighbour-row-2
-slice-aggregate-neighbour-row-2 c = search needs
-
-slice-aggregate-neighbour-row-3 : tie.Need-slice-aggregate-neighbour-row-3
-slice-aggregate-neighbour-row-3 c = search needs
-
-neighbour-row-requires : tie.Need-neighbour-row-requires
-neighbour-row-requires c κs =
-    let j = c .before .before .before .before .before .before .before .before .before .before .before .judge .ensures in
-    let z = c .before .before .before .before .before .before .judged .given .1 in
-    (j .exact _ z .compressed, ask-placed _ _ [] j _ z (c .before .before .before .before .if1 .left) (c .before .before .before .if2 .left))
-
-slice-aggregate-answer : tie.Need-slice-aggregate-answer
-slice-aggregate-answer c = search needs
-
-answer-requires : tie.Need-answer-requires
-answer-requires c κs = (c .before .before .before .before .before .before .before .before .before .before .before .before .before .before .judge .ensures .exact _ (c .before .before .before .before .before .before .before .before .before .judged .given .1) .compressed .small, search needs)
+ask-with-requires : tie.Need-ask-with-requires
+ask-with-requires c κs = blank-rows _ 512 (omega arith) (omega arith) (λ h. omega (arith, c .before .before .before .is-small .ensures (c .before .before .if1 .taken)))
 
 same-length : tie.Need-same-length
 same-length c = search needs
 
-returns-4 : tie.Need-returns-4
-returns-4 c =
-    c .before .before .answer .ensures
-    ∙ ask-row _ _ _ (c .before .before .before .before .before .before .before .before .before .before .before .before .before .before .before .before .before .judge .ensures) _ (c .before .before .before .before .before .before .before .before .before .before .before .before .judged .given .1) (c .before .before .before .before .before .before .before .before .before .before .if1 .left) (c .before .before .before .before .before .before .before .before .before .if2 .left) (c .before .before .before .before .before .neighbour-row .ensures)
+returns : tie.Need-returns
+returns c = search needs
+
+slice-aggregate-ask-with-2 : tie.Need-slice-aggregate-ask-with-2
+slice-aggregate-ask-with-2 c = search needs
+
+ask-with-requires-2 : tie.Need-ask-with-requires-2
+ask-with-requires-2 c κs = blank-rows _ 4096 (omega arith) (omega arith) (λ h. omega arith)
+
+same-length-2 : tie.Need-same-length-2
+same-length-2 c = search needs
+
+returns-2 : tie.Need-returns-2
+returns-2 c = search needs
 
 pub file-neighbours-spec : {M : Type 1} → statement M
 file-neighbours-spec =
     tie.close
     (tie.spec
-    slice-aggregate-judge
-    slice-aggregate-judge-2
-    slice-aggregate-judge-3
-    judge-requires
-    enum-known-judged
-    enum-told
-    refused-requires
-    returns
-    refused-requires-2
-    returns-2
-    mul-if2
-    array-read-if2
-    refused-requires-3
-    returns-3
-    slice-aggregate-neighbour-row
-    slice-aggregate-neighbour-row-2
-    slice-aggregate-neighbour-row-3
-    neighbour-row-requires
-    slice-aggregate-answer
-    answer-requires
+    is-small-requires
+    slice-aggregate-ask-with
+    ask-with-requires
     same-length
-    returns-4)
+    returns
+    slice-aggregate-ask-with-2
+    ask-with-requires-2
+    same-length-2
+    returns-2)

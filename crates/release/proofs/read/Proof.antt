@@ -1,13 +1,18 @@
 -- `release::read` meets its contract.
 use borrow.Author.Needs.{needs}
-use borrow.Author.Tests.{not-false, not-true}
-use Rattle.tables.specs.LentLaws.{sized}
-use Rattle.release.specs.ReadLaws.{judged-exact, read-done, read-none, read-other, read-size}
+use native.Mathlib.Omega.{arith}
+use Rattle.reader.specs.DecodingLaws.{blank-rows}
 use Rattle.release.proofs.read.Statement.{statement}
 use Rattle.release.proofs.read.Tie as tie
 
-right-size-requires : tie.Need-right-size-requires
-right-size-requires c κs = search needs
+is-small-requires : tie.Need-is-small-requires
+is-small-requires c κs = search needs
+
+slice-aggregate-read-with : tie.Need-slice-aggregate-read-with
+slice-aggregate-read-with c = search needs
+
+read-with-requires : tie.Need-read-with-requires
+read-with-requires c κs = blank-rows _ 512 (omega arith) (omega arith) (λ h. omega (arith, c .before .before .before .before .before .is-small .ensures (c .before .before .before .before .if1 .taken)))
 
 same-length : tie.Need-same-length
 same-length c = search needs
@@ -19,25 +24,13 @@ same-length-3 : tie.Need-same-length-3
 same-length-3 c = search needs
 
 returns : tie.Need-returns
-returns c = read-size _ _ _ _ (c .before .right-size .ensures) (not-true _ (c .if1 .taken))
+returns c = search needs
 
-slice-aggregate-judge : tie.Need-slice-aggregate-judge
-slice-aggregate-judge c = search needs
+slice-aggregate-read-with-2 : tie.Need-slice-aggregate-read-with-2
+slice-aggregate-read-with-2 c = search needs
 
-slice-aggregate-judge-2 : tie.Need-slice-aggregate-judge-2
-slice-aggregate-judge-2 c = search needs
-
-slice-aggregate-judge-3 : tie.Need-slice-aggregate-judge-3
-slice-aggregate-judge-3 c = search needs
-
-judge-requires : tie.Need-judge-requires
-judge-requires c κs = search needs
-
-enum-known-judged : tie.Need-enum-known-judged
-enum-known-judged c = search needs
-
-enum-told : tie.Need-enum-told
-enum-told c = search needs
+read-with-requires-2 : tie.Need-read-with-requires-2
+read-with-requires-2 c κs = blank-rows _ 4096 (omega arith) (omega arith) (λ h. omega arith)
 
 same-length-4 : tie.Need-same-length-4
 same-length-4 c = search needs
@@ -49,72 +42,22 @@ same-length-6 : tie.Need-same-length-6
 same-length-6 c = search needs
 
 returns-2 : tie.Need-returns-2
-returns-2 c = read-none _ _ _ _ (c .before .before .before .before .before .before .before .before .before .before .right-size .ensures) (not-false _ (c .before .before .before .before .before .before .before .before .before .if1 .left)) (c .before .before .before .before .before .judge .ensures) (c .enum-told .given .1)
-
-same-length-7 : tie.Need-same-length-7
-same-length-7 c = search needs
-
-same-length-8 : tie.Need-same-length-8
-same-length-8 c = search needs
-
-same-length-9 : tie.Need-same-length-9
-same-length-9 c = search needs
-
-returns-3 : tie.Need-returns-3
-returns-3 c = read-other _ _ _ _ (c .before .before .before .before .before .before .before .before .before .before .before .before .right-size .ensures) (not-false _ (c .before .before .before .before .before .before .before .before .before .before .before .if1 .left)) (c .before .before .before .before .before .before .before .judge .ensures) _ (c .before .before .judged .given .1) (c .if2 .taken)
-
-slice-aggregate-fill : tie.Need-slice-aggregate-fill
-slice-aggregate-fill c = search needs
-
-slice-aggregate-fill-2 : tie.Need-slice-aggregate-fill-2
-slice-aggregate-fill-2 c = search needs
-
-slice-aggregate-fill-3 : tie.Need-slice-aggregate-fill-3
-slice-aggregate-fill-3 c = search needs
-
-fill-requires : tie.Need-fill-requires
-fill-requires c κs = (judged-exact (c .before .before .before .before .before .before .before .before .before .before .before .before .before .judge .ensures) _ (c .before .before .before .before .before .before .before .before .judged .given .1) _ (c .before .before .before .before .before .before .if2 .left), sized _ _ _ (c .before .before .before .before .before .before .before .before .before .before .before .before .before .before .before .before .before .before .right-size .ensures) (not-false _ (c .before .before .before .before .before .before .before .before .before .before .before .before .before .before .before .before .before .if1 .left)))
-
-same-length-10 : tie.Need-same-length-10
-same-length-10 c = search needs
-
-same-length-11 : tie.Need-same-length-11
-same-length-11 c = search needs
-
-same-length-12 : tie.Need-same-length-12
-same-length-12 c = search needs
-
-returns-4 : tie.Need-returns-4
-returns-4 c = read-done _ _ _ _ (c .before .before .before .before .before .before .before .before .before .before .before .before .before .before .before .before .before .before .before .before .before .before .before .before .before .before .right-size .ensures) (not-false _ (c .before .before .before .before .before .before .before .before .before .before .before .before .before .before .before .before .before .before .before .before .before .before .before .before .before .if1 .left)) (c .before .before .before .before .before .before .before .before .before .before .before .before .before .before .before .before .before .before .before .before .before .judge .ensures) _ (c .before .before .before .before .before .before .before .before .before .before .before .before .before .before .before .before .judged .given .1) (c .before .before .before .before .before .before .before .before .before .before .before .before .before .before .if2 .left) (c .before .before .before .before .before .before .before .fill .ensures)
+returns-2 c = search needs
 
 pub read-spec : {M : Type 1} → statement M
 read-spec =
     tie.close
     (tie.spec
-    right-size-requires
+    is-small-requires
+    slice-aggregate-read-with
+    read-with-requires
     same-length
     same-length-2
     same-length-3
     returns
-    slice-aggregate-judge
-    slice-aggregate-judge-2
-    slice-aggregate-judge-3
-    judge-requires
-    enum-known-judged
-    enum-told
+    slice-aggregate-read-with-2
+    read-with-requires-2
     same-length-4
     same-length-5
     same-length-6
-    returns-2
-    same-length-7
-    same-length-8
-    same-length-9
-    returns-3
-    slice-aggregate-fill
-    slice-aggregate-fill-2
-    slice-aggregate-fill-3
-    fill-requires
-    same-length-10
-    same-length-11
-    same-length-12
-    returns-4)
+    returns-2)

@@ -15,15 +15,14 @@ refused-requires c κs = search needs
 returns : tie.Need-returns
 returns c =
     let e = c .refused .ensures in
-    rw (e .0, e .1) (row-short _ _ _ (c .before .before .count-neighbours .ensures) (c .before .if1 .taken))
+    rw (e .0, e .1) (row-short _ _ (c .before .before .count-neighbours .ensures) (c .before .if1 .taken))
 
 write-neighbours-requires : tie.Need-write-neighbours-requires
 write-neighbours-requires c κs = search needs
 
-cast-t10 : tie.Need-cast-t10
-cast-t10 c =
+cast-t9 : tie.Need-cast-t9
+cast-t9 c =
     let k = c .before .before .before .before .before in
-    let s = c .before .before .before .before .before .before .before .before .pre .0 in
     let b = scan-small _ _ _ (k .count-neighbours .ensures) in
     omega arith
 
@@ -31,7 +30,7 @@ same-length : tie.Need-same-length
 same-length c = search needs
 
 returns-2 : tie.Need-returns-2
-returns-2 c = row-done _ _ _ (c .before .before .before .before .before .count-neighbours .ensures) (c .before .before .before .before .if1 .left) (c .before .before .write-neighbours .ensures)
+returns-2 c = row-done _ _ (c .before .before .before .before .before .count-neighbours .ensures) (c .before .before .before .before .if1 .left) (c .before .before .write-neighbours .ensures)
 
 pub answer-spec : {M : Type 1} → statement M
 answer-spec =
@@ -41,6 +40,6 @@ answer-spec =
     refused-requires
     returns
     write-neighbours-requires
-    cast-t10
+    cast-t9
     same-length
     returns-2)

@@ -1,7 +1,7 @@
 -- `release::reading::fill` meets its contract.
 use mathlib.Core.Path.{_∙_}
 use borrow.Author.Needs.{needs}
-use Rattle.release.specs.TableLaws.{filled-leading, filled-tables}
+use Rattle.release.specs.TableLaws.{filled-leading, filled-tables, filled-visible}
 use Rattle.release.proofs.reading.fill.Statement.{statement}
 use Rattle.release.proofs.reading.fill.Tie as tie
 
@@ -12,11 +12,14 @@ put-marks-requires : tie.Need-put-marks-requires
 put-marks-requires c κs = search needs
 
 fill-keys-requires : tie.Need-fill-keys-requires
-fill-keys-requires c κs = search needs
+fill-keys-requires c κs =
+    let x = c .before .before .before .before .before .before .before .before .before .before .before .before .before .before .before .before .before .before .before .before .pre in
+    let e = c .before .before .before .before .before .before .before .before .before .before .fill-edges .ensures in
+    (filled-visible _ (x .0 .0) e, λ t. let y = x .1 t in record { joined = _; exact = x .0 .0; edges-of = e; cubed = y .0; summed = y .1 }, x .0 .1 .keys)
 
 build-requires : tie.Need-build-requires
 build-requires c κs =
-    let x = c .before .before .before .before .before .before .before .before .before .before .before .before .before .before .before .before .before .before .before .before .before .before .before .before .before .before .pre in
+    let x = c .before .before .before .before .before .before .before .before .before .before .before .before .before .before .before .before .before .before .before .before .before .before .before .before .before .before .before .pre .0 in
     let m = c .before .before .before .before .before .before .before .before .before .before .before .before .put-marks .ensures in
     (x .0 .compressed .small, m .size ∙ x .1 .nodes, filled-leading _ (x .0) (c .before .before .before .before .before .before .before .before .before .before .before .before .before .before .before .before .before .fill-edges .ensures) _ (x .1 .nodes) m (c .before .before .before .before .before .before .fill-keys .ensures .least))
 
@@ -34,7 +37,7 @@ same-length-4 c = search needs
 
 returns : tie.Need-returns
 returns c =
-    let x = c .before .before .before .before .before .before .before .before .before .before .before .before .before .before .before .before .before .before .before .before .before .before .before .before .before .before .before .before .before .pre in
+    let x = c .before .before .before .before .before .before .before .before .before .before .before .before .before .before .before .before .before .before .before .before .before .before .before .before .before .before .before .before .before .before .pre .0 in
     let k = c .before .before .before .before .before .before .before .before .before .fill-keys .ensures in
     filled-tables _ (x .0) (c .before .before .before .before .before .before .before .before .before .before .before .before .before .before .before .before .before .before .before .before .fill-edges .ensures) _ (x .1 .nodes) (c .before .before .before .before .before .before .before .before .before .before .before .before .before .before .before .put-marks .ensures) (k .keys-of) (k .least) (c .before .before .build .ensures)
 

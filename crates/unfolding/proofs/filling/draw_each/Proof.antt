@@ -3,7 +3,7 @@ use mathlib.Core.Path.{refl}
 use Prim.Native.Nat.{_^_, _<_}
 use native.Mathlib.Omega.{arith}
 use lib.ListN.{length}
-use Rattle.keys.specs.WalkLaws.{cleared-less}
+use Rattle.buffers.specs.WordBitsLaws.{cleared-less}
 use Rattle.drawing.specs.Drawing.{Adding}
 use Rattle.drawing.specs.DrawingLaws.{adding-start}
 use Rattle.unfolding.specs.Filling.{Room, eachTo}

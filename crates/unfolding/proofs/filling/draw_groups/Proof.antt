@@ -1,73 +1,45 @@
 -- `unfolding::filling::draw_groups` meets its contract.
-use mathlib.Core.Path.{sym, _∙_}
-use Prim.Native.Nat.{ℕ, _-_, _≤_}
-use native.Mathlib.Omega.{arith}
+use Prim.Native.Nat.{ℕ}
+use borrow.Author.Needs.{needs}
 use lib.ListN.{length-replicate}
-use Rattle.drawing.specs.Drawing.{Adding}
-use Rattle.unfolding.specs.Filling.{drawnBit, firstMember, restFrom}
-use Rattle.unfolding.specs.FillingLaws.{groups-done, groups-step, keyed-start, row-room}
+use native.Mathlib.Omega.{arith}
+use Rattle.drawing.specs.BitLaws.{zeros}
 use Rattle.unfolding.proofs.filling.draw_groups.Statement.{statement}
 use Rattle.unfolding.proofs.filling.draw_groups.Tie as tie
 
-abbrev Inv-loop : tie.InvT-loop
-Inv-loop least kinds joined n edges₀ members l₀ edges l = (l ≤ n) × Adding (drawnBit n least kinds joined) (restFrom (firstMember least) (drawnBit n least kinds joined) l) edges₀ edges
+slice-aggregate-draw-members : tie.Need-slice-aggregate-draw-members
+slice-aggregate-draw-members c = search needs
 
-abbrev μ-loop : tie.MeasureT-loop
-μ-loop least kinds joined n edges₀ members l₀ edges l = n - l
+draw-members-requires : tie.Need-draw-members-requires
+draw-members-requires c κs = let s = c .before .before in (s .before .before .before .before .before .pre, (zeros 512, omega (arith, s .if1 .taken, length-replicate {A = ℕ} 512 0)))
 
-slice-aggregate-other-members : tie.Need-slice-aggregate-other-members Inv-loop μ-loop
-slice-aggregate-other-members c = sym (length-replicate {A = ℕ} 4096 0)
+same-length : tie.Need-same-length
+same-length c = search needs
 
-other-members-requires : tie.Need-other-members-requires Inv-loop μ-loop
-other-members-requires c κs =
-    let p = c .before .before .before .before .before .pre in
-    (p .0 .small, omega (arith, p .0 .small, p .0 .nodes), length-replicate {A = ℕ} 4096 0)
+returns : tie.Need-returns
+returns c = search needs
 
-loop-holds : tie.Need-loop-holds Inv-loop μ-loop
-loop-holds c = (omega arith, keyed-start _ _ _)
+slice-aggregate-draw-members-2 : tie.Need-slice-aggregate-draw-members-2
+slice-aggregate-draw-members-2 c = search needs
 
-slice-aggregate-draw-group : tie.Need-slice-aggregate-draw-group Inv-loop μ-loop
-slice-aggregate-draw-group c = sym (c .before .before .before .before .other-members .ensures .size ∙ length-replicate {A = ℕ} 4096 0)
+draw-members-requires-2 : tie.Need-draw-members-requires-2
+draw-members-requires-2 c κs = let pre = c .before .before .before .before .before .before .before .pre in (pre, (zeros 4096, omega (arith, pre .0 .small, length-replicate {A = ℕ} 4096 0)))
 
-draw-group-requires : tie.Need-draw-group-requires Inv-loop μ-loop
-draw-group-requires c κs =
-    let h = c .before .before in
-    let i = h .before .loop .inv .1 in
-    let m = h .before .before .before in
-    let pre = m .before .before .before .before .before .before .pre in
-    ((omega (arith, pre .0 .small), omega (arith, pre .0 .small, pre .0 .groups), pre .0 .rows, m .other-members .ensures .size ∙ length-replicate {A = ℕ} 4096 0), (omega (arith, i .size, pre .1), row-room (pre .0) _ (i .size ∙ pre .1)))
+same-length-2 : tie.Need-same-length-2
+same-length-2 c = search needs
 
-add-l : tie.Need-add-l Inv-loop μ-loop
-add-l c = omega arith
-
-loop-less : tie.Need-loop-less Inv-loop μ-loop
-loop-less c = omega arith
-
-loop-again : tie.Need-loop-again Inv-loop μ-loop
-loop-again c =
-    let h = c .before .before .before .before .before in
-    let m = h .before .before .before in
-    (omega arith, groups-step (m .before .before .before .before .before .before .pre .0) (m .other-members .ensures) _ (h .before .loop .inv .1) (c .before .before .draw-group .ensures))
-
-same-length : tie.Need-same-length Inv-loop μ-loop
-same-length c = c .before .loop .inv .1 .size
-
-returns : tie.Need-returns Inv-loop μ-loop
-returns c = groups-done (c .before .before .before .before .before .before .before .before .before .pre .0) _ (c .loop-test .left) (c .before .loop .inv .1)
+returns-2 : tie.Need-returns-2
+returns-2 c = search needs
 
 pub draw-groups-spec : {M : Type 1} → statement M
 draw-groups-spec =
     tie.close
     (tie.spec
-    Inv-loop
-    μ-loop
-    slice-aggregate-other-members
-    other-members-requires
-    loop-holds
-    slice-aggregate-draw-group
-    draw-group-requires
-    add-l
-    loop-less
-    loop-again
+    slice-aggregate-draw-members
+    draw-members-requires
     same-length
-    returns)
+    returns
+    slice-aggregate-draw-members-2
+    draw-members-requires-2
+    same-length-2
+    returns-2)

@@ -1,0 +1,42 @@
+-- `records::u32_at` meets its contract.
+use borrow.Author.Needs.{needs}
+use Rattle.records.specs.RecordLaws.{u32-is}
+use Rattle.records.proofs.u32_at.Statement.{statement}
+use Rattle.records.proofs.u32_at.Tie as tie
+
+u16-at-requires : tie.Need-u16-at-requires
+u16-at-requires c κs = search needs
+
+cast-result : tie.Need-cast-result
+cast-result c = search needs
+
+add-u16-at : tie.Need-add-u16-at
+add-u16-at c = search needs
+
+u16-at-requires-2 : tie.Need-u16-at-requires-2
+u16-at-requires-2 c κs = search needs
+
+cast-result-2 : tie.Need-cast-result-2
+cast-result-2 c = search needs
+
+mul-result : tie.Need-mul-result
+mul-result c = search needs
+
+add-result : tie.Need-add-result
+add-result c = search needs
+
+returns : tie.Need-returns
+returns c = u32-is _ _ _ _ (c .before .u16-at .ensures) (c .u16-at2 .ensures)
+
+pub u32-at-spec : {M : Type 1} → statement M
+u32-at-spec =
+    tie.close
+    (tie.spec
+    u16-at-requires
+    cast-result
+    add-u16-at
+    u16-at-requires-2
+    cast-result-2
+    mul-result
+    add-result
+    returns)
