@@ -23,11 +23,8 @@ fn mirror_block(table: &mut [u64], i: usize, j: usize)
     requires { ⌜ BlocksFor (64 * j + 64) (length (now table)) × (i < 8) × (j < 8) ⌝ }
     ensures { λ _. ⌜ Added (acrossTo (now (table .entry)) i j) (now (table .entry)) (now (table .exit)) ⌝ }
 {
-    let mut a = [0u64; 64];
-    let mut b = [0u64; 64];
-    symmetry::load(table, table.len() / Graph::ROW_WORDS, i, j, &mut a);
-    symmetry::transpose(&mut a, &mut b);
-    lay(table, i, j, &a);
+    let block = symmetry::transposed(table, table.len() / Graph::ROW_WORDS, i, j);
+    lay(table, i, j, &block);
 }
 
 // The blocks of the rows of block i, up to the diagonal.

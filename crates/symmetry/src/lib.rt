@@ -81,7 +81,7 @@ fn swap_digit(a: &[u64], b: &mut [u64], k: usize, high: u64, low: u64)
 }
 
 // The rows and columns of a block exchanged, digit by digit; b is room to work in.
-pub fn transpose(a: &mut [u64], b: &mut [u64])
+fn transpose(a: &mut [u64], b: &mut [u64])
     requires { ⌜ (length (now a) ≡ 64) × (length (now b) ≡ 64) ⌝ }
     ensures { λ _. ⌜ Transposed (now (a .entry)) (now (a .exit)) ⌝ }
 {
@@ -105,13 +105,25 @@ fn word_at(edges: &[u64], n: usize, p: usize, w: usize) -> u64
 }
 
 // Word j of the 64 rows of block i.
-pub fn load(edges: &[u64], n: usize, i: usize, j: usize, a: &mut [u64])
+fn load(edges: &[u64], n: usize, i: usize, j: usize, a: &mut [u64])
     requires { ⌜ (n ≤ maxNodes) × (length (now edges) ≡ rowWords * n) × (i < 8) × (j < 8) × (length (now a) ≡ 64) ⌝ }
     ensures { λ _. ⌜ Loaded (now (edges .entry)) i j 64 (now (a .exit)) ⌝ }
 {
     for k in 0..64 {
         a[k] = word_at(edges, n, 64 * i + k, j);
     }
+}
+
+// Word j of the 64 rows of block i, transposed.
+pub fn transposed(edges: &[u64], n: usize, i: usize, j: usize) -> [u64; 64]
+    requires { ⌜ (n ≤ maxNodes) × (length (now edges) ≡ rowWords * n) × (i < 8) × (j < 8) ⌝ }
+    ensures { λ r. ⌜ Across (now (edges .entry)) i j r ⌝ }
+{
+    let mut a = [0u64; 64];
+    let mut b = [0u64; 64];
+    load(edges, n, i, j, &mut a);
+    transpose(&mut a, &mut b);
+    a
 }
 
 // Whether a transposed block is the one across the diagonal.
@@ -131,10 +143,7 @@ fn is_block_symmetric(edges: &[u64], n: usize, i: usize, j: usize) -> bool
     requires { ⌜ (n ≤ maxNodes) × (length (now edges) ≡ rowWords * n) × (i < 8) × (j < 8) ⌝ }
     ensures { λ r. ⌜ r ≡ blockSymmetric (now (edges .entry)) i j ⌝ }
 {
-    let mut a = [0u64; 64];
-    let mut b = [0u64; 64];
-    load(edges, n, i, j, &mut a);
-    transpose(&mut a, &mut b);
+    let a = transposed(edges, n, i, j);
     is_across(edges, n, i, j, &a)
 }
 
