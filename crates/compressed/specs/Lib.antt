@@ -1,4 +1,5 @@
 pub mod Compressed
+pub mod PlacedLaws
 pub mod ToldLaws
 pub mod RowLaws
 pub mod ApartLaws

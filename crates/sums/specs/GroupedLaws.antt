@@ -7,11 +7,11 @@ use Prim.Native.Nat.{ℕ, _+_, _*_, _-_, _%_, _^_, _≤_, _<_}
 use native.Mathlib.Omega.{arith}
 use lib.Dec.{eqb, ltb}
 use lib.ListN.{length, getD}
-use borrow.Author.Tests.{eq-eqb, eqb-false, eqb-true, lt-ltb, ltb-true, ne-eqb}
+use borrow.Author.Tests.{eq-eqb, eqb-false, eqb-true, ne-eqb}
 use Rattle.model.specs.Graph.{whole}
 use Rattle.model.specs.Grouping.{cube, openKey}
 use Rattle.model.specs.Tables.{edgeBit, keysOf}
-use Rattle.model.specs.TestLaws.{and-fst, decide, differ}
+use Rattle.model.specs.TestLaws.{decide}
 use Rattle.rows.specs.Rows.{movedKey}
 use Rattle.keys.specs.Totals.{sumOf, sumTo}
 use Rattle.keys.specs.TotalLaws.{total-add, total-cong, total-cubes, total-mod, total-none, total-one, total-set, total-swap}
@@ -20,6 +20,7 @@ use Rattle.keys.specs.KeySums.{Summed}
 use Rattle.keys.specs.KeySumLaws.{summed-all}
 use Rattle.keys.specs.TwinKeyLaws.{moved-back}
 use Rattle.compressed.specs.Compressed.{Compressed, placed, unfolded, unfoldedEdge}
+use Rattle.compressed.specs.PlacedLaws.{placed-in, placed-lt, placed-out}
 use Rattle.sums.specs.Joined.{JoinedSummed, chosenCubes, ownCubes}
 use Rattle.sums.specs.Sums.{Cubed, FirstsAreNodes, groupCubes, memberKey, nodeKey}
 
@@ -37,22 +38,6 @@ cond-none true = refl
 cond-none false = refl
 
 module _ {n : ℕ} {least kinds joined : List ℕ} (h : Compressed n least kinds joined) where
-  -- nodes of a group
-  placed-lt : (q : ℕ) → placed n least q ≡ true → q < n
-  unfolding placed
-  placed-lt q t = ltb-true q n (and-fst (ltb q n) (not (eqb (getD least q 0) 65535)) t)
-
-  placed-in : (q : ℕ) → q < n → (getD least q 0 ≡ 65535 → ⊥) → placed n least q ≡ true
-  unfolding placed
-  placed-in q b d = rw (lt-ltb q n b, ne-eqb (getD least q 0) 65535 d)
-
-  placed-out : (q : ℕ) → q < n → placed n least q ≡ false → getD least q 0 ≡ 65535
-  placed-out q b t = step (decide (eqb (getD least q 0) 65535))
-    where
-      step : (eqb (getD least q 0) 65535 ≡ true) ⊎ (eqb (getD least q 0) 65535 ≡ false) → getD least q 0 ≡ 65535
-      step (inl z) = eqb-true (getD least q 0) 65535 z
-      step (inr z) = differ (placed-in q b (eqb-false (getD least q 0) 65535 z)) t
-
   -- the edges of p, by its first member l
   edge-by : (p l q : ℕ) → placed n least p ≡ true → getD least p 0 ≡ l
       → unfolded n least kinds joined .edge p q ≡ (placed n least q && cond (eqb l (getD least q 0)) (eqb (getD kinds l 0) 2 && not (eqb p q)) (edgeBit joined l (getD least q 0)))
@@ -83,7 +68,7 @@ module _ {n : ℕ} {least kinds joined : List ℕ} (h : Compressed n least kinds
 
   module _ (p l : ℕ) (tp : placed n least p ≡ true) (ep : getD least p 0 ≡ l) where
     inside : l < 512
-    inside = let b : p < n = placed-lt p tp in omega (arith, h .before p tp, h .small)
+    inside = let b : p < n = placed-lt n least p tp in omega (arith, h .before p tp, h .small)
 
     not-joined : (q : ℕ) → eqb l (getD least q 0) ≡ true → edgeBit joined l (getD least q 0) ≡ false
     not-joined q z = ap (edgeBit joined l) (sym (eqb-true l (getD least q 0) z)) ∙ h .irreflexive l inside
@@ -108,7 +93,7 @@ module _ {n : ℕ} {least kinds joined : List ℕ} (h : Compressed n least kinds
             → cond (around l q) (cube q) 0 ≡ cond (far l q) (cube q) 0 + cond (eqb (getD least q 0) l) (cube q) 0
         step q b (inl z) =
             let e : getD least q 0 ≡ l = sym (eqb-true l (getD least q 0) z) in
-            let t : placed n least q ≡ true = placed-in q b (λ y. omega (arith, inside)) in
+            let t : placed n least q ≡ true = placed-in n least q b (λ y. omega (arith, inside)) in
             rw (t, z, not-joined q z, eq-eqb (getD least q 0) l e) (omega arith)
         step q b (inr z) = rw (z, ne-eqb (getD least q 0) l (λ y. eqb-false l (getD least q 0) z (sym y))) (omega arith)
 
@@ -118,7 +103,7 @@ module _ {n : ℕ} {least kinds joined : List ℕ} (h : Compressed n least kinds
     edge-in q = edge-by p l q tp ep ∙ ap (λ (b : Bool). placed n least q && cond (eqb l (getD least q 0)) (b && not (eqb p q)) (edgeBit joined l (getD least q 0))) k
 
     around-near : sumOf n (around l) (λ q. cube q) ≡ cube p + near p
-    around-near = total-set n p (cube p) (λ q. cond (around l q) (cube q) 0) (λ q. cond (unfolded n least kinds joined .edge p q) (cube q) 0) (placed-lt p tp) own other
+    around-near = total-set n p (cube p) (λ q. cond (around l q) (cube q) 0) (λ q. cond (unfolded n least kinds joined .edge p q) (cube q) 0) (placed-lt n least p tp) own other
       where
         led : eqb l (getD least p 0) ≡ true
         led = eq-eqb l (getD least p 0) (sym ep)
@@ -149,7 +134,7 @@ module _ {n : ℕ} {least kinds joined : List ℕ} (h : Compressed n least kinds
             ∙ ap (λ (x : Bool). cond (edgeBit joined p (getD least q 0)) (cond x (cube q) 0) 0) (eq-eqb (getD least q 0) (getD least q 0) refl)
             ∙ ap (λ (x : Bool). cond (x && edgeBit joined p (getD least q 0)) (cube q) 0) (sym t)
         step (inr t) =
-            let e : getD least q 0 ≡ 65535 = placed-out q b t in
+            let e : getD least q 0 ≡ 65535 = placed-out n least q b t in
             total-none 512 (λ f. cond (edgeBit joined p f) (cond (eqb (getD least q 0) f) (cube q) 0) 0) (λ f l. off f (λ z. omega arith))
             ∙ ap (λ (x : Bool). cond (x && edgeBit joined p (getD least q 0)) (cube q) 0) (sym t)
 
@@ -192,11 +177,11 @@ module _ {n : ℕ} {least kinds joined : List ℕ} (h : Compressed n least kinds
         step : (eqb (getD least p 0) 65535 ≡ true) ⊎ (eqb (getD least p 0) 65535 ≡ false)
             → cond (eqb (getD least p 0) 65535) 0 (memberKey sums (getD kinds (getD least p 0) 0) (getD least p 0) p) ≡ near p % 2 ^ 32
         step (inl z) = rw z (ap (λ (v : ℕ). v % 2 ^ 32) (sym (none-near p (eqb-true (getD least p 0) 65535 z))))
-        step (inr z) = rw z (member-near p (getD least p 0) (placed-in p b (eqb-false (getD least p 0) 65535 z)) refl)
+        step (inr z) = rw z (member-near p (getD least p 0) (placed-in n least p b (eqb-false (getD least p 0) 65535 z)) refl)
 
   -- as the sums ask it
   pub compressed-led : FirstsAreNodes n least
-  compressed-led = record { small = h .small; size = h .nodes; first = λ p t. let b : p < n = placed-lt p t in omega (arith, h .before p t, h .small) }
+  compressed-led = record { small = h .small; size = h .nodes; first = λ p t. let b : p < n = placed-lt n least p t in omega (arith, h .before p t, h .small) }
 
 -- all keys
 pub grouped-all : (n : ℕ) (least kinds joined : List ℕ) {i : ℕ} {t t₁ : List ℕ} → Summed (unfolded n least kinds joined) i t t₁ → length t ≡ 2 * n → n ≤ i → t₁ ≡ keysOf (unfolded n least kinds joined)

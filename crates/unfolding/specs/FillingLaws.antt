@@ -19,6 +19,7 @@ use Rattle.drawing.specs.Drawing.{Added, Adding, oneBit, rowTo}
 use Rattle.drawing.specs.BitLaws.{added-only}
 use Rattle.drawing.specs.DrawingLaws.{added-as, added-none, added-then, adding-done, adding-start, adding-step}
 use Rattle.compressed.specs.Compressed.{Compressed, placed}
+use Rattle.compressed.specs.PlacedLaws.{placed-in}
 use Rattle.unfolding.specs.Filling.{
   Copied,
   Room,
@@ -215,8 +216,7 @@ module _ (kinds joined members : List ℕ) (l : ℕ) where
 -- all groups
 module _ {n : ℕ} {least kinds joined : List ℕ} (c : Compressed n least kinds joined) where
   placed-other : (b : ℕ) → b < n → getD least b 0 < b → placed n least b ≡ true
-  unfolding placed
-  placed-other b h l = rw (lt-ltb b n h, ne-eqb (getD least b 0) 65535 (λ e. omega (arith, c .small)))
+  placed-other b h l = placed-in n least b h (λ e. omega (arith, c .small))
 
   pub row-room : {size : ℕ} (l : ℕ) → size ≡ 8 * n → RowRoom size joined l
   row-room l e = record { row = λ a h s. omega (arith, c .joins l a h s .1) }

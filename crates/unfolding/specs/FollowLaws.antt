@@ -16,6 +16,7 @@ use Rattle.rows.specs.EdgeLaws.{edges-by-bits}
 use Rattle.rows.specs.Rows.{Flipped, Words, leads}
 use Rattle.drawing.specs.Drawing.{Added}
 use Rattle.compressed.specs.Compressed.{Compressed, placed, unfolded, unfoldedEdge}
+use Rattle.compressed.specs.PlacedLaws.{placed-in}
 use Rattle.unfolding.specs.Filling.{Copied, FirstsLead, Followed, Following, RowCopied, drawnBit, followBit, isFollower, reaches}
 
 -- a row copied word by word
@@ -143,8 +144,7 @@ own-none false = refl
 -- the rows of the graph that arrays unfold to
 module _ {n : ℕ} {least kinds joined : List ℕ} (c : Compressed n least kinds joined) where
   placed-is : (p : ℕ) → p < n → getD least p 0 < 512 → placed n least p ≡ true
-  unfolding placed
-  placed-is p h l = rw (lt-ltb p n h, ne-eqb (getD least p 0) 65535 (λ e. omega arith))
+  placed-is p h l = placed-in n least p h (λ e. omega arith)
 
   leads-is : (p : ℕ) → leads least p ≡ true → getD least p 0 ≡ p
   unfolding leads
