@@ -83,6 +83,9 @@ uint16_t tegmulos_read(size_t n, uint64_t *edges, size_t edges_len, uint16_t *no
 uint16_t tegmulos_file_neighbours(const uint8_t *file, size_t file_len, uint16_t p, uint16_t *out, size_t out_len,
                                   uint16_t *count);
 
+/* How many edges separate p and q, asked of a release: 0 for a node and itself, 65535 if no chain of edges does. 0, or 19, 14. */
+uint16_t tegmulos_file_distance(const uint8_t *file, size_t file_len, uint16_t p, uint16_t q, uint16_t *distance);
+
 #ifdef __cplusplus
 }
 #endif

@@ -21,6 +21,7 @@ struct Tally {
     no_release: u64,
     other_size: u64,
     file_queries: u64,
+    distances: u64,
 }
 
 /// Mostly small sizes, where accidents are likely, and now and then the largest.
@@ -159,6 +160,10 @@ fn read(n: usize, file: &[u8], random: &mut Random, tally: &mut Tally) {
     let r = calls::file_neighbours(file, p, &mut x, &mut c);
     assert_eq!((r, c, &x), (lent::file_neighbours(file, p, &mut y, &mut d), d, &y), "{p} {file:?}");
     tally.file_queries += 1;
+    let q = random.below(n + 1) as u16;
+    let r = calls::file_distance(file, p, q, &mut c);
+    assert_eq!((r, c), (lent::file_distance(file, p, q, &mut d), d), "{p} {q} {file:?}");
+    tally.distances += 1;
 }
 
 fn number_at(file: &mut [u8], random: &mut Random, most: usize) {

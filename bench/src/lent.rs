@@ -1,4 +1,4 @@
-//! The same calls on lent tables in Rust, written for speed from document 01. It shares nothing with the library.
+//! The same calls on lent tables in Rust, written for speed from documents 01 and 02. It shares nothing with the library.
 
 use crate::calls::{Counts, Member};
 
@@ -1052,6 +1052,39 @@ impl Parts {
         r
     }
 
+    /// How far two members of a group are apart.
+    fn inside(&self, i: usize) -> u16 {
+        if has(&self.cliques, i) {
+            1
+        } else if self.joined[i] != [0; 8] {
+            2
+        } else {
+            u16::MAX
+        }
+    }
+
+    /// How many superedges lead from one group to another.
+    fn between(&self, i: usize, j: usize) -> u16 {
+        let mut seen = [0; 8];
+        let first = usize::from(self.firsts[i]);
+        seen[first / 64 % 8] |= bit(first);
+        let mut frontier = seen;
+        for d in 1.. {
+            if frontier.iter().zip(&self.joined[j]).fold(0, |x, (a, b)| x | a & b) != 0 {
+                return d;
+            }
+            let mut next = [0; 8];
+            each_bit(&frontier, |q| unite(&mut next, &self.joined[usize::from(self.group[q])]));
+            next.iter_mut().zip(&seen).for_each(|(x, s)| *x &= !s);
+            if next == [0; 8] {
+                break;
+            }
+            unite(&mut seen, &next);
+            frontier = next;
+        }
+        u16::MAX
+    }
+
     /// The rows get all members of the groups joined to them, in a clique their own too.
     fn draw(&mut self, file: &[u8]) {
         let group = |at: &u16| usize::from(self.group[number(file, usize::from(*at))]);
@@ -1200,6 +1233,22 @@ fn sum_rows(rows: &[Row], words: usize, sums: &mut [u32; NODES]) {
             }
         }
     }
+}
+
+pub fn file_distance(file: &[u8], p: u16, q: u16, distance: &mut u16) -> u16 {
+    *distance = 0;
+    let mut parts = Parts::new();
+    if !parts.judge(file) {
+        return 19;
+    }
+    let group = |p: u16| parts.group[..parts.n].get(usize::from(p)).filter(|&&i| i != NONE).map(|&i| usize::from(i));
+    let (Some(i), Some(j)) = (group(p), group(q)) else {
+        return 14;
+    };
+    if p != q {
+        *distance = if i == j { parts.inside(i) } else { parts.between(i, j) };
+    }
+    0
 }
 
 pub fn file_neighbours(file: &[u8], p: u16, out: &mut [u16], count: &mut u16) -> u16 {

@@ -99,6 +99,15 @@ fn queries(t: &Tables, name: &str) {
     assert_eq!((yes, count, out), (yes2, count2, out2));
 }
 
+/// A visible node that is as far from node 5 as any.
+fn farthest(file: &[u8], n: u16) -> u16 {
+    let far = |q: u16| {
+        let mut d = 0;
+        (calls::file_distance(file, 5, q, &mut d) == 0).then_some(d)
+    };
+    (0..n).max_by_key(|&q| far(q)).unwrap()
+}
+
 fn files(t: &Tables, name: &str) {
     let (mut out, mut counts) = (vec![0; FILE_BYTES], Counts::default());
     let (mut out2, mut counts2) = (vec![0; FILE_BYTES], Counts::default());
@@ -123,6 +132,18 @@ fn files(t: &Tables, name: &str) {
     );
     line(t, name, "file query", times, 1.0);
     assert_eq!((list, count), (list2, count2));
+    let (q, mut far, mut far2) = (farthest(file, t.n as u16), 0, 0);
+    let times = medians(
+        || assert_eq!(calls::file_distance(black_box(file), 5, q, &mut far), 0),
+        || assert_eq!(lent::file_distance(black_box(file), 5, q, &mut far2), 0),
+    );
+    line(t, name, "distance of the farthest", times, 1.0);
+    assert_eq!(far, far2);
+    let times = medians(
+        || assert_eq!(calls::file_distance(black_box(file), 5, q, &mut far), 0),
+        || assert_eq!(calls::file_neighbours(black_box(file), 5, &mut list, &mut count), 0),
+    );
+    line(t, name, "the same, against a file query", times, 1.0);
 }
 
 fn measure() {

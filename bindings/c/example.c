@@ -25,7 +25,7 @@ static void print_list(const char *name, const uint16_t *list, size_t count) {
 int main(void) {
     int16_t answers[UPDATES];
     uint8_t file[128];
-    uint16_t out[N], count, m, g, least, kind, size, yes;
+    uint16_t out[N], count, m, g, least, kind, size, yes, distance;
     uint32_t s, bytes;
 
     printf("open: %u\n", tegmulos_open(N, edges, 8 * N, nodes, 4 * N, keys, 2 * N));
@@ -50,6 +50,8 @@ int main(void) {
     printf("read: %u\n", tegmulos_read(N, edges, 8 * N, nodes, 4 * N, keys, 2 * N, file, bytes));
     tegmulos_file_neighbours(file, bytes, 0, out, N, &count);
     print_list("neighbours of 0 in the file", out, count);
+    tegmulos_file_distance(file, bytes, 0, 1, &distance);
+    printf("distance of 0 and 1: %u\n", distance);
     printf("of 3, hidden: %u\n", tegmulos_file_neighbours(file, bytes, 3, out, N, &count));
     return 0;
 }

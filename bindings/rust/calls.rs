@@ -10,6 +10,7 @@ mod c {
         pub fn tegmulos_release(n: usize, e: *const u64, el: usize, v: *const u16, vl: usize, k: *const u32, kl: usize, o: *mut u8, ol: usize, m: *mut u16, g: *mut u16, s: *mut u32, bytes: *mut u32) -> u16;
         pub fn tegmulos_read(n: usize, e: *mut u64, el: usize, v: *mut u16, vl: usize, k: *mut u32, kl: usize, f: *const u8, fl: usize) -> u16;
         pub fn tegmulos_file_neighbours(f: *const u8, fl: usize, p: u16, o: *mut u16, ol: usize, count: *mut u16) -> u16;
+        pub fn tegmulos_file_distance(f: *const u8, fl: usize, p: u16, q: u16, distance: *mut u16) -> u16;
     }
 }
 
@@ -60,4 +61,8 @@ pub fn read(n: usize, e: &mut [u64], v: &mut [u16], k: &mut [u32], file: &[u8]) 
 
 pub fn file_neighbours(file: &[u8], p: u16, out: &mut [u16], count: &mut u16) -> u16 {
     unsafe { c::tegmulos_file_neighbours(file.as_ptr(), file.len(), p, out.as_mut_ptr(), out.len(), count) }
+}
+
+pub fn file_distance(file: &[u8], p: u16, q: u16, distance: &mut u16) -> u16 {
+    unsafe { c::tegmulos_file_distance(file.as_ptr(), file.len(), p, q, distance) }
 }

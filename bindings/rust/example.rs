@@ -3,7 +3,7 @@
 #[path = "tegmulos.rs"]
 mod tegmulos;
 
-use tegmulos::{file_neighbours, Index, Refusal, Update};
+use tegmulos::{file_distance, file_neighbours, Index, Refusal, Update};
 
 fn main() -> Result<(), Refusal> {
     let mut index = Index::open(6)?;
@@ -25,6 +25,7 @@ fn main() -> Result<(), Refusal> {
     let read = Index::read(6, &release.file)?;
     println!("released again, the same: {}", read.release()? == release);
     println!("neighbours of 0 in the file: {:?}", file_neighbours(&release.file, 0)?);
+    println!("distances of 0 to 1 and 4: {:?} {:?}", file_distance(&release.file, 0, 1)?, file_distance(&release.file, 0, 4)?);
     index.apply(&[Update::Delete(0, 3)])?;
     println!("group of 0 without its edge to the hidden 3: {:?}", index.group(0)?);
     println!("the release, the same: {}", index.release()? == release);

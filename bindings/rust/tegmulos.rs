@@ -167,3 +167,10 @@ pub fn file_neighbours(file: &[u8], p: u16) -> Result<Vec<u16>, Refusal> {
     out.truncate(usize::from(count));
     done(result, out)
 }
+
+/// How many edges separate p and q, asked of a release. None if no chain of edges does.
+pub fn file_distance(file: &[u8], p: u16, q: u16) -> Result<Option<u16>, Refusal> {
+    let mut distance = 0;
+    let result = calls::file_distance(file, p, q, &mut distance);
+    done(result, (distance != u16::MAX).then_some(distance))
+}

@@ -46,6 +46,7 @@ GRAPHS = {
     'first-hidden': graph(6, [(0, 1), (1, 2), (3, 4)], [0]),
     'clique-and-lone': graph(6, [(1, 3), (1, 4), (3, 4), (2, 5)]),
     'edgeless512': graph(512, []),
+    'path512': graph(512, [(p, p + 1) for p in range(511)]),
     'star512': graph(512, [(p, 511) for p in range(511)]),
     'sparse512': graph(512, drawn(1, 512, 0.002), range(0, 512, 9)),
     'clique511': graph(512, [(p, q) for q in range(512) for p in range(q)], [17]),

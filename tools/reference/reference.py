@@ -1,5 +1,5 @@
 #!/usr/bin/env python3
-"""What document 01 wants of the calls of a script, worked out from sets. README.md has the scripts' languages.
+"""What documents 01 and 02 want of the calls of a script, worked out from sets. README.md has the scripts' languages.
 
     reference.py index < SCRIPT             what index_trial prints
     reference.py release FOLDER < SCRIPT    what release_trial prints, run in the folder
@@ -11,6 +11,7 @@ import os
 import sys
 
 MOST_NODES, MOST_UPDATES, ROW_WORDS, NODE_NUMBERS = 512, 4096, 8, 4
+NO_CHAIN = 65535
 
 
 class Graph:
@@ -196,6 +197,19 @@ def graph_of_file(file):
     return graph if release_of(graph)[0] == file else None
 
 
+@functools.lru_cache
+def distances(file, p):
+    """How many edges lead from p to each node of the graph of a file that any chain reaches: a search, node by node."""
+    neighbourhood = graph_of_file(file).neighbourhoods()
+    found, fresh = {p: 0}, [p]
+    for u in fresh:
+        for v in neighbourhood[u]:
+            if v not in found:
+                found[v] = found[u] + 1
+                fresh.append(v)
+    return found
+
+
 class Calls:
     """The calls on lent tables, each a list that is changed in place. Numbers of a refused call are 0."""
 
@@ -297,6 +311,14 @@ class Calls:
             return 18, 0
         out[:len(found)] = found
         return 0, len(found)
+
+    def file_distance(self, file, p, q):
+        graph = graph_of_file(file)
+        if graph is None:
+            return 19, 0
+        if any(x >= graph.n or x in graph.hidden for x in (p, q)):
+            return 14, 0
+        return 0, distances(file, p).get(q, NO_CHAIN)
 
 
 # From here on: the scripts.
@@ -504,6 +526,20 @@ class ReleaseScript(Script):
         out = [4660] * room
         return fold_all(fold_all(h, self.calls.file_neighbours(file, p, out)), out)
 
+    def hops(self, p, q):
+        result, distance = self.calls.file_distance(bytes(self.bytes), p, q)
+        self.say('hops', result, 'distance', distance)
+
+    def pairs(self, limit):
+        h = 0
+        for p in range(limit):
+            for q in range(limit):
+                h = fold_all(h, self.calls.file_distance(bytes(self.bytes), p, q))
+        self.say('pairs digest', h)
+
+    def asked_twice(self, h, file, p):
+        return fold_all(self.asked(h, file, p, 4), self.calls.file_distance(file, p, 0))
+
     def queries(self, limit):
         h = 0
         for p in range(limit):
@@ -515,11 +551,11 @@ class ReleaseScript(Script):
         self.applied('update', [kind, u, v], [4660], 1)
 
     def tried(self, tally, file, p):
-        """One damaged file: read into tables for six nodes, and asked for the neighbours of p."""
+        """One damaged file: read into tables for six nodes, and asked for the neighbours of p and its distance from node 0."""
         tables = [[7] * 48, [7] * 24, [7] * 12]
         result = self.calls.read(6, tables, file)
         h = fold_tables(fold_all(tally[1], [result]), tables)
-        return tally[0] + (result == 0), self.asked(h, file, p, 4)
+        return tally[0] + (result == 0), self.asked_twice(h, file, p)
 
     def ends(self):
         tally = 0, 0
@@ -542,7 +578,7 @@ class ReleaseScript(Script):
             result, _ = self.on_tables(self.calls.apply, updates[i:i + 3], answers)
             told, _ = self.on_tables(self.calls.release, out)
             h = fold_all(h, [result] + codes(answers) + list(told) + out)
-            h = self.asked(h, bytes(out[:told[4]]), updates[i + 1], 4)
+            h = self.asked_twice(h, bytes(out[:told[4]]), updates[i + 1])
         self.say('mix digest', h)
 
 

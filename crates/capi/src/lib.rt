@@ -1,9 +1,10 @@
 // The calls for C and Rust: each does what the library's call does, and equals the model's call on every input.
 ghost use mathlib.Core.Path.{_≡_};
 ghost use mathlib.Core.Bool.{cond};
-ghost use Rattle.model.specs.Calls.{applyCall, fileNeighboursCall, groupCall, neighboursCall, openCall, readCall, releaseCall, tiedCall};
+ghost use Rattle.model.specs.Calls.{applyCall, fileDistanceCall, fileNeighboursCall, groupCall, neighboursCall, openCall, readCall, releaseCall, tiedCall};
 ghost use Rattle.rows.specs.Rows.{lent};
 ghost use Rattle.index.specs.Index.{applied, grouped, listed, opened};
+ghost use Rattle.release.specs.Release.{measured};
 ghost use Rattle.capi.specs.Exported.{releasedWith};
 
 // A graph of n nodes without edges, none hidden.
@@ -148,5 +149,15 @@ pub extern "C" fn tegmulos_file_neighbours(
 {
     let found = release::file_neighbours(file, p, out);
     *count = found.count;
+    found.result
+}
+
+// How many edges separate p and q in a release file; 65,535 if no chain of edges does.
+#[no_mangle]
+pub extern "C" fn tegmulos_file_distance(file: &[u8], p: u16, q: u16, distance: &mut u16) -> u16
+    ensures { λ r. ⌜ measured r (now (distance .exit)) ≡ fileDistanceCall (now (file .entry)) p q ⌝ }
+{
+    let found = release::file_distance(file, p, q);
+    *distance = found.distance;
     found.result
 }

@@ -12,8 +12,9 @@ use Rattle.model.specs.Lists.{all, nodes}
 use Rattle.model.specs.Graph.{View, maxNodes}
 use Rattle.model.specs.Grouping.{closed, falseTwins, trueTwins}
 use Rattle.model.specs.Tables.{edgeBit}
+use Rattle.model.specs.Reading.{hasPair, summaryBy}
 use Rattle.model.specs.InOrder.{cliqueAt, closedAt, couldMerge, groupView, groupsFit, inOrder, irreducible, membersAt, openAt, superedgesFit}
-use Rattle.model.specs.TestLaws.{decide, differ, iff-eq, or-cases, or-left, or-right}
+use Rattle.model.specs.TestLaws.{decide, differ, fails, iff-eq, or-cases, or-left, or-right}
 use Rattle.model.specs.ListLaws.{all-elim, all-intro, nodes-in, nodes-out}
 use Rattle.model.specs.TwinLaws.{falseTwins-at, falseTwins-by, trueTwins-at, trueTwins-by}
 use Rattle.model.specs.InOrderLaws.{in-order-parts, placeOf}
@@ -72,8 +73,16 @@ module _ (n : ℕ) (gs : List (Bool × List ℕ)) (js : List (ℕ × ℕ)) (smal
   abbrev first : ℕ → ℕ
   first i = firstAt gs i
 
+  pair-edge : (i j : ℕ) → (hasPair js i j || hasPair js j i) ≡ view .edge i j
+  unfolding summaryBy
+  pair-edge i j = step (decide (eqb i j))
+    where
+      step : (eqb i j ≡ true) ⊎ (eqb i j ≡ false) → (hasPair js i j || hasPair js j i) ≡ (not (eqb i j) && (hasPair js i j || hasPair js j i))
+      step (inl t) = rw t (fails (hasPair js i j || hasPair js j i) (λ z. group-joined gs js ordered i j z .2 (eqb-true i j t)))
+      step (inr t) = rw t
+
   bit : (i j : ℕ) → i < length gs → j < length gs → edgeBit joined (firstAt gs i) (firstAt gs j) ≡ view .edge i j
-  bit = told-bit n gs js small fits ordered least kinds joined told
+  bit i j a b = told-bit n gs js small fits ordered least kinds joined told i j a b ∙ pair-edge i j
 
   same : (i j : ℕ) → i < length gs → j < length gs → eqb (firstAt gs i) (firstAt gs j) ≡ eqb i j
   same = firsts-same n gs fits
@@ -104,11 +113,7 @@ module _ (n : ℕ) (gs : List (Bool × List ℕ)) (js : List (ℕ × ℕ)) (smal
   -- N+ by xor
   closed-xor : (i r : ℕ) → closed (view .edge) i r ≡ xor (view .edge i r) (eqb i r)
   unfolding closed
-  closed-xor i r = or-xor (view .edge i r) (eqb i r) (λ t. none (decide (view .edge i r)) (eqb-true i r t))
-    where
-      none : (view .edge i r ≡ true) ⊎ (view .edge i r ≡ false) → i ≡ r → view .edge i r ≡ false
-      none (inl t) e = absurd (group-joined gs js ordered i r t .2 e)
-      none (inr t) e = t
+  closed-xor i r = or-xor (view .edge i r) (eqb i r) (λ t. rw t)
 
   module _ (i j : ℕ) (hi : i < length gs) (hj : j < length gs) where
     -- the rows agree at first members as the groups do, and elsewhere
@@ -132,12 +137,14 @@ module _ (n : ℕ) (gs : List (Bool × List ℕ)) (js : List (ℕ × ℕ)) (smal
             (blank c)
 
     open-rows : alike joined false (firstAt gs i) (firstAt gs j) ≡ falseTwins (groupView gs js) i j
+    unfolding summaryBy
     open-rows =
         iff-eq (alike joined false (firstAt gs i) (firstAt gs j)) (falseTwins view i j)
         (λ t. falseTwins-by view i j (λ r m. let l = nodes-out (length gs) r m in xor-none (view .edge i r) (view .edge j r) (of-first false r l (alike-bits joined (firstAt gs i) (firstAt gs j) false t (firstAt gs r) (omega (arith, below r l))))))
         (λ t. bits-alike joined (firstAt gs i) (firstAt gs j) words false (agree false (λ r l. rw (falseTwins-at view i j t r (nodes-in (length gs) r l)) (xor-same (view .edge j r)))))
 
     closed-rows : alike joined true (firstAt gs i) (firstAt gs j) ≡ trueTwins (groupView gs js) i j
+    unfolding summaryBy
     closed-rows =
         iff-eq (alike joined true (firstAt gs i) (firstAt gs j)) (trueTwins view i j)
         (λ t. trueTwins-by view i j (λ r m. let l = nodes-out (length gs) r m in closed-xor i r ∙ xor-swap (view .edge i r) (view .edge j r) (eqb i r) (eqb j r) (of-first true r l (alike-bits joined (firstAt gs i) (firstAt gs j) true t (firstAt gs r) (omega (arith, below r l)))) ∙ sym (closed-xor j r)))

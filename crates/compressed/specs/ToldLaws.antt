@@ -13,7 +13,7 @@ use Rattle.model.specs.Graph.{maxNodes, rowWords}
 use Rattle.model.specs.Summary.{position, reconstruct}
 use Rattle.model.specs.Tables.{edgeBit}
 use Rattle.model.specs.Reading.{graphBy, hasPair, summaryBy}
-use Rattle.model.specs.InOrder.{cliqueAt, groupView, groupsFit, inOrder, membersAt, superedgesFit}
+use Rattle.model.specs.InOrder.{cliqueAt, groupsFit, inOrder, membersAt, superedgesFit}
 use Rattle.model.specs.TestLaws.{and-fst, and-snd, and-true, decide, differ, iff-eq, or-cases, or-left, or-right}
 use Rattle.model.specs.ListLaws.{headOr-le}
 use Rattle.model.specs.InOrderLaws.{first-in, firsts-ascend, in-order-parts, members-ascend, members-below, pair-fits, place-in, place-of, placeOf}
@@ -191,7 +191,7 @@ group-joined gs js ordered i j t = step (or-cases (hasPair js i j) (hasPair js j
 
 -- groups and superedges in order
 module _ (n : ℕ) (gs : List (Bool × List ℕ)) (js : List (ℕ × ℕ)) (fits : groupsFit n (λ p. false) 0 gs ≡ true) (ordered : superedgesFit (length gs) 0 js ≡ true) where
-  pub joined-at : (i j : ℕ) → i < length gs → j < length gs → joinedBy gs js (firstAt gs i) (firstAt gs j) ≡ groupView gs js .edge i j
+  pub joined-at : (i j : ℕ) → i < length gs → j < length gs → joinedBy gs js (firstAt gs i) (firstAt gs j) ≡ (hasPair js i j || hasPair js j i)
   joined-at i j a b = iff-eq _ (hasPair js i j || hasPair js j i) (λ t. there (joined-out gs js (firstAt gs i) (firstAt gs j) t)) (λ t. back (or-cases (hasPair js i j) (hasPair js j i) t))
     where
       there : SuperedgeAcross gs js (firstAt gs i) (firstAt gs j) → (hasPair js i j || hasPair js j i) ≡ true
@@ -268,7 +268,7 @@ module _ (n : ℕ) (gs : List (Bool × List ℕ)) (js : List (ℕ × ℕ)) (smal
   told-kind i l = told .kind (firstAt gs i) (omega (arith, first-below n gs fits i l)) ∙ kind-of n gs fits i l
 
   -- joined are first members of groups with a superedge
-  pub told-bit : (i j : ℕ) → i < length gs → j < length gs → edgeBit joined (firstAt gs i) (firstAt gs j) ≡ groupView gs js .edge i j
+  pub told-bit : (i j : ℕ) → i < length gs → j < length gs → edgeBit joined (firstAt gs i) (firstAt gs j) ≡ (hasPair js i j || hasPair js j i)
   told-bit i j a b = told .bits (firstAt gs i) (firstAt gs j) (omega (arith, first-below n gs fits j b)) ∙ joined-at n gs js fits ordered i j a b
 
   pub bit-told : (p q : ℕ) → q < maxNodes → edgeBit joined p q ≡ true → (i : ℕ) × (j : ℕ) × (i < length gs) × (j < length gs) × (p ≡ firstAt gs i) × (q ≡ firstAt gs j)

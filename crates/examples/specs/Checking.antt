@@ -14,9 +14,10 @@ use Rattle.model.specs.Refusals.{firstOf, lengths, wrongSize}
 use Rattle.model.specs.Updates.{updateReasons, refusal, updated, groupCount, update, batchGraph, answers as batchAnswers, updateCount, updatesIn, wrongBatch}
 use Rattle.model.specs.Steps.{run}
 use Rattle.model.specs.Queries.{neighbours, kindNumber}
+use Rattle.model.specs.Distance.{walk, distance}
 use Rattle.model.specs.Release.{isVisible, visibleEdge, visibleGroups, u16, headRecord, kindByte, groupRecord, superedgeRecord, endRecord, superedgesFrom, superedges, superedgeCount, encode, release}
 use Rattle.model.specs.Reading.{u16At, u16s, groupsAt, afterGroups, isMark, superedgesAt, hasPair, summaryBy, summaryIn, graphBy, decode, isRelease}
-use Rattle.model.specs.Calls.{openReasons, openCall, applyReasons, applyCall, neighboursReasons, neighboursCall, tiedReasons, tiedCall, groupReasons, groupCall, releaseReasons, released, releaseCall, readReasons, readCall, fileNeighboursReasons, fileNeighboursCall}
+use Rattle.model.specs.Calls.{openReasons, openCall, applyReasons, applyCall, neighboursReasons, neighboursCall, tiedReasons, tiedCall, groupReasons, groupCall, releaseReasons, released, releaseCall, readReasons, readCall, fileDistanceReasons, fileDistanceCall, fileNeighboursReasons, fileNeighboursCall}
 use Rattle.model.specs.Program.{text, before, pieces, isNone, valueOf, isNumber, edgeLine, markLine, lineOf, withUpdate, withLine, linesFrom, isCount, firstLine, inputOf, digits, decimal, signed, changeLine, changeLines, openLine, spaced, groupLine, superedgeLine, releaseLines, printed, program}
 use Rattle.model.specs.TestLaws.{differ, and-fst, and-snd, beq-eq}
 use Rattle.model.specs.ListLaws.{same-eq}
@@ -91,7 +92,7 @@ all-pass-hold [] h = tt
 all-pass-hold (c ∷ cs) h = (passes-holds c (and-fst (passes c) (allPass cs) h), all-pass-hold cs (and-snd (passes c) (allPass cs) h))
 
 computed : allPass examples ≡ true
-unfolding sameBy sameKind sameAnswer passes allPass oneEdge path3 triangle path4 threeByThree deleted03 hidden3 hidden3deleted03 equalKeys selfTied text examples all any filter member concat sameList from nodes emptyGraph closed falseTwins trueTwins similar greedy algorithm1 group adjacent kindOf sumCubes openKey closedKey reconstruct position word bitAt rowOf edgesOf groupIn nextIn prevIn nodeOf nodesOf keyPair keysOf tablesOf edgeBit nodeNumber graphOf simple holds groupsIn firstOf lengths wrongSize updateReasons refusal updated groupCount update run batchGraph batchAnswers updateCount updatesIn wrongBatch neighbours kindNumber isVisible visibleEdge visibleGroups u16 headRecord kindByte groupRecord superedgeRecord endRecord superedgesFrom superedges superedgeCount encode release u16At u16s groupsAt afterGroups isMark superedgesAt hasPair summaryBy summaryIn graphBy decode isRelease openReasons openCall applyReasons applyCall neighboursReasons neighboursCall tiedReasons tiedCall groupReasons groupCall releaseReasons released releaseCall readReasons readCall fileNeighboursReasons fileNeighboursCall before pieces isNone valueOf isNumber edgeLine markLine lineOf withUpdate withLine linesFrom isCount firstLine inputOf digits decimal signed changeLine changeLines openLine spaced groupLine superedgeLine releaseLines printed program
+unfolding sameBy sameKind sameAnswer passes allPass oneEdge path3 triangle path4 threeByThree deleted03 hidden3 hidden3deleted03 equalKeys selfTied text examples all any filter member concat sameList from nodes emptyGraph closed falseTwins trueTwins similar greedy algorithm1 group adjacent kindOf sumCubes openKey closedKey reconstruct position word bitAt rowOf edgesOf groupIn nextIn prevIn nodeOf nodesOf keyPair keysOf tablesOf edgeBit nodeNumber graphOf simple holds groupsIn firstOf lengths wrongSize updateReasons refusal updated groupCount update run batchGraph batchAnswers updateCount updatesIn wrongBatch neighbours kindNumber walk distance isVisible visibleEdge visibleGroups u16 headRecord kindByte groupRecord superedgeRecord endRecord superedgesFrom superedges superedgeCount encode release u16At u16s groupsAt afterGroups isMark superedgesAt hasPair summaryBy summaryIn graphBy decode isRelease openReasons openCall applyReasons applyCall neighboursReasons neighboursCall tiedReasons tiedCall groupReasons groupCall releaseReasons released releaseCall readReasons readCall fileDistanceReasons fileDistanceCall fileNeighboursReasons fileNeighboursCall before pieces isNone valueOf isNumber edgeLine markLine lineOf withUpdate withLine linesFrom isCount firstLine inputOf digits decimal signed changeLine changeLines openLine spaced groupLine superedgeLine releaseLines printed program
 computed = refl
 
 -- every example is what the document says

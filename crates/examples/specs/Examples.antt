@@ -1,5 +1,5 @@
--- Document 01's examples with a star, the examples of its table of refusals and the one of the program, as one list of
--- equations: on the left what the definitions of `model` give, on the right what the document says.
+-- Document 01's examples with a star, the examples of its table of refusals and the one of the program, and distances by document
+-- 02's order 1, as one list of equations: on the left what the definitions of `model` give, on the right what the documents say.
 use mathlib.Core.Path.{_≡_}
 use mathlib.Core.Bool.{Bool, false, _&&_}
 use mathlib.Core.List.{List, [], _∷_, map}
@@ -13,7 +13,7 @@ use Rattle.model.specs.Grouping.{Kind, singleton, independent, clique, kindOf, 
 use Rattle.model.specs.Tables.{Tables, tablesOf, keysOf, nodesOf, groupsIn}
 use Rattle.model.specs.Updates.{Update, batchGraph, updateCount}
 use Rattle.model.specs.Release.{visibleEdge, visibleGroups, superedgeCount, release}
-use Rattle.model.specs.Calls.{openCall, applyCall, neighboursCall, tiedCall, groupCall, releaseCall, readCall, fileNeighboursCall}
+use Rattle.model.specs.Calls.{openCall, applyCall, neighboursCall, tiedCall, groupCall, releaseCall, readCall, fileDistanceCall, fileNeighboursCall}
 use Rattle.model.specs.Program.{text, program}
 
 -- an equation between two of the things that the document speaks of: bytes of a file or a text, a number, groups, kinds of
@@ -110,6 +110,10 @@ opened n = openCall n (lent n) .tables
 abbrev answersOn : ℕ → Tables → List ℕ → List ℤ
 answersOn n t xs = applyCall n t xs (replicate (updateCount xs) (pos 7)) .answers
 
+-- the distance of p and q, asked of a release
+abbrev distanceIn : Graph → ℕ → ℕ → ℕ
+distanceIn g p q = fileDistanceCall (release g) p q .distance
+
 -- the tables of node 0 tied to itself
 unfoldable pub selfTied : Tables
 selfTied = tablesOf (record { nodeCount = 1; edge = λ p q. eqb p 0 && eqb q 0; hidden = λ p. false })
@@ -194,6 +198,16 @@ examples =
     ∷ number (fileNeighboursCall [] 0 [] .result) 19
     -- number 20: n 0 file, tables for n 1
     ∷ number (readCall 1 (lent 1) (release (emptyGraph 0)) .result) 20
+    -- distances: in 9, members of one group, of two, and 3, which is withheld; paths; a clique; no ties; no file
+    ∷ number (distanceIn hidden3 0 2) 2
+    ∷ number (distanceIn hidden3 0 4) 1
+    ∷ number (fileDistanceCall (release hidden3) 3 3 .result) 14
+    ∷ number (fileDistanceCall (release hidden3) 0 3 .result) 14
+    ∷ number (distanceIn path4 3 0) 3
+    ∷ number (distanceIn path4 2 2) 0
+    ∷ number (distanceIn triangle 0 2) 1
+    ∷ number (distanceIn (emptyGraph 2) 0 1) 65535
+    ∷ number (fileDistanceCall [] 0 0 .result) 19
     -- the program
     ∷ bytes (program (text "3\nt 0 1\nt 1 2\nw 0\n")) (text "change 1: 1\nchange 2: 0\nchange 3: 0\nopen 2 groups 1 joins 0\nC 1 2\n")
     ∷ []

@@ -13,6 +13,7 @@ use Rattle.model.specs.Tables.{Tables, tablesOf, graphOf, groupIn, holds
 use Rattle.model.specs.Refusals.{Reasons, judged, lengths, wrongSize}
 use Rattle.model.specs.Updates.{updateCount, wrongBatch, updatesIn, batchGraph, answers}
 use Rattle.model.specs.Queries.{neighbours, kindNumber}
+use Rattle.model.specs.Distance.{distance}
 use Rattle.model.specs.Release.{isVisible, visible, visibleGroups, superedgeCount, release}
 use Rattle.model.specs.Reading.{decode, isRelease}
 
@@ -186,3 +187,22 @@ unfoldable pub fileNeighboursCall : List ℕ → ℕ → List ℕ → Listed
 fileNeighboursCall file p out =
     judged (fileNeighboursReasons file p out) (listRefused out)
     (record { result = 0; count = length (neighbours (decode file) p); out = onto (neighbours (decode file) p) out })
+
+-- the distance of p and q, asked of a file
+pub record Measured : Type 0 where
+  pub result : ℕ
+  pub distance : ℕ
+
+abbrev pub distanceRefused : ℕ → Measured
+distanceRefused r = record { result = r; distance = 0 }
+
+unfoldable pub fileDistanceReasons : List ℕ → ℕ → ℕ → Reasons
+fileDistanceReasons file p q =
+    (not (isRelease file), 19)
+    ∷ (not (isVisible (decode file) p) || not (isVisible (decode file) q), 14)
+    ∷ []
+
+unfoldable pub fileDistanceCall : List ℕ → ℕ → ℕ → Measured
+fileDistanceCall file p q =
+    judged (fileDistanceReasons file p q) distanceRefused
+    (record { result = 0; distance = distance (visible (decode file)) p q })

@@ -1,8 +1,8 @@
 -- The demands hold.
 use mathlib.Core.Path.{_≡_, refl, sym, ap, ap₂, _∙_}
-use mathlib.Core.Bool.{Bool, true, false, not, _&&_, cond}
-use mathlib.Core.List.{List, [], _∷_, map}
-use mathlib.Core.Logic.{_⊎_, inl, inr, _↔_}
+use mathlib.Core.Bool.{Bool, true, false, not, _&&_, _||_, cond}
+use mathlib.Core.List.{List, _∷_, map}
+use mathlib.Core.Logic.{_↔_}
 use Prim.Native.Nat.{ℕ, _≤_, _<_}
 use native.Mathlib.Omega.{arith}
 use lib.Dec.{eqb, ltb}
@@ -16,25 +16,28 @@ use Rattle.model.specs.Tables.{Tables, graphOf, groupsIn, holds, tablesO
 use Rattle.model.specs.Refusals.{Lengths, firstOf, lengths, wrongSize, Reasons, judged}
 use Rattle.model.specs.Updates.{Update, answers, batchGraph, refusal, updateReasons}
 use Rattle.model.specs.Release.{release, superedgeCount, superedges, visible, visibleGroups, visiblePart, isVisible, visibleEdge}
-use Rattle.model.specs.Lists.{nodes}
+use Rattle.model.specs.Lists.{_∈_, all, nodes}
 use Rattle.model.specs.Steps.{Stepped, run}
 use Rattle.model.specs.Queries.{neighbours}
+use Rattle.model.specs.Distance.{distance, distanceBy}
 use Rattle.model.specs.Reading.{decode, isRelease, summaryBy, summaryIn}
-use Rattle.model.specs.Calls.{Listed, Opened, Released, applyCall, applyReasons, fileNeighboursCall, fileNeighboursReasons, groupCall, groupReasons, listRefused, neighboursCall, neighboursReasons, onto, openCall, openReasons, openRefused, readCall, readReasons, releaseCall, releaseReasons, releaseRefused, released, tiedCall, tiedReasons}
+use Rattle.model.specs.Calls.{Listed, Measured, Opened, Released, applyCall, applyReasons, distanceRefused, fileDistanceCall, fileDistanceReasons, fileNeighboursCall, fileNeighboursReasons, groupCall, groupReasons, listRefused, neighboursCall, neighboursReasons, onto, openCall, openReasons, openRefused, readCall, readReasons, releaseCall, releaseReasons, releaseRefused, released, tiedCall, tiedReasons}
 use Rattle.model.specs.History.{Alike, CallsTold, Source, byHistory, graphOfSource, handedIn, tablesOfSource}
-use Rattle.model.specs.TestLaws.{decide, differ}
-use Rattle.model.specs.ListLaws.{filter-cong, nodes-ascending}
+use Rattle.model.specs.TestLaws.{differ, fails}
+use Rattle.model.specs.ListLaws.{filter-cong, member-elim, nodes-ascending}
+use Rattle.model.specs.DistanceLaws.{distance-shortest}
 use Rattle.model.specs.SummaryLaws.{algorithm1-summarises}
+use Rattle.model.specs.GroupDistanceLaws.{distance-by-groups, summarises-unfolds}
 use Rattle.model.specs.FewestLaws.{fewest}
 use Rattle.model.specs.TableLaws.{groups-told, held-proper, held-tables, proper-holds, proper-simple, read-back, simple-test}
 use Rattle.model.specs.ReleaseLaws.{alike-visible, length-release, non-interference, visible-ascending, visible-simple, alike-node}
 use Rattle.model.specs.UpdateLaws.{answer-accepted, answer-near, update-refused, wanted-there}
 use Rattle.model.specs.HistoryLaws.{Kept, lengths-of, lengthsFor, right-size, size-right, history-told}
-use Rattle.model.specs.RefusalLaws.{judged-refused, judged-result}
+use Rattle.model.specs.RefusalLaws.{first-below, judged-refused, judged-result}
 use Rattle.model.specs.ReadingLaws.{marked, summary-encode, told-count, told-summarises}
-use Rattle.model.specs.ReadBackLaws.{decode-release, only-releases, release-is, visible-alike, visible-proper}
+use Rattle.model.specs.ReadBackLaws.{decode-release, member-visible, only-releases, release-is, visible-alike, visible-proper}
 use Rattle.model.specs.ProgramLaws.{program-fits}
-use Rattle.model.specs.Demands.{AskedExactly, Demand1, Demand2, Demand3, GroupedExactly, NoRelease, ReadExactly, Refuses, visibleNeighbours}
+use Rattle.model.specs.Demands.{AskedExactly, Demand1, Demand2, Demand3, DistanceTold, GroupedExactly, MeasuredExactly, NoRelease, ReadExactly, Refuses, visibleNeighbours}
 
 -- what a source's tables hold
 pub kept : (x : Source) → Kept (lengths (tablesOfSource x)) (graphOfSource x) (tablesOfSource x)
@@ -75,7 +78,7 @@ unfolding batchGraph answers run
 batch-refused g c cs h = ap (λ (x : Stepped Graph ℤ). (refusal g c, batchGraph (x .after) cs, x .outcome ∷ answers (x .after) cs)) (update-refused g c h)
 
 pub demand1 : Demand1
-unfolding openReasons openCall applyReasons applyCall neighboursReasons neighboursCall tiedReasons tiedCall groupReasons groupCall releaseReasons releaseCall released readReasons readCall fileNeighboursReasons fileNeighboursCall updateReasons refusal
+unfolding openReasons openCall applyReasons applyCall neighboursReasons neighboursCall tiedReasons tiedCall groupReasons groupCall releaseReasons releaseCall released readReasons readCall fileNeighboursReasons fileNeighboursCall fileDistanceReasons fileDistanceCall updateReasons refusal
 demand1 = record {
   opening = λ n t. refuses _ _ _ _ _ refl (λ r. refl) refl;
   batch = λ n t xs out. refuses _ _ _ _ _ refl (λ r. refl) refl;
@@ -86,6 +89,7 @@ demand1 = record {
   releasing = λ n t out. refuses _ _ _ _ _ refl (λ r. refl) refl;
   reading = λ n t file. refuses _ _ _ _ _ refl (λ r. refl) refl;
   file-neighbours = λ file p out. refuses _ _ _ _ _ refl (λ r. refl) refl;
+  file-distance = λ file p q. refuses _ _ _ _ _ refl (λ r. refl) refl;
   program = program-fits;
 }
 
@@ -140,13 +144,29 @@ grouped-exactly l g t h = record {
     told : groupsIn (g .nodeCount) (t .nodes) ≡ algorithm1 (whole g)
     told = ap (λ (x : Tables). groupsIn (g .nodeCount) (x .nodes)) (h .tables) ∙ unfold tablesOf in groups-told g (h .proper)
 
+-- the bytes of a graph's release
+module _ (file : List ℕ) (g : Graph) (h : Proper g) (same : file ≡ release g) where
+  passes : isRelease file ≡ true
+  passes = ap isRelease same ∙ release-is g h
+
+  told : decode file ≡ visiblePart g
+  told = ap decode same ∙ decode-release g h
+
+  told-node : (p : ℕ) → isVisible (decode file) p ≡ isVisible g p
+  told-node p = ap (λ (x : Graph). isVisible x p) told ∙ alike-node (visiblePart g) g (visible-alike g) p
+
 -- what passes for a release is one
 no-release : (file : List ℕ) → isRelease file ≡ false ↔ NoRelease file
-no-release file = (λ z g h same. differ (ap isRelease same ∙ release-is g h) z, λ none. step none (decide (isRelease file)))
+no-release file = (λ z g h same. differ (passes file g h same) z, λ none. fails (isRelease file) (λ t. let b = only-releases file t in none (b .0) (b .1) (b .2)))
+
+-- a question to a file: 19 stands first, and no other reason has it
+only-19 : (file : List ℕ) (rest : Reasons) → all (map (λ (r : Bool × ℕ). r .1) rest) (λ r. ltb r 19) ≡ true → firstOf ((not (isRelease file), 19) ∷ rest) ≡ 19 ↔ NoRelease file
+unfolding firstOf
+only-19 file rest less = (λ z. no-release file .0 (first (isRelease file) z), λ z. rw (no-release file .1 z))
   where
-    step : NoRelease file → (isRelease file ≡ true) ⊎ (isRelease file ≡ false) → isRelease file ≡ false
-    step none (inl t) = let b = only-releases file t in absurd (none (b .0) (b .1) (b .2))
-    step none (inr t) = t
+    first : (a : Bool) → firstOf ((not a, 19) ∷ rest) ≡ 19 → a ≡ false
+    first true z = absurd (omega (arith, first-below 19 rest (omega arith) less))
+    first false z = refl
 
 -- a file read into tables of the right size
 module _ (n : ℕ) (t : Tables) (file : List ℕ) (w : wrongSize n (lengths t) ≡ false) where
@@ -185,22 +205,16 @@ module _ (n : ℕ) (t : Tables) (file : List ℕ) (w : wrongSize n (lengths t) �
 
   -- of a release
   module _ (g : Graph) (h : Proper g) (same : file ≡ release g) where
-    told : decode file ≡ visiblePart g
-    told = ap decode same ∙ decode-release g h
-
     count : decode file .nodeCount ≡ g .nodeCount
-    count = ap (λ (x : Graph). x .nodeCount) told ∙ unfold visiblePart in refl
-
-    passes : isRelease file ≡ true
-    passes = ap isRelease same ∙ release-is g h
+    count = ap (λ (x : Graph). x .nodeCount) (told file g h same) ∙ unfold visiblePart in refl
 
     read-other : (g .nodeCount ≡ n → ⊥) → readCall n t file .result ≡ 20
-    read-other d = result-is ∙ rw (passes, count, ne-eqb (g .nodeCount) n d) (unfold numbered in refl)
+    read-other d = result-is ∙ rw (passes file g h same, count, ne-eqb (g .nodeCount) n d) (unfold numbered in refl)
 
     module _ (size : g .nodeCount ≡ n) where
       read-done : readCall n t file ≡ record { result = 0; tables = tablesOf (visiblePart g) }
       unfolding readCall readReasons firstOf visiblePart
-      read-done = rw (w, passes, told, eq-eqb (g .nodeCount) n size)
+      read-done = rw (w, passes file g h same, told file g h same, eq-eqb (g .nodeCount) n size)
 
       -- released again
       read-again : (out : List ℕ) → length file ≤ length out
@@ -250,20 +264,6 @@ module _ (n : ℕ) (t : Tables) (file : List ℕ) (w : wrongSize n (lengths t) �
 
 -- a file asked for neighbours
 module _ (file : List ℕ) (p : ℕ) (out : List ℕ) where
-  abbrev rest : Reasons
-  rest = (not (isVisible (decode file) p), 14) ∷ (ltb (length out) (length (neighbours (decode file) p)), 18) ∷ []
-
-  first-is : fileNeighboursCall file p out .result ≡ firstOf ((not (isRelease file), 19) ∷ rest)
-  unfolding fileNeighboursCall fileNeighboursReasons
-  first-is = judged-result (λ (o : Listed). o .result) (fileNeighboursReasons file p out) (listRefused out) _ (λ r. refl) refl
-
-  asked-19 : (a b c : Bool) → firstOf ((not a, 19) ∷ (b, 14) ∷ (c, 18) ∷ []) ≡ 19 → a ≡ false
-  unfolding firstOf
-  asked-19 true true c z = absurd (omega arith)
-  asked-19 true false true z = absurd (omega arith)
-  asked-19 true false false z = absurd (omega arith)
-  asked-19 false b c z = refl
-
   module _ (g : Graph) (h : Proper g) (same : file ≡ release g) where
     listed : isVisible g p ≡ true → neighbours (visiblePart g) p ≡ visibleNeighbours g p
     unfolding neighbours visiblePart visibleEdge visibleNeighbours
@@ -271,7 +271,7 @@ module _ (file : List ℕ) (p : ℕ) (out : List ℕ) where
 
     asked : (b : Bool) → isVisible g p ≡ b → fileNeighboursCall file p out ≡ cond b (cond (ltb (length out) (length (neighbours (visiblePart g) p))) (listRefused out 18) (record { result = 0; count = length (neighbours (visiblePart g) p); out = onto (neighbours (visiblePart g) p) out })) (listRefused out 14)
     unfolding fileNeighboursCall fileNeighboursReasons firstOf
-    asked b e = rw (ap isRelease same ∙ release-is g h, ap decode same ∙ decode-release g h, alike-node (visiblePart g) g (visible-alike g) p ∙ e) (step b (ltb (length out) (length (neighbours (visiblePart g) p))))
+    asked b e = rw (passes file g h same, told-node file g h same p ∙ e, told file g h same) (step b (ltb (length out) (length (neighbours (visiblePart g) p))))
       where
         done : Listed
         done = record { result = 0; count = length (neighbours (visiblePart g) p); out = onto (neighbours (visiblePart g) p) out }
@@ -282,14 +282,54 @@ module _ (file : List ℕ) (p : ℕ) (out : List ℕ) where
         step false c = refl
 
   asked-exactly : AskedExactly file p out
+  unfolding fileNeighboursReasons all
   asked-exactly = record {
-    none = (
-      λ z. no-release file .0 (asked-19 (isRelease file) _ _ (sym first-is ∙ z)),
-      λ z. first-is ∙ rw (no-release file .1 z) (unfold firstOf in refl),
-    );
+    none = rw (demand1 .file-neighbours file p out .first) (only-19 file _ refl);
     hidden = λ g h s v. asked g h s false v;
     short = λ g h s v l. asked g h s true v ∙ rw (listed g h s v, lt-ltb (length out) (length (visibleNeighbours g p)) l);
     told = λ g h s v l. asked g h s true v ∙ rw (listed g h s v, le-ltb (length out) (length (visibleNeighbours g p)) l);
+  }
+
+-- a file asked for a distance
+module _ (file : List ℕ) (p q : ℕ) where
+  module _ (g : Graph) (h : Proper g) (same : file ≡ release g) where
+    measured : fileDistanceCall file p q ≡ cond (isVisible g p && isVisible g q) (record { result = 0; distance = distance (visible g) p q }) (distanceRefused 14)
+    unfolding fileDistanceCall fileDistanceReasons firstOf
+    measured = rw (passes file g h same, told-node file g h same p, told-node file g h same q, ap visible (told file g h same) ∙ alike-visible (visiblePart g) g (visible-alike g)) (step (isVisible g p) (isVisible g q))
+      where
+        done : Measured
+        done = record { result = 0; distance = distance (visible g) p q }
+
+        step : (b c : Bool) → cond (eqb (cond (not b || not c) 14 0) 0) done (distanceRefused (cond (not b || not c) 14 0)) ≡ cond (b && c) done (distanceRefused 14)
+        step true true = refl
+        step true false = refl
+        step false c = refl
+
+    module _ (x : isVisible g p ≡ true) (y : isVisible g q ≡ true) where
+      seen : (r : ℕ) → isVisible g r ≡ true → r ∈ visible g .nodes
+      seen r v = member-elim r (visible g .nodes) (member-visible g r ∙ v)
+
+      measured-told : DistanceTold g file p q
+      unfolding distanceBy
+      measured-told = record {
+        told = call;
+        shortest = distance-shortest (visible g) p q (seen p x) (seen q y);
+        grouped = grouped;
+        independent = λ other one c j. ap (λ (m : Measured). m .distance) call ∙ grouped ∙ rw (ne-eqb p q other, eq-eqb (summaryIn file .groupOf p) (summaryIn file .groupOf q) one, c, j);
+      }
+        where
+          call : fileDistanceCall file p q ≡ record { result = 0; distance = distance (visible g) p q }
+          call = measured ∙ rw (x, y)
+
+          grouped : distance (visible g) p q ≡ distanceBy (summaryIn file) p q
+          grouped = distance-by-groups (visible g) (summaryIn file) (summarises-unfolds (visible g) (summaryIn file) (rw same (file-summarises g h))) p q (seen p x) (seen q y)
+
+  measured-exactly : MeasuredExactly file p q
+  unfolding fileDistanceReasons all
+  measured-exactly = record {
+    none = rw (demand1 .file-distance file p q .first) (only-19 file _ refl);
+    hidden = λ g h s v. measured g h s ∙ rw v;
+    visible = measured-told;
   }
 
 pub demand2 : Demand2
@@ -299,6 +339,7 @@ demand2 = record {
   unfolded = λ x. file-summarises (graphOfSource x) (kept x .proper);
   reading = read-exactly;
   asking = asked-exactly;
+  measuring = measured-exactly;
 }
 
 -- DEMAND 3

@@ -17,7 +17,8 @@ use Rattle.model.specs.Refusals.{Reasons, firstOf, lengths, wrongSize}
 use Rattle.model.specs.Updates.{Update, answer, answers, batchGraph, groupCount, refusal, updateReasons, updated, there, wanted}
 use Rattle.model.specs.Release.{release, superedgeCount, visible, visibleGroups, visiblePart, isVisible}
 use Rattle.model.specs.Reading.{summaryIn}
-use Rattle.model.specs.Calls.{Applied, Grouped, Listed, Opened, Released, Tied, applyCall, applyReasons, applyRefused, fileNeighboursCall, fileNeighboursReasons, groupCall, groupReasons, groupRefused, listRefused, neighboursCall, neighboursReasons, onto, openCall, openReasons, openRefused, readCall, readReasons, releaseCall, releaseReasons, releaseRefused, released, tiedCall, tiedReasons, tiedRefused}
+use Rattle.model.specs.Distance.{Shortest, distance, distanceBy, isJoined}
+use Rattle.model.specs.Calls.{Applied, Grouped, Listed, Measured, Opened, Released, Tied, applyCall, applyReasons, applyRefused, distanceRefused, fileDistanceCall, fileDistanceReasons, fileNeighboursCall, fileNeighboursReasons, groupCall, groupReasons, groupRefused, listRefused, neighboursCall, neighboursReasons, onto, openCall, openReasons, openRefused, readCall, readReasons, releaseCall, releaseReasons, releaseRefused, released, tiedCall, tiedReasons, tiedRefused}
 use Rattle.model.specs.History.{Alike, CallsTold, Source, graphOfSource, tablesOfSource}
 use Rattle.model.specs.Program.{accepted, inputOf, maxBytes}
 
@@ -42,6 +43,7 @@ pub record Demand1 : Type 0 where
   pub releasing : (n : ℕ) (t : Tables) (out : List ℕ) → Refuses (λ (o : Released). o .result) (releaseRefused out) (11 ∷ 12 ∷ 18 ∷ []) (releaseReasons n t out) (releaseCall n t out)
   pub reading : (n : ℕ) (t : Tables) (file : List ℕ) → Refuses (λ (o : Opened). o .result) (openRefused t) (11 ∷ 19 ∷ 20 ∷ []) (readReasons n t file) (readCall n t file)
   pub file-neighbours : (file : List ℕ) (p : ℕ) (out : List ℕ) → Refuses (λ (o : Listed). o .result) (listRefused out) (19 ∷ 14 ∷ 18 ∷ []) (fileNeighboursReasons file p out) (fileNeighboursCall file p out)
+  pub file-distance : (file : List ℕ) (p q : ℕ) → Refuses (λ (o : Measured). o .result) distanceRefused (19 ∷ 14 ∷ []) (fileDistanceReasons file p q) (fileDistanceCall file p q)
   -- the program's release buffer is never too short
   pub program : (bytes : List ℕ) (n : ℕ) (cs : List Update) → inputOf bytes ≡ accepted n cs → length (release (batchGraph (emptyGraph n) cs)) ≤ maxBytes
 
@@ -90,6 +92,24 @@ pub record AskedExactly (file : List ℕ) (p : ℕ) (out : List ℕ) : Type 0 wh
   pub told : (g : Graph) → Proper g → file ≡ release g → isVisible g p ≡ true → length (visibleNeighbours g p) ≤ length out
       → fileNeighboursCall file p out ≡ record { result = 0; count = length (visibleNeighbours g p); out = onto (visibleNeighbours g p) out }
 
+-- the distance of two visible nodes of g, asked of its release
+pub record DistanceTold (g : Graph) (file : List ℕ) (p q : ℕ) : Type 0 where
+  -- that in the visible part, the length of the shortest walk over its edges
+  pub told : fileDistanceCall file p q ≡ record { result = 0; distance = distance (visible g) p q }
+  pub shortest : Shortest (visible g) p q (distance (visible g) p q)
+  -- it is that of their groups
+  pub grouped : distance (visible g) p q ≡ distanceBy (summaryIn file) p q
+  -- two members of an independent group are 2 apart if the group has any superedge
+  pub independent : (p ≡ q → ⊥) → summaryIn file .groupOf p ≡ summaryIn file .groupOf q → summaryIn file .cliques (summaryIn file .groupOf p) ≡ false
+      → isJoined (summaryIn file) (summaryIn file .groupOf p) ≡ true → fileDistanceCall file p q .distance ≡ 2
+
+-- the distance of p and q, asked of a file: 19 exactly if it is no graph's release
+pub record MeasuredExactly (file : List ℕ) (p q : ℕ) : Type 0 where
+  pub none : fileDistanceCall file p q .result ≡ 19 ↔ NoRelease file
+  -- of a graph's release: 14 unless both are visible in it
+  pub hidden : (g : Graph) → Proper g → file ≡ release g → (isVisible g p && isVisible g q) ≡ false → fileDistanceCall file p q ≡ distanceRefused 14
+  pub visible : (g : Graph) → Proper g → file ≡ release g → isVisible g p ≡ true → isVisible g q ≡ true → DistanceTold g file p q
+
 pub record Demand2 : Type 0 where
   pub grouped : (x : Source) → GroupedExactly (graphOfSource x) (tablesOfSource x)
   pub answered : (x : Source) (c : Update) → refusal (graphOfSource x) c ≡ 0 → Answered (graphOfSource x) c
@@ -97,6 +117,7 @@ pub record Demand2 : Type 0 where
   pub unfolded : (x : Source) → Summarises (visible (graphOfSource x)) (summaryIn (release (graphOfSource x)))
   pub reading : (n : ℕ) (t : Tables) (file : List ℕ) → wrongSize n (lengths t) ≡ false → ReadExactly n t file
   pub asking : (file : List ℕ) (p : ℕ) (out : List ℕ) → AskedExactly file p out
+  pub measuring : (file : List ℕ) (p q : ℕ) → MeasuredExactly file p q
 
 -- DEMAND 3. What is claimed of one source: a history, refused calls included, or tables handed in; g is its plain graph.
 pub record Faithful (x : Source) (g : Graph) (t : Tables) : Type 0 where

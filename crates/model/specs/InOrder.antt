@@ -9,7 +9,8 @@ use Rattle.model.specs.Lists.{all, concat, headOr, member, nodes}
 use Rattle.model.specs.Graph.{View, maxNodes}
 use Rattle.model.specs.Grouping.{falseTwins, trueTwins}
 use Rattle.model.specs.Release.{endRecord, headRecord, superedgeRecord, u16, u16Limit}
-use Rattle.model.specs.Reading.{afterGroups, groupsAt, hasPair, superedgesAt, u16At}
+use Rattle.model.specs.Reading.{afterGroups, groupsAt, summaryBy, superedgesAt, u16At}
+use Rattle.model.specs.Summary.{groupsOf}
 
 -- the groups and the superedges that a file tells
 unfoldable pub toldGroups : List ℕ → List (Bool × List ℕ)
@@ -66,9 +67,9 @@ membersAt gs i = getD (map (λ g. g .1) gs) i []
 unfoldable pub cliqueAt : List (Bool × List ℕ) → ℕ → Bool
 cliqueAt gs i = getD (map (λ g. g .0) gs) i false
 
--- the groups as nodes of a graph of their own, whose edges are the superedges
+-- the groups as nodes, joined by the superedges
 abbrev pub groupView : List (Bool × List ℕ) → List (ℕ × ℕ) → View
-groupView gs js = record { nodes = nodes (length gs); edge = λ i j. hasPair js i j || hasPair js j i }
+groupView gs js = groupsOf (summaryBy gs js)
 
 -- a group that members of another may join without an edge to it, or with one: a group of one is both
 unfoldable pub openAt : List (Bool × List ℕ) → ℕ → Bool

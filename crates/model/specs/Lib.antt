@@ -6,6 +6,7 @@ pub mod Tables
 pub mod Refusals
 pub mod Steps
 pub mod Updates
+pub mod Distance
 pub mod Queries
 pub mod Release
 pub mod Reading
@@ -17,9 +18,11 @@ pub mod TestLaws
 pub mod RefusalLaws
 pub mod StepLaws
 pub mod ListLaws
+pub mod DistanceLaws
 pub mod TwinLaws
 pub mod ClassLaws
 pub mod SummaryLaws
+pub mod GroupDistanceLaws
 pub mod FewestLaws
 pub mod TableLaws
 pub mod ReleaseLaws

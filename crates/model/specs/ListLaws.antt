@@ -82,6 +82,11 @@ unfolding all
 all-cong f g [] h = refl
 all-cong f g (x ∷ xs) h = rw (h x (List·Memᴰ·head refl), all-cong f g xs (λ p m. h p (List·Memᴰ·tail m)))
 
+pub any-cong : (f g : ℕ → Bool) (l : List ℕ) → ((p : ℕ) → p ∈ l → f p ≡ g p) → any l f ≡ any l g
+unfolding any
+any-cong f g [] h = refl
+any-cong f g (x ∷ xs) h = rw (h x (List·Memᴰ·head refl), any-cong f g xs (λ p m. h p (List·Memᴰ·tail m)))
+
 pub member-intro : (p : ℕ) (l : List ℕ) → p ∈ l → member p l ≡ true
 unfolding member
 member-intro p l m = any-intro l (eqb p) p m (eq-eqb p p refl)

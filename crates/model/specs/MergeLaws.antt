@@ -74,11 +74,7 @@ module _ (v : View) (g : Simple v) (n : ℕ) (gs : List (Bool × List ℕ)) (js 
   outer-edge p q mp mq e = sym (s .exact p q mp mq) ∙ rw (ne-eqb (place p) (place q) e)
 
   no-loop : (i : ℕ) → joined i i ≡ false
-  no-loop i = step (decide (hasPair js i i))
-    where
-      step : (hasPair js i i ≡ true) ⊎ (hasPair js i i ≡ false) → (hasPair js i i || hasPair js i i) ≡ false
-      step (inl t) = absurd (omega (arith, pair-fits (length gs) 0 js ordered i i t .0))
-      step (inr t) = rw t
+  no-loop i = rw (eq-eqb i i refl)
 
   another : (p : ℕ) → p ∈ v .nodes → 2 ≤ length (membersAt gs (place p)) → (q : ℕ) × (q ∈ v .nodes) × (place p ≡ place q) × (p ≡ q → ⊥)
   another p m h =
@@ -145,12 +141,14 @@ module _ (v : View) (g : Simple v) (n : ℕ) (gs : List (Bool × List ℕ)) (js 
             differ (trueTwins-at v p q t (o .0) (o .1) ∙ or-left (eqb q (o .0)) tied) (ap₂ _||_ none (ne-eqb p (o .0) (o .3)))
 
   merge-N : (p q : ℕ) → p ∈ v .nodes → q ∈ v .nodes → openAt gs (place p) ≡ true → openAt gs (place q) ≡ true → falseTwins v p q ≡ true → falseTwins (groupView gs js) (place p) (place q) ≡ true
+  unfolding summaryBy
   merge-N p q mp mq a b t = falseTwins-by (groupView gs js) (place p) (place q) (λ k m. by k (inhabitant k (nodes-out (length gs) k m)))
     where
       by : (k : ℕ) → (x : ℕ) × (x ∈ v .nodes) × (place x ≡ k) → joined (place p) k ≡ joined (place q) k
       by k x = rw (← x .2) (sym (open-row p (x .0) mp (x .1) a) ∙ falseTwins-at v p q t (x .0) (x .1) ∙ open-row q (x .0) mq (x .1) b)
 
   merge-N+ : (p q : ℕ) → p ∈ v .nodes → q ∈ v .nodes → closedAt gs (place p) ≡ true → closedAt gs (place q) ≡ true → trueTwins v p q ≡ true → trueTwins (groupView gs js) (place p) (place q) ≡ true
+  unfolding summaryBy
   merge-N+ p q mp mq a b t = trueTwins-by (groupView gs js) (place p) (place q) (λ k m. by k (inhabitant k (nodes-out (length gs) k m)))
     where
       by : (k : ℕ) → (x : ℕ) × (x ∈ v .nodes) × (place x ≡ k) → closed joined (place p) k ≡ closed joined (place q) k
@@ -158,7 +156,7 @@ module _ (v : View) (g : Simple v) (n : ℕ) (gs : List (Bool × List ℕ)) (js 
 
   -- two groups could be one exactly if members of the one are similar to those of the other
   pub merge-similar : (p q : ℕ) → p ∈ v .nodes → q ∈ v .nodes → (place p ≡ place q → ⊥) → couldMerge gs js (place p) (place q) ≡ similar v p q
-  unfolding couldMerge
+  unfolding couldMerge summaryBy
   merge-similar p q mp mq apart = iff-eq _ (similar v p q) (λ t. there (or-cases _ _ t)) (λ t. back (similar-cases v p q t))
     where
       at-row : (x : ℕ) → x ∈ v .nodes → place x ∈ nodes (length gs)
@@ -215,7 +213,7 @@ module _ (v : View) (g : Simple v) (n : ℕ) (gs : List (Bool × List ℕ)) (js 
           (inner-edge x (o .0) (member-node i x l mx) (member-node i (o .0) l (o .1)) (px ∙ sym py) ∙ and-true (ap (cliqueAt gs) px ∙ t) (ap not (ne-eqb x (o .0) (o .2)))))
 
   pair-adjacent : (i j : ℕ) → i < j → j < length gs → adjacent (v .edge) (membersAt gs i) (membersAt gs j) ≡ hasPair js i j
-  unfolding adjacent
+  unfolding adjacent summaryBy
   pair-adjacent i j l h = iff-eq _ (hasPair js i j) there back
     where
       k : i < length gs
@@ -228,11 +226,14 @@ module _ (v : View) (g : Simple v) (n : ℕ) (gs : List (Bool × List ℕ)) (js 
           step (inl t) = absurd (omega (arith, pair-fits (length gs) 0 js ordered j i t .0))
           step (inr t) = t
 
+      one : joined i j ≡ hasPair js i j
+      one = rw (ne-eqb i j (λ z. omega arith), none) (or-false (hasPair js i j))
+
       edge : (x y : ℕ) → x ∈ membersAt gs i → y ∈ membersAt gs j → v .edge x y ≡ hasPair js i j
       edge x y mx my =
           let px = place-of n gs fits i x k mx in
           let py = place-of n gs fits j y h my in
-          outer-edge x y (member-node i x k mx) (member-node j y h my) (λ z. omega arith) ∙ ap₂ joined px py ∙ ap (λ (b : Bool). hasPair js i j || b) none ∙ or-false (hasPair js i j)
+          outer-edge x y (member-node i x k mx) (member-node j y h my) (λ z. omega arith) ∙ ap₂ joined px py ∙ one
 
       there : any (membersAt gs i) (λ x. any (membersAt gs j) (v .edge x)) ≡ true → hasPair js i j ≡ true
       there t =

@@ -5,7 +5,7 @@ use mathlib.Core.List.{List, [], _∷_}
 use Prim.Native.Nat.{ℕ, suc, _<_}
 use lib.Dec.{eqb}
 use lib.ListN.{length, getD}
-use Rattle.model.specs.Lists.{_∈_, member}
+use Rattle.model.specs.Lists.{_∈_, member, nodes}
 use Rattle.model.specs.Graph.{View}
 use Rattle.model.specs.Grouping.{adjacent, kindOf, isClique}
 
@@ -22,6 +22,10 @@ reconstruct d p q =
     cond (eqb (d .groupOf p) (d .groupOf q))
     (d .cliques (d .groupOf p) && not (eqb p q))
     (d .superedges (d .groupOf p) (d .groupOf q) || d .superedges (d .groupOf q) (d .groupOf p))
+
+-- the groups as nodes of a graph of their own, whose edges are the superedges between different ones
+abbrev pub groupsOf : Summary → View
+groupsOf d = record { nodes = nodes (d .count); edge = λ i j. not (eqb i j) && (d .superedges i j || d .superedges j i) }
 
 -- d puts each node in exactly one group, none empty, and unfolds to exactly the edges among them
 pub record Summarises (v : View) (d : Summary) : Type 0 where

@@ -13,6 +13,10 @@ decide false = inr refl
 pub differ : {X : Type 0} {b : Bool} → b ≡ true → b ≡ false → X
 differ p q = let z : _≡_ {A = ℕ} 0 1 = ap (λ (t : Bool). cond t 0 1) (sym p ∙ q) in absurd (omega arith)
 
+pub fails : (b : Bool) → (b ≡ true → ⊥) → b ≡ false
+fails true h = absurd (h refl)
+fails false h = refl
+
 pub and-true : {a b : Bool} → a ≡ true → b ≡ true → (a && b) ≡ true
 and-true p q = rw (p, q)
 

@@ -1,6 +1,6 @@
 -- Reading a release back, and asking it, are the model's calls.
 use mathlib.Core.Path.{_≡_, refl, sym, ap, ap₂, subst, _∙_}
-use mathlib.Core.Bool.{Bool, true, false, cond, not, _&&_, and-false}
+use mathlib.Core.Bool.{Bool, true, false, cond, not, _||_, and-false, or-true}
 use mathlib.Core.List.{List, [], _∷_}
 use mathlib.Core.Logic.{_≢_, _⊎_, inl, inr}
 use Prim.Native.Nat.{ℕ, _≤_, _<_}
@@ -13,10 +13,11 @@ use Rattle.model.specs.Lists.{filter, nodes}
 use Rattle.model.specs.Graph.{Graph, maxNodes}
 use Rattle.model.specs.Tables.{Tables, tablesOf, edgeBit}
 use Rattle.model.specs.Refusals.{firstOf, lengths, wrongSize}
-use Rattle.model.specs.Release.{isVisible}
+use Rattle.model.specs.Release.{isVisible, visible}
 use Rattle.model.specs.Reading.{decode, isRelease}
 use Rattle.model.specs.Queries.{neighbours}
-use Rattle.model.specs.Calls.{openRefused, readReasons, readCall, listRefused, fileNeighboursReasons, fileNeighboursCall, onto}
+use Rattle.model.specs.Distance.{distance}
+use Rattle.model.specs.Calls.{openRefused, readReasons, readCall, listRefused, fileDistanceReasons, fileDistanceCall, fileNeighboursReasons, fileNeighboursCall, onto}
 use Rattle.model.specs.TestLaws.{decide}
 use Rattle.model.specs.RefusalLaws.{first-none}
 use Rattle.model.specs.ListLaws.{filter-cong, nodes-out}
@@ -27,6 +28,7 @@ use Rattle.reader.specs.declared.Decoded.{Decoded}
 use Rattle.reader.specs.declared.Decoded.the-variants as answer
 use Rattle.rows.specs.Rows.{noNode}
 use Rattle.compressed.specs.Compressed.{placed, unfolded}
+use Rattle.compressed.specs.PlacedLaws.{placed-visible}
 use Rattle.unfolding.specs.Unfolding.{NeighbourRow}
 use Rattle.index.specs.Index.{opened, listed}
 use Rattle.index.specs.IndexLaws.{call-refused, call-done}
@@ -35,7 +37,7 @@ use Rattle.sums.specs.Sums.{Cubed}
 use Rattle.sums.specs.Joined.{JoinedSummed}
 use Rattle.judging.specs.Numbers.{askedNumber, readNumber}
 use Rattle.judging.specs.Judging.{Exact, Judged}
-use Rattle.release.specs.Release.{rowTold}
+use Rattle.release.specs.Release.{measured, rowTold}
 
 -- what a number tells of the file
 no-first : (b : Bool) → firstOf ((not b, 19) ∷ []) ≡ 19 → b ≡ false
@@ -82,32 +84,34 @@ module _ (n : ℕ) (t : Tables) (s : List ℕ) (f : Bool) (e : f ≡ not (wrongS
     unfolding readCall readReasons firstOf
     read-done m z d w = rw (right, passed j m z, eq-eqb (decode s .nodeCount) n (count m z ∙ d)) (ap (opened 0) (w ∙ ap tablesOf (ap (λ (k : ℕ). unfolded k first kinds joined) (sym d) ∙ j .graph m z)))
 
+-- whether a node is in a group, as it is looked up
+module _ (n : ℕ) (first : List ℕ) (p : ℕ) where
+  pub outside-placed : n ≤ p → false ≡ placed n first p
+  unfolding placed
+  outside-placed h = rw (le-ltb p n h)
+
+  pub inside-placed : p < n → not (eqb (getD first p 0) noNode) ≡ placed n first p
+  unfolding placed
+  inside-placed h = rw (lt-ltb p n h)
+
+-- a file shows the nodes in its groups
+shown : {s first kinds joined sums : List ℕ} {r : Decoded} → Judged s first kinds joined sums r → (n : ℕ) → r ≡ answer.Graph n → (p : ℕ) → isVisible (decode s) p ≡ placed n first p
+shown {s} {first} {kinds} {joined} j n z p = ap (λ (g : Graph). isVisible g p) (sym (j .graph n z)) ∙ placed-visible n first p kinds joined
+
 -- neighbours asked of a file
 module _ (s : List ℕ) (p : ℕ) (out : List ℕ) {first kinds joined sums : List ℕ} {r : Decoded} (j : Judged s first kinds joined sums r) where
   pub ask-none : r ≡ answer.NoRelease → listed 19 0 out ≡ fileNeighboursCall s p out
   unfolding fileNeighboursCall fileNeighboursReasons firstOf
   ask-none z = rw (failed j z)
 
-  module _ (n : ℕ) (z : r ≡ answer.Graph n) where
-    seen : isVisible (decode s) p ≡ (ltb p n && not (ltb p n && eqb (getD first p 0) noNode))
-    seen = ap (λ (g : Graph). isVisible g p) (sym (j .graph n z)) ∙ unfold isVisible unfolded in refl
-
-    pub ask-outside : n ≤ p → listed 14 0 out ≡ fileNeighboursCall s p out
+  module _ (n : ℕ) (z : r ≡ answer.Graph n) {b : Bool} (e : b ≡ placed n first p) where
+    pub ask-hidden : b ≡ false → listed 14 0 out ≡ fileNeighboursCall s p out
     unfolding fileNeighboursCall fileNeighboursReasons firstOf
-    ask-outside h = rw (passed j n z, seen, le-ltb p n h)
+    ask-hidden h = rw (passed j n z, shown j n z p ∙ sym e ∙ h)
 
-    pub ask-hidden : p < n → getD first p 0 ≡ noNode → listed 14 0 out ≡ fileNeighboursCall s p out
-    unfolding fileNeighboursCall fileNeighboursReasons firstOf
-    ask-hidden h k = rw (passed j n z, seen, lt-ltb p n h, eq-eqb (getD first p 0) noNode k)
-
-    -- a visible node is in a group
-    pub ask-placed : p < n → (getD first p 0 ≡ noNode → ⊥) → placed n first p ≡ true
-    unfolding placed
-    ask-placed h v = rw (lt-ltb p n h, ne-eqb (getD first p 0) noNode v)
-
-    pub ask-row : p < n → (getD first p 0 ≡ noNode → ⊥) → {row : List ℕ} → NeighbourRow n first kinds joined p row → rowTold row out ≡ fileNeighboursCall s p out
+    pub ask-row : b ≡ true → {row : List ℕ} → NeighbourRow n first kinds joined p row → rowTold row out ≡ fileNeighboursCall s p out
     unfolding rowTold
-    ask-row h v {row} w = rw list (step (decide (ltb (length out) (length (neighbours (decode s) p)))))
+    ask-row h {row} w = rw list (step (decide (ltb (length out) (length (neighbours (decode s) p)))))
       where
         small : n ≤ maxNodes
         small = j .exact n z .compressed .small
@@ -125,16 +129,35 @@ module _ (s : List ℕ) (p : ℕ) (out : List ℕ) {first kinds joined sums : Li
             told : filter (edgeBit row 0) (nodes n) ≡ neighbours (unfolded n first kinds joined) p
             told = unfold neighbours unfolded in filter-cong (edgeBit row 0) _ (nodes n) (λ q m. w .bits q (omega (arith, nodes-out n q m, small)))
 
-        shown : isVisible (decode s) p ≡ true
-        shown = seen ∙ rw (lt-ltb p n h, ne-eqb (getD first p 0) noNode v)
-
         number : firstOf (fileNeighboursReasons s p out) ≡ cond (ltb (length out) (length (neighbours (decode s) p))) 18 0
-        number = unfold fileNeighboursReasons firstOf in rw (passed j n z, shown)
+        number = unfold fileNeighboursReasons firstOf in rw (passed j n z, shown j n z p ∙ sym e ∙ h)
 
         step : (ltb (length out) (length (neighbours (decode s) p)) ≡ true) ⊎ (ltb (length out) (length (neighbours (decode s) p)) ≡ false)
             → cond (ltb (length out) (length (neighbours (decode s) p))) (listRefused out 18) (record { result = 0; count = length (neighbours (decode s) p); out = onto (neighbours (decode s) p) out }) ≡ fileNeighboursCall s p out
         step (inl x) = unfold fileNeighboursCall in rw x (call-refused (fileNeighboursReasons s p out) (listRefused out) _ 18 (number ∙ rw x) (omega arith))
         step (inr x) = unfold fileNeighboursCall in rw x (call-done (fileNeighboursReasons s p out) (listRefused out) _ (number ∙ rw x))
+
+-- a distance asked of a file
+module _ (s : List ℕ) (p q : ℕ) {first kinds joined sums : List ℕ} {r : Decoded} (j : Judged s first kinds joined sums r) where
+  pub measure-none : r ≡ answer.NoRelease → measured 19 0 ≡ fileDistanceCall s p q
+  unfolding fileDistanceCall fileDistanceReasons firstOf
+  measure-none z = rw (failed j z)
+
+  module _ (n : ℕ) (z : r ≡ answer.Graph n) where
+    -- either node may be the hidden one
+    hidden : (a b : Bool) → isVisible (decode s) p ≡ a → isVisible (decode s) q ≡ b → (not a || not b) ≡ true → measured 14 0 ≡ fileDistanceCall s p q
+    unfolding fileDistanceCall fileDistanceReasons firstOf
+    hidden a b x y h = rw (passed j n z, x, y, h)
+
+    pub measure-first : {b : Bool} → b ≡ placed n first p → b ≡ false → measured 14 0 ≡ fileDistanceCall s p q
+    measure-first e h = hidden false _ (shown j n z p ∙ sym e ∙ h) refl refl
+
+    pub measure-second : {b : Bool} → b ≡ placed n first q → b ≡ false → measured 14 0 ≡ fileDistanceCall s p q
+    measure-second e h = hidden _ false refl (shown j n z q ∙ sym e ∙ h) (or-true (not (isVisible (decode s) p)))
+
+    pub measure-done : placed n first p ≡ true → placed n first q ≡ true → {d : ℕ} → d ≡ distance (visible (unfolded n first kinds joined)) p q → measured 0 d ≡ fileDistanceCall s p q
+    unfolding fileDistanceCall fileDistanceReasons firstOf
+    measure-done a b e = rw (passed j n z, shown j n z p ∙ a, shown j n z q ∙ b) (ap (measured 0) (e ∙ ap (λ (g : Graph). distance (visible g) p q) (j .graph n z)))
 
 -- a row listed
 module _ (row out : List ℕ) {k : ℕ} (c : k ≡ length (scan (edgeBit row 0) maxNodes 0)) where

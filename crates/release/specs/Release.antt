@@ -9,11 +9,15 @@ use Rattle.model.specs.Graph.{Graph, maxNodes}
 use Rattle.model.specs.Tables.{edgeBit, nodeNumber}
 use Rattle.buffers.specs.Scan.{scan}
 use Rattle.model.specs.Release.{release}
-use Rattle.model.specs.Calls.{Listed, listRefused, onto, Released, releaseRefused, released}
+use Rattle.model.specs.Calls.{Listed, Measured, listRefused, onto, Released, releaseRefused, released}
 
 -- the release of a graph into a buffer, or 18
 unfoldable pub told : Graph → List ℕ → Released
 told g out = cond (ltb (length out) (length (release g))) (releaseRefused out 18) (released g out)
+
+-- a distance told, as the model's record of it
+abbrev pub measured : ℕ → ℕ → Measured
+measured r d = record { result = r; distance = d }
 
 -- the marks of n nodes, in a list of their own
 pub record Marks (n : ℕ) (nodes hidden : List ℕ) : Type 0 where

@@ -5,7 +5,7 @@ ghost use lib.ListN.{length};
 ghost use Prim.Native.Nat.{_*_, _≤_};
 ghost use Rattle.model.specs.Graph.{rowWords};
 ghost use Rattle.model.specs.Tables.{graphOf};
-ghost use Rattle.model.specs.Calls.{fileNeighboursCall, readCall, releaseCall};
+ghost use Rattle.model.specs.Calls.{fileDistanceCall, fileNeighboursCall, readCall, releaseCall};
 ghost use Rattle.rows.specs.Rows.{lent};
 ghost use Rattle.masking.specs.Masking.{Drawn, markedGraph};
 ghost use Rattle.layout.specs.Truth.{Truth};
@@ -14,7 +14,7 @@ ghost use Rattle.compressed.specs.Compressed.{smallNodes};
 ghost use Rattle.reader.specs.Decoding.{BlankRows, nodesIn};
 ghost use Rattle.index.specs.Index.{listed, opened};
 ghost use Rattle.tables.specs.Lent.{Held};
-ghost use Rattle.release.specs.Release.{told};
+ghost use Rattle.release.specs.Release.{measured, told};
 use compressed::SINGLE;
 use compressed::SMALL;
 use index::Listed;
@@ -25,6 +25,22 @@ use writer::Written;
 mod asking;
 mod copies;
 mod reading;
+
+// A distance asked of a release, beside the result.
+pub struct Measured {
+    pub result: u16,
+    pub distance: u16,
+}
+
+// A distance that is not told, for a reason with a number.
+fn unmeasured(number: u16) -> Measured
+    ensures { λ r. ⌜ (r .result ≡ number) × (r .distance ≡ 0) ⌝ }
+{
+    Measured {
+        result: number,
+        distance: 0,
+    }
+}
 
 // The edges between visible nodes, and the least members of their groups: what the release writer needs.
 fn summarise(edges: &[u64], hidden: &[u16], n: usize, masked: &mut [u64], least: &mut [u16])
@@ -145,14 +161,10 @@ fn ask_with(file: &[u8], p: u16, out: &mut [u16], joined: &mut [u64]) -> Listed
     let Decoded::Graph { n } = judged else {
         return asking::refused(19);
     };
-    let node = p as usize;
-    if node >= n {
+    if !asking::is_placed(&least, n, p) {
         return asking::refused(14);
     }
-    if least[node] == Graph::NONE {
-        return asking::refused(14);
-    }
-    let row = unfolding::neighbour_row(&least, &kinds, joined, n, node);
+    let row = unfolding::neighbour_row(&least, &kinds, joined, n, p as usize);
     asking::answer(&row, out)
 }
 
@@ -166,4 +178,41 @@ pub fn file_neighbours(file: &[u8], p: u16, out: &mut [u16]) -> Listed
     }
     let mut joined = [0u64; Graph::NODES * Graph::ROW_WORDS];
     ask_with(file, p, out, &mut joined)
+}
+
+// The distance of p and q, asked of a release, with rows for the superedges between its groups.
+fn measure_with(file: &[u8], p: u16, q: u16, joined: &mut [u64]) -> Measured
+    requires { ⌜ BlankRows (now file) (now joined) ⌝ }
+    ensures { λ r. ⌜ measured (r .result) (r .distance) ≡ fileDistanceCall (now (file .entry)) p q ⌝ }
+{
+    let mut least = [Graph::NONE; Graph::NODES];
+    let mut kinds = [SINGLE; Graph::NODES];
+    let mut sums = [0u32; 2 * Graph::NODES];
+    let judged = judging::judge(file, &mut least, &mut kinds, joined, &mut sums);
+    let Decoded::Graph { n } = judged else {
+        return unmeasured(19);
+    };
+    if !asking::is_placed(&least, n, p) {
+        return unmeasured(14);
+    }
+    if !asking::is_placed(&least, n, q) {
+        return unmeasured(14);
+    }
+    let distance = distances::distance(&least, &kinds, joined, n, p as usize, q as usize);
+    Measured {
+        result: 0,
+        distance,
+    }
+}
+
+// How many edges separate p and q, asked of a release; 65,535 if no chain of edges does. 0, or 19, 14 (out of range or hidden).
+pub fn file_distance(file: &[u8], p: u16, q: u16) -> Measured
+    ensures { λ r. ⌜ measured (r .result) (r .distance) ≡ fileDistanceCall (now (file .entry)) p q ⌝ }
+{
+    if is_small(file) {
+        let mut joined = [0u64; SMALL * Graph::ROW_WORDS];
+        return measure_with(file, p, q, &mut joined);
+    }
+    let mut joined = [0u64; Graph::NODES * Graph::ROW_WORDS];
+    measure_with(file, p, q, &mut joined)
 }

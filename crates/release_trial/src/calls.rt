@@ -84,3 +84,11 @@ fn neighbours_to(file: &[u8], p: u64, out: &mut [u16], shown: u64) {
     let r = release::file_neighbours(file, small(p), out);
     say::listed(r.result, r.count, out, shown);
 }
+
+// The distance of p and q, asked of the file.
+pub fn hops(file: &[u8], p: u64, q: u64) {
+    let r = release::file_distance(file, small(p), small(q));
+    say::field(b"hops", wide(r.result));
+    say::field(b" distance", wide(r.distance));
+    say::feed();
+}

@@ -32,6 +32,8 @@ fn on_file(command: u8, line: &[u64; 7], file: &mut [u8]) {
     match command {
         b'n' => calls::neighbours(file, line[1], line[2], line[3]),
         b'q' => sweep::queries(file, line[1]),
+        b'h' => calls::hops(file, line[1], line[2]),
+        b'p' => sweep::pairs(file, line[1]),
         b'e' => sweep::ends(file),
         b'd' => sweep::damage(file, line[1], line[2]),
         _ => return,

@@ -27,6 +27,40 @@ fn fold_all(h: u64, file: &[u8], p: u16) -> u64 {
     fold_asked(h, file, p, &mut out)
 }
 
+// The distance of p and q.
+fn fold_hops(h: u64, file: &[u8], p: u16, q: u16) -> u64 {
+    let r = release::file_distance(file, p, q);
+    fold(fold(h, wide(r.result)), wide(r.distance))
+}
+
+// The neighbours of p, into a buffer of four, and its distance from node 0.
+fn fold_asked_twice(h: u64, file: &[u8], p: u16) -> u64 {
+    fold_hops(fold_four(h, file, p), file, p, 0)
+}
+
+// The distances of p and each node below `limit`.
+fn fold_from(h: u64, file: &[u8], p: u16, limit: u64) -> u64 {
+    let mut d = h;
+    for q in 0..limit {
+        d = fold_hops(d, file, p, small(q));
+    }
+    d
+}
+
+// The distances of every two nodes below `limit`.
+fn fold_pairs(file: &[u8], limit: u64) -> u64 {
+    let mut d = 0;
+    for p in 0..limit {
+        d = fold_from(d, file, small(p), limit);
+    }
+    d
+}
+
+pub fn pairs(file: &[u8], limit: u64) {
+    say::field(b"pairs digest", fold_pairs(file, limit));
+    say::feed();
+}
+
 // The neighbours of each node below `limit`.
 fn fold_queries(file: &[u8], limit: u64) -> u64 {
     let mut d = 0;
@@ -61,7 +95,7 @@ fn counted(read: u64, result: u16) -> u64 {
     read
 }
 
-// A file read into tables for six nodes, filled with 7, and asked for the neighbours of p.
+// A file read into tables for six nodes, filled with 7, and asked for the neighbours of p and its distance from node 0.
 fn attempt(t: Tally, file: &[u8], p: u16) -> Tally {
     let mut edges = [7u64; 48];
     let mut nodes = [7u16; 24];
@@ -70,7 +104,7 @@ fn attempt(t: Tally, file: &[u8], p: u16) -> Tally {
     let d = fold_tables(fold(t.digest, wide(r)), &edges, &nodes, &keys);
     Tally {
         read: counted(t.read, r),
-        digest: fold_four(d, file, p),
+        digest: fold_asked_twice(d, file, p),
     }
 }
 
@@ -127,13 +161,13 @@ fn fold_written(h: u64, r: Written) -> u64 {
     fold(fold(d, wide_key(r.superedges)), wide_key(r.bytes))
 }
 
-// The neighbours of p, asked of the first `length` bytes of a buffer.
+// The neighbours of p and its distance from node 0, asked of the first `length` bytes of a buffer.
 fn fold_start(h: u64, out: &[u8], length: u64, p: u16) -> u64 {
     let k = within(length, out.len());
-    fold_four(h, &out[..k], p)
+    fold_asked_twice(h, &out[..k], p)
 }
 
-// The release, into a buffer of 512 bytes, asked for the neighbours of p.
+// The release, into a buffer of 512 bytes, asked for the neighbours of p and its distance from node 0.
 fn fold_release(h: u64, n: usize, edges: &[u64], nodes: &[u16], keys: &[u32], p: u16) -> u64 {
     let mut out = [165u8; 512];
     let r = release::release(n, edges, nodes, keys, &mut out);

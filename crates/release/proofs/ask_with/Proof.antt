@@ -1,9 +1,9 @@
 -- `release::ask_with` meets its contract.
 use borrow.Author.Needs.{needs}
-use mathlib.Core.Path.{_∙_}
-use mathlib.Core.List.{[]}
+use mathlib.Core.Path.{sym, _∙_}
 use native.Mathlib.Omega.{arith}
-use Rattle.release.specs.ReadLaws.{ask-hidden, ask-none, ask-outside, ask-placed, ask-row}
+use borrow.Author.Tests.{not-false, not-true}
+use Rattle.release.specs.ReadLaws.{ask-hidden, ask-none, ask-row}
 use Rattle.release.proofs.ask_with.Statement.{statement}
 use Rattle.release.proofs.ask_with.Tie as tie
 
@@ -36,6 +36,14 @@ returns c =
     let e = c .refused .ensures in
     rw (e .0, e .1) (ask-none _ _ _ (c .before .before .before .before .before .before .before .before .judge .ensures) (c .before .enum-told .given .1))
 
+slice-aggregate-is-placed : tie.Need-slice-aggregate-is-placed
+slice-aggregate-is-placed c = search needs
+
+is-placed-requires : tie.Need-is-placed-requires
+is-placed-requires c κs =
+    let x = c .before .before .before .before .before .before .before .before .before .judge .ensures .exact _ (c .before .before .judged .given .1) .compressed in
+    omega (arith, x .small, x .nodes)
+
 refused-requires-2 : tie.Need-refused-requires-2
 refused-requires-2 c κs = search needs
 
@@ -45,26 +53,7 @@ same-length-2 c = search needs
 returns-2 : tie.Need-returns-2
 returns-2 c =
     let e = c .refused2 .ensures in
-    rw (e .0, e .1) (ask-outside _ _ _ (c .before .before .before .before .before .before .before .before .before .before .judge .ensures) _ (c .before .before .before .judged .given .1) (c .before .if1 .taken))
-
-mul-if2 : tie.Need-mul-if2
-mul-if2 c = search needs
-
-array-read-if2 : tie.Need-array-read-if2
-array-read-if2 c =
-    let x = c .before .before .before .before .before .before .before .before .before .judge .ensures .exact _ (c .before .before .judged .given .1) .compressed in
-    omega (arith, c .if1 .left, x .small, x .nodes)
-
-refused-requires-3 : tie.Need-refused-requires-3
-refused-requires-3 c κs = search needs
-
-same-length-3 : tie.Need-same-length-3
-same-length-3 c = search needs
-
-returns-3 : tie.Need-returns-3
-returns-3 c =
-    let e = c .refused3 .ensures in
-    rw (e .0, e .1) (ask-hidden _ _ _ (c .before .before .before .before .before .before .before .before .before .before .before .judge .ensures) _ (c .before .before .before .before .judged .given .1) (c .before .before .if1 .left) (c .before .if2 .taken))
+    rw (e .0, e .1) (ask-hidden _ _ _ (c .before .before .before .before .before .before .before .before .before .before .before .before .judge .ensures) _ (c .before .before .before .before .before .judged .given .1) (c .before .before .is-placed .ensures) (not-true _ (c .before .if1 .taken)))
 
 slice-aggregate-neighbour-row : tie.Need-slice-aggregate-neighbour-row
 slice-aggregate-neighbour-row c = search needs
@@ -74,9 +63,7 @@ slice-aggregate-neighbour-row-2 c = search needs
 
 neighbour-row-requires : tie.Need-neighbour-row-requires
 neighbour-row-requires c κs =
-    let j = c .before .before .before .before .before .before .before .before .before .before .before .before .before .judge .ensures in
-    let z = c .before .before .before .before .before .before .judged .given .1 in
-    (j .exact _ z .compressed, ask-placed _ _ [] j _ z (c .before .before .before .before .if1 .left) (c .before .before .before .if2 .left))
+    (c .before .before .before .before .before .before .before .before .before .before .before .before .before .before .judge .ensures .exact _ (c .before .before .before .before .before .before .before .judged .given .1) .compressed, sym (c .before .before .before .before .is-placed .ensures) ∙ not-false _ (c .before .before .before .if1 .left))
 
 slice-aggregate-answer : tie.Need-slice-aggregate-answer
 slice-aggregate-answer c = search needs
@@ -84,16 +71,16 @@ slice-aggregate-answer c = search needs
 answer-requires : tie.Need-answer-requires
 answer-requires c κs = search needs
 
+same-length-3 : tie.Need-same-length-3
+same-length-3 c = search needs
+
 same-length-4 : tie.Need-same-length-4
 same-length-4 c = search needs
 
-same-length-5 : tie.Need-same-length-5
-same-length-5 c = search needs
-
-returns-4 : tie.Need-returns-4
-returns-4 c =
+returns-3 : tie.Need-returns-3
+returns-3 c =
     c .before .before .answer .ensures
-    ∙ ask-row _ _ _ (c .before .before .before .before .before .before .before .before .before .before .before .before .before .before .before .before .before .before .before .judge .ensures) _ (c .before .before .before .before .before .before .before .before .before .before .before .before .judged .given .1) (c .before .before .before .before .before .before .before .before .before .before .if1 .left) (c .before .before .before .before .before .before .before .before .before .if2 .left) (c .before .before .before .before .before .neighbour-row .ensures)
+    ∙ ask-row _ _ _ (c .before .before .before .before .before .before .before .before .before .before .before .before .before .before .before .before .before .before .before .before .judge .ensures) _ (c .before .before .before .before .before .before .before .before .before .before .before .before .before .judged .given .1) (c .before .before .before .before .before .before .before .before .before .before .is-placed .ensures) (not-false _ (c .before .before .before .before .before .before .before .before .before .if1 .left)) (c .before .before .before .before .before .neighbour-row .ensures)
 
 pub ask-with-spec : {M : Type 1} → statement M
 ask-with-spec =
@@ -108,19 +95,16 @@ ask-with-spec =
     refused-requires
     same-length
     returns
+    slice-aggregate-is-placed
+    is-placed-requires
     refused-requires-2
     same-length-2
     returns-2
-    mul-if2
-    array-read-if2
-    refused-requires-3
-    same-length-3
-    returns-3
     slice-aggregate-neighbour-row
     slice-aggregate-neighbour-row-2
     neighbour-row-requires
     slice-aggregate-answer
     answer-requires
+    same-length-3
     same-length-4
-    same-length-5
-    returns-4)
+    returns-3)

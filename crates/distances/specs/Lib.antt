@@ -1,0 +1,4 @@
+pub mod Distances
+pub mod SetLaws
+pub mod SearchLaws
+pub mod HeldLaws
