@@ -45,8 +45,8 @@ module _ (n : ℕ) (least kinds joined : List ℕ) (h : Compressed n least kinds
   placed-of : (p : ℕ) → p ∈ visible G .nodes → placed n least p ≡ true
   placed-of p m = sym (placed-visible n least p kinds joined) ∙ sym (member-visible G p) ∙ member-intro p (visible G .nodes) m
 
-  pub first-below : (p : ℕ) → placed n least p ≡ true → first p < n
-  first-below p t = omega (arith, h .before p t, placed-lt n least p t)
+  pub held-first : (p : ℕ) → placed n least p ≡ true → first p < n
+  held-first p t = omega (arith, h .before p t, placed-lt n least p t)
 
   -- the superedges that rows tell
   bit : (i j : ℕ) → i < n → j < n → groupsOf d .edge i j ≡ edgeBit joined i j
@@ -74,11 +74,11 @@ module _ (n : ℕ) (least kinds joined : List ℕ) (h : Compressed n least kinds
       (unfold unfolded unfoldedEdge in rw (a, b, or-same (edgeBit joined (first p) (first q))))
     where
       turn : edgeBit joined (first q) (first p) ≡ edgeBit joined (first p) (first q)
-      turn = h .symmetric (first q) (first p) (omega (arith, first-below q b, h .small)) (omega (arith, first-below p a, h .small))
+      turn = h .symmetric (first q) (first p) (omega (arith, held-first q b, h .small)) (omega (arith, held-first p a, h .small))
 
   unfolds : Unfolds (visible G) (heldSummary n least kinds joined)
   unfolds = record {
-    placed = λ p m. unfold heldSummary in first-below p (placed-of p m);
+    placed = λ p m. unfold heldSummary in held-first p (placed-of p m);
     met = λ i j a b e. met i j (unfold heldSummary in a) (unfold heldSummary in b) e;
     exact = λ p q mp mq. exact p q (placed-of p mp) (placed-of q mq);
   }
@@ -106,8 +106,8 @@ module _ (n : ℕ) (least kinds joined : List ℕ) (h : Compressed n least kinds
     module _ {i j : ℕ} (ei : i ≡ first p) (ej : j ≡ first q) where
       pub held-across : (i ≡ j → ⊥) → {r : ℕ} → Shortest (rowsView n joined) i j r → r ≡ distance (visible G) p q
       held-across other s =
-          let x : i < n = omega (arith, first-below p a) in
-          let y : j < n = omega (arith, first-below q b) in
+          let x : i < n = omega (arith, held-first p a) in
+          let y : j < n = omega (arith, held-first q b) in
           shortest-distance (rowsView n joined) i j (nodes-in n i x) (nodes-in n j y) s
           ∙ same-distance i j y
           ∙ rw (ei, ej) (sym (by-groups ∙ unfold distanceBy heldSummary in rw (ne-eqb p q (λ z. other (ei ∙ ap first z ∙ sym ej)), ne-eqb (first p) (first q) (λ z. other (ei ∙ z ∙ sym ej)))))
@@ -115,7 +115,7 @@ module _ (n : ℕ) (least kinds joined : List ℕ) (h : Compressed n least kinds
       -- in one group: by its kind, and by whether its row tells a superedge
       module _ (other : p ≡ q → ⊥) (one : i ≡ j) where
         inside : cond (eqb (getD kinds i 0) clique) 1 (cond (any (nodes maxNodes) (edgeBit joined i)) 2 unreachable) ≡ distance (visible G) p q
-        inside = rw ei (sym (by-groups ∙ unfold distanceBy heldSummary in rw (ne-eqb p q other, eq-eqb (first p) (first q) (sym ei ∙ one ∙ ej), joined-is (first p) (first-below p a))))
+        inside = rw ei (sym (by-groups ∙ unfold distanceBy heldSummary in rw (ne-eqb p q other, eq-eqb (first p) (first q) (sym ei ∙ one ∙ ej), joined-is (first p) (held-first p a))))
 
         pub held-clique : getD kinds i 0 ≡ clique → 1 ≡ distance (visible G) p q
         held-clique k = rw (eq-eqb (getD kinds i 0) clique k) at inside

@@ -83,8 +83,8 @@ pub record WordsOf (P : ℕ → Bool) (w : ℕ) (row : List ℕ) : Type 0 where
   pub size : length row ≡ 8
   pub bits : (q : ℕ) → q < 64 * w → edgeBit row 0 q ≡ P q
 
-pub words-none : (P : ℕ → Bool) (row : List ℕ) → length row ≡ 8 → WordsOf P 0 row
-words-none P row e = record { size = e; bits = λ q l. absurd (omega arith) }
+pub set-begun : (P : ℕ → Bool) (row : List ℕ) → length row ≡ 8 → WordsOf P 0 row
+set-begun P row e = record { size = e; bits = λ q l. absurd (omega arith) }
 
 words-more : {P : ℕ → Bool} {w : ℕ} {row : List ℕ} (x : ℕ) → w < 8 → ((q : ℕ) → q / 64 ≡ w → bitAt x (q % 64) ≡ P q) → WordsOf P w row → WordsOf P (w + 1) (set row w x)
 words-more {P} {w} {row} x l e h = record { size = length-set row w x ∙ h .size; bits = λ q m. one q m (decide (eqb (q / 64) w)) }
@@ -97,8 +97,8 @@ words-more {P} {w} {row} x l e h = record { size = length-set row w x ∙ h .siz
         let d = eqb-false (q / 64) w i in
         row-word (set row w x) q (q / 64) refl ∙ ap (λ (y : ℕ). bitAt y (q % 64)) (getD-set-other row w (q / 64) x 0 d) ∙ sym (row-word row q (q / 64) refl) ∙ h .bits q (omega (arith, d))
 
-pub words-done : {P : ℕ → Bool} {w : ℕ} {row : List ℕ} → 8 ≤ w → WordsOf P w row → SetOf P row
-words-done l h = record { size = h .size; bits = λ q m. h .bits q (omega arith) }
+pub set-whole : {P : ℕ → Bool} {w : ℕ} {row : List ℕ} → 8 ≤ w → WordsOf P w row → SetOf P row
+set-whole l h = record { size = h .size; bits = λ q m. h .bits q (omega arith) }
 
 -- a word without the bits of another
 less-bit : (s o : Bool) → xor (s || o) o ≡ (s && not o)

@@ -13,7 +13,7 @@ abbrev pub releasedBy : Written → List ℕ → Released
 releasedBy r out = record { result = r .result; nodes = r .nodes; groups = r .groups; superedges = r .superedges; bytes = r .bytes; out = out }
 
 -- the leaders stand first in the list, and the numbers are the file's
-pub record Measured (n : ℕ) (least edges leaders : List ℕ) (r : Sizes) : Type 0 where
+pub record SizesTold (n : ℕ) (least edges leaders : List ℕ) (r : Sizes) : Type 0 where
   pub listed : take (r .groups) leaders ≡ leadersOf n least
   pub set-is : LeaderSet (leadersOf n least) (r .set)
   pub nodes-are : r .nodes ≡ fileNodes n least

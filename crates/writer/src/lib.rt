@@ -12,7 +12,7 @@ ghost use Rattle.buffers.specs.Wrote.{Wrote};
 ghost use Rattle.buffers.specs.Scan.{scan};
 ghost use Rattle.layout.specs.File.{Ahead, NextLinked, Partition, Rows, chain, fileNodes, fileOf, firstTwo, groupBytes, groupMark, groupsBytes, inGroup, later, leadersOf, superedgeBytes, superedgeTotal, superedgesTo, u16Bytes, writtenFile};
 ghost use Rattle.layout.specs.Words.{AscendingLeaders, LeaderPlaces, LeaderSet, Rowed, laterWord, markedEdge, positionsOf};
-ghost use Rattle.writer.specs.Written.{Measured, releasedBy};
+ghost use Rattle.writer.specs.Written.{SizesTold, releasedBy};
 use rows::Graph;
 
 // The mark and the count before the members of a group.
@@ -378,7 +378,7 @@ pub struct Sizes {
 // A file measured, and the least members in a list.
 fn measure(n: usize, least: &[u16], edges: &[u64], leaders: &mut [u16]) -> Sizes
     requires { ⌜ Partition n (now least) (now edges) × (length (now leaders) ≡ maxNodes) ⌝ }
-    ensures { λ r. ⌜ Measured n (now (least .entry)) (now (edges .entry)) (now (leaders .exit)) r ⌝ }
+    ensures { λ r. ⌜ SizesTold n (now (least .entry)) (now (edges .entry)) (now (leaders .exit)) r ⌝ }
 {
     let g = collect_leaders(least, n, leaders);
     let set = leader_set(least, n);

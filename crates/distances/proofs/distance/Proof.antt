@@ -2,7 +2,7 @@
 use borrow.Author.Needs.{needs}
 use native.Mathlib.Omega.{arith}
 use Rattle.compressed.specs.PlacedLaws.{placed-lt}
-use Rattle.distances.specs.HeldLaws.{first-below, held-across, held-alone, held-clique, held-linked, held-rows, held-same}
+use Rattle.distances.specs.HeldLaws.{held-first, held-across, held-alone, held-clique, held-linked, held-rows, held-same}
 use Rattle.distances.proofs.distance.Statement.{statement}
 use Rattle.distances.proofs.distance.Tie as tie
 
@@ -41,7 +41,7 @@ search-requires : tie.Need-search-requires
 search-requires c κs =
     let h = c .before .before .before in
     let pre = h .before .before .before .before .before .before .pre in
-    let l = first-below _ _ _ _ (pre .0) in
+    let l = held-first _ _ _ _ (pre .0) in
     (held-rows _ _ _ _ (pre .0), omega (arith, h .wide .ensures, l _ (pre .1)), omega (arith, c .before .wide2 .ensures, l _ (pre .2)), c .if2 .taken)
 
 returns-2 : tie.Need-returns-2
@@ -54,13 +54,13 @@ mul-if3 : tie.Need-mul-if3
 mul-if3 c =
     let h = c .before .before .before in
     let pre = h .before .before .before .before .before .before .pre in
-    omega (arith, h .wide .ensures, first-below _ _ _ _ (pre .0) _ (pre .1), pre .0 .small, pre .0 .groups)
+    omega (arith, h .wide .ensures, held-first _ _ _ _ (pre .0) _ (pre .1), pre .0 .small, pre .0 .groups)
 
 shared-slice-read-if3 : tie.Need-shared-slice-read-if3
 shared-slice-read-if3 c =
     let h = c .before .before .before .before in
     let pre = h .before .before .before .before .before .before .pre in
-    omega (arith, h .wide .ensures, first-below _ _ _ _ (pre .0) _ (pre .1), pre .0 .small, pre .0 .groups)
+    omega (arith, h .wide .ensures, held-first _ _ _ _ (pre .0) _ (pre .1), pre .0 .small, pre .0 .groups)
 
 returns-3 : tie.Need-returns-3
 returns-3 c =
@@ -72,19 +72,19 @@ mul-a : tie.Need-mul-a
 mul-a c =
     let h = c .before .before .before .before .before in
     let pre = h .before .before .before .before .before .before .pre in
-    omega (arith, h .wide .ensures, first-below _ _ _ _ (pre .0) _ (pre .1), pre .0 .small, pre .0 .rows)
+    omega (arith, h .wide .ensures, held-first _ _ _ _ (pre .0) _ (pre .1), pre .0 .small, pre .0 .rows)
 
 add-row : tie.Need-add-row
 add-row c =
     let h = c .before .before .before .before .before in
     let pre = h .before .before .before .before .before .before .pre in
-    omega (arith, h .wide .ensures, first-below _ _ _ _ (pre .0) _ (pre .1), pre .0 .small, pre .0 .rows)
+    omega (arith, h .wide .ensures, held-first _ _ _ _ (pre .0) _ (pre .1), pre .0 .small, pre .0 .rows)
 
 mul-row : tie.Need-mul-row
 mul-row c =
     let h = c .before .before .before .before .before in
     let pre = h .before .before .before .before .before .before .pre in
-    omega (arith, h .wide .ensures, first-below _ _ _ _ (pre .0) _ (pre .1), pre .0 .small, pre .0 .rows)
+    omega (arith, h .wide .ensures, held-first _ _ _ _ (pre .0) _ (pre .1), pre .0 .small, pre .0 .rows)
 
 sub-row : tie.Need-sub-row
 sub-row c = search needs
@@ -96,7 +96,7 @@ part-row-end : tie.Need-part-row-end
 part-row-end c =
     let h = c .before .before .before .before .before in
     let pre = h .before .before .before .before .before .before .pre in
-    omega (arith, h .wide .ensures, first-below _ _ _ _ (pre .0) _ (pre .1), pre .0 .small, pre .0 .rows)
+    omega (arith, h .wide .ensures, held-first _ _ _ _ (pre .0) _ (pre .1), pre .0 .small, pre .0 .rows)
 
 meet-requires : tie.Need-meet-requires
 meet-requires c κs = search needs

@@ -4,7 +4,7 @@ use mathlib.Core.Bool.{not, _&&_}
 use Prim.Native.Nat.{_-_, _≤_}
 use native.Mathlib.Omega.{arith}
 use Rattle.model.specs.Tables.{edgeBit}
-use Rattle.distances.specs.SetLaws.{WordsOf, less-more, words-done, words-none}
+use Rattle.distances.specs.SetLaws.{WordsOf, less-more, set-whole, set-begun}
 use Rattle.distances.proofs.without.Statement.{statement}
 use Rattle.distances.proofs.without.Tie as tie
 
@@ -15,7 +15,7 @@ abbrev μ-loop : tie.MeasureT-loop
 μ-loop set other left₀ w₀ left w = 8 - w
 
 loop-holds : tie.Need-loop-holds Inv-loop μ-loop
-loop-holds c = (omega arith, words-none _ _ refl)
+loop-holds c = (omega arith, set-begun _ _ refl)
 
 mul-left : tie.Need-mul-left Inv-loop μ-loop
 mul-left c = omega arith
@@ -53,7 +53,7 @@ loop-again c =
     (omega arith, less-more _ _ (h .loop-test .taken) (h .before .loop .inv .1))
 
 returns : tie.Need-returns Inv-loop μ-loop
-returns c = words-done (c .loop-test .left) (c .before .loop .inv .1)
+returns c = set-whole (c .loop-test .left) (c .before .loop .inv .1)
 
 pub without-spec : {M : Type 1} → statement M
 without-spec =
