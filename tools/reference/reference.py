@@ -129,12 +129,21 @@ def numbers(*found):
     return b''.join(x.to_bytes(2, 'little') for x in found)
 
 
-def release_of(graph):
-    """The release file of a graph, and its m, g and s."""
-    nodes = [p for p in range(graph.n) if p not in graph.hidden]
+def visible_part(graph):
+    """The visible nodes, and the graph of the edges between them."""
     visible = Graph(graph.n)
     visible.edges = {pair for pair in graph.edges if not graph.hidden & set(pair)}
-    groups = algorithm1(nodes, visible.neighbourhoods())
+    return [p for p in range(graph.n) if p not in graph.hidden], visible
+
+
+def visible_groups(graph):
+    nodes, visible = visible_part(graph)
+    return algorithm1(nodes, visible.neighbourhoods())
+
+
+def release_of(graph):
+    """The release file of a graph, and its m, g and s."""
+    (nodes, visible), groups = visible_part(graph), visible_groups(graph)
     position = {p: i for i, group in enumerate(groups) for p in group}
     ends = [sorted((position[p], position[q])) for p, q in visible.edges]
     superedges = sorted({(i, j) for i, j in ends if i != j})
@@ -253,10 +262,14 @@ class Calls:
             return refused, 0
         if p >= n:
             return 14, 0
-        found = sorted(graph.neighbourhoods()[p])
-        if len(out) < len(found):
+        return self.listed(sorted(graph.neighbourhoods()[p]), groups_of(graph), out)
+
+    def listed(self, found, groups, out):
+        """The nodes found, each followed by the least of its group, and how many they are."""
+        if len(out) < 2 * len(found):
             return 18, 0
-        out[:len(found)] = found
+        least = {p: min(group) for group in groups for p in group}
+        out[:2 * len(found)] = [x for p in found for x in (p, least[p])]
         return 0, len(found)
 
     def tied(self, n, tables, p, q):
@@ -306,11 +319,7 @@ class Calls:
             return 19, 0
         if p >= graph.n or p in graph.hidden:
             return 14, 0
-        found = sorted(graph.neighbourhoods()[p])
-        if len(out) < len(found):
-            return 18, 0
-        out[:len(found)] = found
-        return 0, len(found)
+        return self.listed(sorted(graph.neighbourhoods()[p]), visible_groups(graph), out)
 
     def file_distance(self, file, p, q):
         graph = graph_of_file(file)
@@ -478,7 +487,7 @@ class IndexScript(Script):
         h = 0
         for p in range(limit):
             h = fold_all(h, self.on_tables(self.calls.group, p)[0])
-            out = [4660] * 512
+            out = [4660] * 1024
             h = fold_all(h, list(self.on_tables(self.calls.neighbours, p, out)[0]) + out)
             for q in range(limit):
                 h = fold_all(h, [int(x) for x in self.on_tables(self.calls.tied, p, q)[0]])
@@ -538,13 +547,13 @@ class ReleaseScript(Script):
         self.say('pairs digest', h)
 
     def asked_twice(self, h, file, p):
-        return fold_all(self.asked(h, file, p, 4), self.calls.file_distance(file, p, 0))
+        return fold_all(self.asked(h, file, p, 8), self.calls.file_distance(file, p, 0))
 
     def queries(self, limit):
         h = 0
         for p in range(limit):
-            h = self.asked(h, bytes(self.bytes), p, 4)
-            h = self.asked(h, bytes(self.bytes), p, 512)
+            h = self.asked(h, bytes(self.bytes), p, 8)
+            h = self.asked(h, bytes(self.bytes), p, 1024)
         self.say('queries digest', h)
 
     def update(self, kind, u, v):

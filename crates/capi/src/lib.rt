@@ -3,7 +3,8 @@ ghost use mathlib.Core.Path.{_≡_};
 ghost use mathlib.Core.Bool.{cond};
 ghost use Rattle.model.specs.Calls.{applyCall, fileDistanceCall, fileNeighboursCall, groupCall, neighboursCall, openCall, readCall, releaseCall, tiedCall};
 ghost use Rattle.rows.specs.Rows.{lent};
-ghost use Rattle.index.specs.Index.{applied, grouped, listed, opened};
+ghost use Rattle.queries.specs.Query.{listed};
+ghost use Rattle.index.specs.Index.{applied, grouped, opened};
 ghost use Rattle.release.specs.Release.{measured};
 ghost use Rattle.capi.specs.Exported.{releasedWith};
 
@@ -35,7 +36,7 @@ pub extern "C" fn tegmulos_apply(
     index::apply(n, edges, nodes, keys, batch, answers)
 }
 
-// The neighbours of p, ascending, and their count.
+// The neighbours of p, ascending, each followed by the least member of its group, and their count.
 #[no_mangle]
 pub extern "C" fn tegmulos_neighbours(
     n: usize,
@@ -137,7 +138,7 @@ pub extern "C" fn tegmulos_read(
     release::read(n, edges, nodes, keys, file)
 }
 
-// The neighbours of p in a release file, ascending, and their count.
+// The neighbours of p in a release file, ascending, each followed by the least member of its group there, and their count.
 #[no_mangle]
 pub extern "C" fn tegmulos_file_neighbours(
     file: &[u8],

@@ -1,5 +1,6 @@
--- Document 01's examples with a star, the examples of its table of refusals and the one of the program, and distances by document
--- 02's order 1, as one list of equations: on the left what the definitions of `model` give, on the right what the documents say.
+-- Document 01's examples with a star, the examples of its table of refusals and the one of the program, and document 02's distances
+-- and neighbours with their groups, as one list of equations: on the left what the definitions of `model` give, on the right what
+-- the documents say.
 use mathlib.Core.Path.{_≡_}
 use mathlib.Core.Bool.{Bool, false, _&&_}
 use mathlib.Core.List.{List, [], _∷_, map}
@@ -16,10 +17,10 @@ use Rattle.model.specs.Release.{visibleEdge, visibleGroups, superedgeCount, rel
 use Rattle.model.specs.Calls.{openCall, applyCall, neighboursCall, tiedCall, groupCall, releaseCall, readCall, fileDistanceCall, fileNeighboursCall}
 use Rattle.model.specs.Program.{text, program}
 
--- an equation between two of the things that the document speaks of: bytes of a file or a text, a number, groups, kinds of
--- groups, answers, a yes or no
+-- an equation between two of the things that the documents speak of: numbers of a file, a text or a buffer, a
+-- number, groups, kinds of groups, answers, a yes or no
 pub data Claim : Type 0 where
-  bytes : List ℕ → List ℕ → Claim
+  list : List ℕ → List ℕ → Claim
   number : ℕ → ℕ → Claim
   groups : List (List ℕ) → List (List ℕ) → Claim
   kinds : List Kind → List Kind → Claim
@@ -27,7 +28,7 @@ pub data Claim : Type 0 where
   test : Bool → Bool → Claim
 
 abbrev pub Holds : Claim → Type 0
-Holds (bytes a b) = a ≡ b
+Holds (list a b) = a ≡ b
 Holds (number a b) = a ≡ b
 Holds (groups a b) = a ≡ b
 Holds (kinds a b) = a ≡ b
@@ -121,7 +122,7 @@ selfTied = tablesOf (record { nodeCount = 1; edge = λ p q. eqb p 0 && eqb q 0; 
 unfoldable pub examples : List Claim
 examples =
     -- 1. n 0
-    bytes (release (emptyGraph 0)) (0x48 ∷ 0x44 ∷ 0x00 ∷ 0x00 ∷ 0x00 ∷ 0x00 ∷ 0x00 ∷ 0x00 ∷ 0x45 ∷ 0x4E ∷ [])
+    list (release (emptyGraph 0)) (0x48 ∷ 0x44 ∷ 0x00 ∷ 0x00 ∷ 0x00 ∷ 0x00 ∷ 0x00 ∷ 0x00 ∷ 0x45 ∷ 0x4E ∷ [])
     -- 2. n 1
     ∷ groups (visibleGroups (emptyGraph 1)) ((0 ∷ []) ∷ [])
     ∷ kinds (kindsOf (emptyGraph 1)) (singleton ∷ [])
@@ -153,7 +154,7 @@ examples =
     ∷ kinds (kindsOf path4) (singleton ∷ singleton ∷ singleton ∷ singleton ∷ [])
     ∷ number (size path4) 52
     -- 7. each of 0, 1, 2 tied to each of 3, 4, 5
-    ∷ bytes (release threeByThree) (0x48 ∷ 0x44 ∷ 0x06 ∷ 0x00 ∷ 0x06 ∷ 0x00 ∷ 0x02 ∷ 0x00 ∷ 0x47 ∷ 0x49 ∷ 0x03 ∷ 0x00 ∷ 0x00 ∷ 0x00 ∷ 0x01 ∷ 0x00 ∷ 0x02 ∷ 0x00 ∷ 0x47 ∷ 0x49 ∷ 0x03 ∷ 0x00 ∷ 0x03 ∷ 0x00 ∷ 0x04 ∷ 0x00 ∷ 0x05 ∷ 0x00 ∷ 0x53 ∷ 0x45 ∷ 0x00 ∷ 0x00 ∷ 0x01 ∷ 0x00 ∷ 0x45 ∷ 0x4E ∷ [])
+    ∷ list (release threeByThree) (0x48 ∷ 0x44 ∷ 0x06 ∷ 0x00 ∷ 0x06 ∷ 0x00 ∷ 0x02 ∷ 0x00 ∷ 0x47 ∷ 0x49 ∷ 0x03 ∷ 0x00 ∷ 0x00 ∷ 0x00 ∷ 0x01 ∷ 0x00 ∷ 0x02 ∷ 0x00 ∷ 0x47 ∷ 0x49 ∷ 0x03 ∷ 0x00 ∷ 0x03 ∷ 0x00 ∷ 0x04 ∷ 0x00 ∷ 0x05 ∷ 0x00 ∷ 0x53 ∷ 0x45 ∷ 0x00 ∷ 0x00 ∷ 0x01 ∷ 0x00 ∷ 0x45 ∷ 0x4E ∷ [])
     -- 8. from 7, untie 0 3, then tie 0 3 again
     ∷ answers (answersOn 6 (tablesOf threeByThree) (2 ∷ 0 ∷ 3 ∷ 1 ∷ 0 ∷ 3 ∷ [])) (pos 2 ∷ negsuc 1 ∷ [])
     ∷ groups (visibleGroups deleted03) ((0 ∷ []) ∷ (1 ∷ 2 ∷ []) ∷ (3 ∷ []) ∷ (4 ∷ 5 ∷ []) ∷ [])
@@ -163,7 +164,7 @@ examples =
     -- 9. from 7, withhold 3, then untie 0 3
     ∷ number (size hidden3) 34
     ∷ answers (answersOn 6 (tablesOf hidden3) (2 ∷ 0 ∷ 3 ∷ [])) (pos 2 ∷ [])
-    ∷ bytes (release hidden3deleted03) (release hidden3)
+    ∷ list (release hidden3deleted03) (release hidden3)
     ∷ groups (visibleGroups hidden3deleted03) ((0 ∷ 1 ∷ 2 ∷ []) ∷ (4 ∷ 5 ∷ []) ∷ [])
     ∷ groups (officeGroups hidden3deleted03) ((0 ∷ []) ∷ (1 ∷ 2 ∷ []) ∷ (3 ∷ []) ∷ (4 ∷ 5 ∷ []) ∷ [])
     -- 10. ties 20-0, 20-11, 21-8, 21-9
@@ -208,6 +209,13 @@ examples =
     ∷ number (distanceIn triangle 0 2) 1
     ∷ number (distanceIn (emptyGraph 2) 0 1) 65535
     ∷ number (fileDistanceCall [] 0 0 .result) 19
+    -- neighbours with the least members of their groups: in 9, that of 4 and 5 is 3 for the office, and 4 in the file
+    ∷ list (neighboursCall 6 (tablesOf hidden3) 0 (replicate 7 9) .out) (3 ∷ 3 ∷ 4 ∷ 3 ∷ 5 ∷ 3 ∷ 9 ∷ [])
+    ∷ number (neighboursCall 6 (tablesOf hidden3) 0 (replicate 6 9) .count) 3
+    ∷ number (neighboursCall 6 (tablesOf hidden3) 0 (replicate 5 9) .result) 18
+    ∷ list (fileNeighboursCall (release hidden3) 0 (replicate 5 9) .out) (4 ∷ 4 ∷ 5 ∷ 4 ∷ 9 ∷ [])
+    ∷ number (fileNeighboursCall (release hidden3) 0 (replicate 4 9) .count) 2
+    ∷ number (fileNeighboursCall (release hidden3) 0 (replicate 3 9) .result) 18
     -- the program
-    ∷ bytes (program (text "3\nt 0 1\nt 1 2\nw 0\n")) (text "change 1: 1\nchange 2: 0\nchange 3: 0\nopen 2 groups 1 joins 0\nC 1 2\n")
+    ∷ list (program (text "3\nt 0 1\nt 1 2\nw 0\n")) (text "change 1: 1\nchange 2: 0\nchange 3: 0\nopen 2 groups 1 joins 0\nC 1 2\n")
     ∷ []

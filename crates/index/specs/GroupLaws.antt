@@ -7,39 +7,25 @@ use Prim.Native.Nat.{ℕ, _≤_, _<_}
 use native.Mathlib.Omega.{arith}
 use lib.Dec.{eqb}
 use lib.ListN.{length}
-use borrow.Author.Tests.{eqb-true, eqb-false, le-ltb, lt-ltb, le-leb, lt-leb}
-use Rattle.model.specs.Lists.{_∈_, filter, nodes, headOr}
+use borrow.Author.Tests.{eqb-true, eqb-false, lt-ltb, le-leb, lt-leb}
+use Rattle.model.specs.Lists.{_∈_, filter, nodes}
 use Rattle.model.specs.Graph.{Graph, whole}
 use Rattle.model.specs.Grouping.{similar, group, least, adjacent, kindOf, isClique, clique, independent}
 use Rattle.model.specs.Tables.{Tables, edgeBit, nodeNumber, graphOf, groupIn, nodesOf, tablesOf}
-use Rattle.model.specs.Queries.{neighbours, kindNumber}
+use Rattle.model.specs.Queries.{leaderIn, kindNumber}
 use Rattle.model.specs.TestLaws.{decide}
 use Rattle.model.specs.ListLaws.{Ascending, filter-ascending, nodes-in, nodes-out, nodes-ascending}
 use Rattle.model.specs.TwinLaws.{Simple}
 use Rattle.model.specs.ClassLaws.{Equivalence, group-in, group-out, least-in, least-rel, least-leads, same-group}
 use Rattle.model.specs.SummaryLaws.{equivalence, clique-law}
-use Rattle.model.specs.TableLaws.{edge-bit, proper-simple, least-at, group-told}
-use Rattle.buffers.specs.ScanLaws.{scan-cong, scan-cut, scan-nodes}
+use Rattle.model.specs.TableLaws.{proper-simple, least-at, group-told}
+use Rattle.buffers.specs.ScanLaws.{scan-nodes}
 use Rattle.rings.specs.Ring.{up, Best, Table, Of}
 use Rattle.rings.specs.RingLaws.{up-circle}
 use Rattle.rings.specs.NodesLaws.{of-nodes}
 use Rattle.buffers.specs.Scan.{scan}
 use Rattle.tables.specs.Lent.{Held}
 use Rattle.queries.specs.Query.{ledBy, kindBy}
-
--- the neighbours that a row tells: a table that holds a graph has no bit from n on
-pub row-neighbours : (n p : ℕ) (t : Tables) → Held n t → p < n → scan (edgeBit (t .edges) p) 512 0 ≡ neighbours (graphOf n t) p
-unfolding neighbours graphOf tablesOf
-row-neighbours n p t held h =
-    scan-cong (edgeBit (t .edges) p) (graphOf n t .edge p) 512 0 bits
-    ∙ scan-cut (graphOf n t .edge p) n 512 (held .proper .small) after 0 (omega arith)
-    ∙ scan-nodes (graphOf n t .edge p) n
-  where
-    bits : (q : ℕ) → 0 ≤ q → q < 512 → edgeBit (t .edges) p q ≡ graphOf n t .edge p q
-    bits q a b = ap (λ (x : Tables). edgeBit (x .edges) p q) (held .same) ∙ edge-bit (graphOf n t) p q h b
-
-    after : (q : ℕ) → n ≤ q → q < 512 → graphOf n t .edge p q ≡ false
-    after q a b = rw (lt-ltb p n h, le-ltb q n a)
 
 -- an ascending list with one member, or with two different ones
 one-member : (l : ℕ) (s : List ℕ) → Ascending s → ((q : ℕ) → q ∈ s → q ≡ l) → length s ≤ 1
@@ -103,13 +89,13 @@ module _ (n : ℕ) (t : Tables) (h : Held n t) (p : ℕ) (hp : p < n) where
   pub l-below : l < n
   l-below = nodes-out n l l-in
 
-  pub leader-told : nodeNumber (t .nodes) p 0 ≡ headOr p (groupIn (graphOf n t) p)
-  unfolding graphOf groupIn
-  leader-told = ap (λ (x : List ℕ). nodeNumber x p 0) same-nodes ∙ least-at g p hp ∙ unfold least in refl
-
   pub least-is : nodeNumber (t .nodes) p 0 ≡ l
   unfolding graphOf
   least-is = ap (λ (x : List ℕ). nodeNumber x p 0) same-nodes ∙ least-at g p hp
+
+  pub leader-told : nodeNumber (t .nodes) p 0 ≡ leaderIn (whole (graphOf n t)) p
+  unfolding graphOf leaderIn
+  leader-told = least-is
 
   group-l : group vs r l ≡ groupIn g p
   unfolding groupIn graphOf

@@ -4,16 +4,13 @@ use mathlib.Core.List.{List}
 use Prim.Native.Nat.{ℕ}
 use lib.IntN.{ℤ}
 use Rattle.model.specs.Tables.{Tables}
-use Rattle.model.specs.Calls.{Opened, Applied, Listed, Tied, Grouped}
+use Rattle.model.specs.Calls.{Opened, Applied, Tied, Grouped}
 
 abbrev pub opened : ℕ → Tables → Opened
 opened r t = record { result = r; tables = t }
 
 abbrev pub applied : ℕ → Tables → List ℤ → Applied
 applied r t out = record { result = r; tables = t; answers = out }
-
-abbrev pub listed : ℕ → ℕ → List ℕ → Listed
-listed r k out = record { result = r; count = k; out = out }
 
 abbrev pub tiedOf : ℕ → Bool → Tied
 tiedOf r b = record { result = r; yes = b }

@@ -3,32 +3,31 @@ use mathlib.Core.Path.{_≡_, refl, sym, ap, ap₂, _∙_}
 use mathlib.Core.Bool.{Bool, true, false, not, cond, _||_, or-false}
 use mathlib.Core.List.{List, [], _∷_}
 use mathlib.Core.Logic.{_≢_}
-use Prim.Native.Nat.{ℕ, _%_, _≤_, _<_}
+use Prim.Native.Nat.{ℕ, _*_, _%_, _≤_, _<_}
 use native.Mathlib.Omega.{arith}
 use lib.Dec.{eqb, ltb}
 use lib.IntN.{ℤ}
 use lib.ListN.{length}
-use lib.Seq.{sets}
 use borrow.Author.Tests.{not-true, not-false, eq-eqb, ne-eqb, lt-ltb, le-ltb, ltb-false}
-use Rattle.model.specs.Graph.{emptyGraph}
+use Rattle.model.specs.Graph.{emptyGraph, maxNodes, nodeNumbers, whole}
 use Rattle.model.specs.Tables.{Tables, tablesOf, graphOf, holds, edgeBit, nodeNumber, groupIn}
 use Rattle.model.specs.Refusals.{Reasons, firstOf, judged, lengths, wrongSize}
 use Rattle.model.specs.Updates.{updateCount, updateNumbers, wrongBatch}
 use Rattle.model.specs.Calls.{openReasons, openCall, applyReasons, applyRefused, applyCall, neighboursReasons, listRefused, neighboursCall, tiedReasons, tiedRefused, tiedCall, groupReasons, groupRefused, groupCall}
 use Rattle.model.specs.TestLaws.{or-none}
-use Rattle.model.specs.TableLaws.{held-tables, held-proper}
+use Rattle.model.specs.TableLaws.{edge-bit, held-tables, held-proper}
 use Rattle.model.specs.RefusalLaws.{first-none, judged-done, judged-refused}
-use Rattle.index.specs.Index.{opened, applied, listed, tiedOf, grouped}
+use Rattle.index.specs.Index.{opened, applied, tiedOf, grouped}
 use Rattle.tables.specs.Lent.{tableReasons, Held}
-use Rattle.tables.specs.LentLaws.{sized, table-refused, table-rest, table-held}
+use Rattle.tables.specs.LentLaws.{sized, table-refused, table-rest, table-held, held-sized}
 use Rattle.updates.specs.Batch.{BatchApplied}
 use Rattle.updates.specs.BatchLaws.{whole-numbers}
-use Rattle.queries.specs.Query.{ledBy, kindBy}
-use Rattle.index.specs.GroupLaws.{row-neighbours, l-below, m-below, least-is, leader-told, led-group, kind-told}
+use Rattle.queries.specs.Query.{Reaches, kindBy, leaderAt, ledBy, listed, rowNodes, rowTold}
+use Rattle.queries.specs.QueryLaws.{edge-below, leader-first, row-reached, row-told}
+use Rattle.index.specs.GroupLaws.{l-below, m-below, least-is, leader-told, led-group, kind-told}
 use Rattle.buffers.specs.Scan.{scan}
-use Rattle.buffers.specs.WroteLaws.{sets-onto}
 use Rattle.model.specs.Grouping.{kindOf}
-use Rattle.model.specs.Queries.{neighbours, kindNumber}
+use Rattle.model.specs.Queries.{neighbours, leaderIn, kindNumber}
 
 -- 11: what `fits` says
 pub open-refused : (n : ℕ) (t : Tables) (f : Bool) → f ≡ not (wrongSize n (lengths t)) → f ≡ false → opened 11 t ≡ openCall n t
@@ -57,18 +56,18 @@ module _ (n : ℕ) (t : Tables) (xs : List ℕ) (out : List ℤ) where
       step false = refl
 
   module _ (f : Bool) (e : f ≡ not (wrongBatch xs)) (h : f ≡ true) where
-    whole : firstOf (applyReasons n t xs out) ≡ firstOf (tableReasons n t ((ltb (length out) (updateCount xs), 18) ∷ []))
+    as-tables : firstOf (applyReasons n t xs out) ≡ firstOf (tableReasons n t ((ltb (length out) (updateCount xs), 18) ∷ []))
     unfolding applyReasons firstOf
-    whole = rw (not-true (wrongBatch xs) (sym e ∙ h), or-false (wrongSize n (lengths t)))
+    as-tables = rw (not-true (wrongBatch xs) (sym e ∙ h), or-false (wrongSize n (lengths t)))
 
     pub apply-table : (r : ℕ) → r ≡ firstOf (tableReasons n t []) → r ≢ 0 → r ≡ firstOf (applyReasons n t xs out)
-    apply-table r x d = sym (whole ∙ table-refused n t r x ((ltb (length out) (updateCount xs), 18) ∷ []) d)
+    apply-table r x d = sym (as-tables ∙ table-refused n t r x ((ltb (length out) (updateCount xs), 18) ∷ []) d)
 
     pub apply-short : (r k : ℕ) → r ≡ firstOf (tableReasons n t []) → r ≡ 0 → k ≡ updateCount xs → length out < k → 18 ≡ firstOf (applyReasons n t xs out)
-    apply-short r k x d q l = sym (whole ∙ table-rest n t r x d ((ltb (length out) (updateCount xs), 18) ∷ []) ∙ unfold firstOf in rw (lt-ltb (length out) (updateCount xs) (omega arith)))
+    apply-short r k x d q l = sym (as-tables ∙ table-rest n t r x d ((ltb (length out) (updateCount xs), 18) ∷ []) ∙ unfold firstOf in rw (lt-ltb (length out) (updateCount xs) (omega arith)))
 
     pub apply-none : (r k : ℕ) → r ≡ firstOf (tableReasons n t []) → r ≡ 0 → k ≡ updateCount xs → k ≤ length out → 0 ≡ firstOf (applyReasons n t xs out)
-    apply-none r k x d q l = sym (whole ∙ table-rest n t r x d ((ltb (length out) (updateCount xs), 18) ∷ []) ∙ unfold firstOf in rw (le-ltb (length out) (updateCount xs) (omega arith)))
+    apply-none r k x d q l = sym (as-tables ∙ table-rest n t r x d ((ltb (length out) (updateCount xs), 18) ∷ []) ∙ unfold firstOf in rw (le-ltb (length out) (updateCount xs) (omega arith)))
 
   pub apply-refused : (r : ℕ) → r ≡ firstOf (applyReasons n t xs out) → r ≢ 0 → applied r t out ≡ applyCall n t xs out
   unfolding applyCall
@@ -90,7 +89,16 @@ module _ (n : ℕ) (t : Tables) (xs : List ℕ) (out : List ℤ) where
   unfolding applyCall
   apply-done r e d b = ap₂ (applied 0) (b .tables) (b .answered) ∙ call-done (applyReasons n t xs out) (applyRefused t out) _ (sym e ∙ d)
 
--- neighbours
+-- neighbours: a row that is lent as a part of the table
+module _ (n p : ℕ) (t : Tables) (held : Held n t) (h : p < n) (row : List ℕ) (part : (q : ℕ) → q < maxNodes → edgeBit row 0 q ≡ edgeBit (t .edges) p q) where
+  part-bits : (q : ℕ) → q < maxNodes → edgeBit row 0 q ≡ graphOf n t .edge p q
+  unfolding graphOf tablesOf
+  part-bits q b = part q b ∙ ap (λ (x : Tables). edgeBit (x .edges) p q) (held .same) ∙ edge-bit (graphOf n t) p q h b
+
+  pub neighbours-reached : Reaches (t .nodes) nodeNumbers (rowNodes row)
+  unfolding graphOf
+  neighbours-reached = row-reached (graphOf n t) (held .proper) p row part-bits (t .nodes) nodeNumbers (λ q l. omega (arith, held-sized held .nodes))
+
 module _ (n : ℕ) (t : Tables) (p : ℕ) (out : List ℕ) (r : ℕ) (e : r ≡ firstOf (tableReasons n t [])) where
   pub neighbours-table : r ≢ 0 → listed r 0 out ≡ neighboursCall n t p out
   unfolding neighboursCall neighboursReasons
@@ -101,25 +109,18 @@ module _ (n : ℕ) (t : Tables) (p : ℕ) (out : List ℕ) (r : ℕ) (e : r ≡ 
     unfolding neighboursCall neighboursReasons
     neighbours-outside h = call-refused _ (listRefused out) _ 14 (table-rest n t r e z _ ∙ unfold firstOf in rw (le-ltb p n h)) (omega arith)
 
-    module _ (k : ℕ) (h : p < n) (c : k ≡ length (scan (edgeBit (t .edges) p) 512 0)) where
-      row : scan (edgeBit (t .edges) p) 512 0 ≡ neighbours (graphOf n t) p
-      row = row-neighbours n p t (table-held n t r e z) h
+    pub neighbours-told : (h : p < n) (row : List ℕ) → ((q : ℕ) → q < maxNodes → edgeBit row 0 q ≡ edgeBit (t .edges) p q) → rowTold row (t .nodes) nodeNumbers out ≡ neighboursCall n t p out
+    unfolding neighboursCall neighboursReasons graphOf
+    neighbours-told h row part = row-told (graphOf n t) (held .proper) p row (part-bits n p t held h row part) (t .nodes) nodeNumbers out (whole (graphOf n t)) (neighboursReasons n t p out) leaders number
+      where
+        held : Held n t
+        held = table-held n t r e z
 
-      told : k ≡ length (neighbours (graphOf n t) p)
-      told = c ∙ ap length row
+        leaders : (q : ℕ) → graphOf n t .edge p q ≡ true → leaderAt (t .nodes) nodeNumbers q ≡ leaderIn (whole (graphOf n t)) q
+        leaders q x = leader-first (t .nodes) q ∙ leader-told n t held q (edge-below (graphOf n t) (held .proper) p q x)
 
-      pub neighbours-short : length out < k → listed 18 0 out ≡ neighboursCall n t p out
-      unfolding neighboursCall neighboursReasons
-      neighbours-short l = call-refused _ (listRefused out) _ 18 (table-rest n t r e z _ ∙ unfold firstOf in rw (lt-ltb p n h, lt-ltb (length out) (length (neighbours (graphOf n t) p)) (omega (arith, told)))) (omega arith)
-
-      pub neighbours-done : k ≤ length out → {out₁ : List ℕ} → out₁ ≡ sets out 0 (scan (edgeBit (t .edges) p) 512 0) → listed 0 k out₁ ≡ neighboursCall n t p out
-      unfolding neighboursCall neighboursReasons
-      neighbours-done l {out₁} w =
-          ap₂ (listed 0) told (w ∙ ap (sets out 0) row ∙ sets-onto (neighbours (graphOf n t) p) out (omega (arith, told)))
-          ∙ call-done (neighboursReasons n t p out) (listRefused out) _ none
-        where
-          none : firstOf (neighboursReasons n t p out) ≡ 0
-          none = table-rest n t r e z ((not (ltb p n), 14) ∷ (ltb (length out) (length (neighbours (graphOf n t) p)), 18) ∷ []) ∙ unfold firstOf in rw (lt-ltb p n h, le-ltb (length out) (length (neighbours (graphOf n t) p)) (omega (arith, told)))
+        number : firstOf (neighboursReasons n t p out) ≡ cond (ltb (length out) (2 * length (neighbours (graphOf n t) p))) 18 0
+        number = table-rest n t r e z ((not (ltb p n), 14) ∷ (ltb (length out) (2 * length (neighbours (graphOf n t) p)), 18) ∷ []) ∙ unfold firstOf in rw (lt-ltb p n h)
 
 -- tied
 module _ (n : ℕ) (t : Tables) (p q r : ℕ) (e : r ≡ firstOf (tableReasons n t [])) where

@@ -3,7 +3,9 @@ ghost use mathlib.Core.Path.{_≡_};
 ghost use Rattle.model.specs.Refusals.{firstOf};
 ghost use Rattle.model.specs.Calls.{applyCall, applyReasons, groupCall, neighboursCall, openCall, tiedCall};
 ghost use Rattle.rows.specs.Rows.{lent};
-ghost use Rattle.index.specs.Index.{applied, grouped, listed, opened, tiedOf};
+ghost use Rattle.queries.specs.Query.{listed};
+ghost use Rattle.index.specs.Index.{applied, grouped, opened, tiedOf};
+use queries::Listed;
 use rows::Graph;
 
 // A graph of n nodes without edges, none hidden. 0, or 11.
@@ -61,11 +63,6 @@ pub fn apply(
 }
 
 // A query's number and what it answers; 0 and no where it is refused.
-pub struct Listed {
-    pub result: u16,
-    pub count: u16,
-}
-
 pub struct IsTied {
     pub result: u16,
     pub yes: bool,
@@ -78,7 +75,7 @@ pub struct Grouped {
     pub size: u16,
 }
 
-// The neighbours of p, ascending, and their count. 0, or 11, 12, 14, 18.
+// The neighbours of p, ascending, each followed by the least member of its group, and their count. 0, or 11, 12, 14, 18.
 pub fn neighbours(
     n: usize,
     edges: &[u64],
@@ -91,32 +88,15 @@ pub fn neighbours(
 {
     let number = tables::refusal(n, edges, nodes, keys);
     if number != 0 {
-        return Listed {
-            result: number,
-            count: 0,
-        };
+        return queries::unlisted(number);
     }
     let node = p as usize;
     if node >= n {
-        return Listed {
-            result: 14,
-            count: 0,
-        };
+        return queries::unlisted(14);
     }
     let a = Graph::ROW_WORDS * node;
     let row = &edges[a..a + Graph::ROW_WORDS];
-    let count = queries::count_neighbours(row);
-    if out.len() < count {
-        return Listed {
-            result: 18,
-            count: 0,
-        };
-    }
-    queries::write_neighbours(row, out);
-    Listed {
-        result: 0,
-        count: count as u16,
-    }
+    queries::list_row(row, nodes, Graph::NODE_NUMBERS, out)
 }
 
 // Whether there is an edge between p and q. 0, or 11, 12, 14, 15.

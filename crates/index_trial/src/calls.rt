@@ -62,7 +62,7 @@ pub fn neighbours(
     room: u64,
     shown: u64,
 ) {
-    let mut out = [4660u16; 600];
+    let mut out = [4660u16; 1100];
     neighbours_part(n, edges, nodes, keys, p, &mut out, room, shown);
 }
 

@@ -84,7 +84,7 @@ fn fold_group(h: u64, n: usize, edges: &[u64], nodes: &[u16], keys: &[u32], p: u
 }
 
 fn fold_neighbours(h: u64, n: usize, edges: &[u64], nodes: &[u16], keys: &[u32], p: u16) -> u64 {
-    let mut out = [4660u16; 512];
+    let mut out = [4660u16; 1024];
     let l = index::neighbours(n, edges, nodes, keys, p, &mut out);
     fold_numbers(fold(fold(h, wide(l.result)), wide(l.count)), &out)
 }

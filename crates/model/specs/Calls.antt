@@ -2,17 +2,16 @@
 -- in the order of document 01's table; a refused call leaves tables and buffers, and returns 0 for every other number.
 use mathlib.Core.Bool.{Bool, false, not, _||_}
 use mathlib.Core.List.{List, [], _∷_, _++_}
-use Prim.Native.Nat.{ℕ}
+use Prim.Native.Nat.{ℕ, _*_}
 use lib.Dec.{eqb, ltb}
 use lib.IntN.{ℤ}
 use lib.ListN.{length, drop}
-use Rattle.model.specs.Lists.{headOr, nodes}
-use Rattle.model.specs.Graph.{Graph, emptyGraph}
+use Rattle.model.specs.Graph.{Graph, emptyGraph, whole}
 use Rattle.model.specs.Grouping.{kindOf}
 use Rattle.model.specs.Tables.{Tables, tablesOf, graphOf, groupIn, holds}
 use Rattle.model.specs.Refusals.{Reasons, judged, lengths, wrongSize}
 use Rattle.model.specs.Updates.{updateCount, wrongBatch, updatesIn, batchGraph, answers}
-use Rattle.model.specs.Queries.{neighbours, kindNumber}
+use Rattle.model.specs.Queries.{neighbours, leaderIn, pairs, kindNumber}
 use Rattle.model.specs.Distance.{distance}
 use Rattle.model.specs.Release.{isVisible, visible, visibleGroups, superedgeCount, release}
 use Rattle.model.specs.Reading.{decode, isRelease}
@@ -58,7 +57,7 @@ applyCall n t xs out =
     judged (applyReasons n t xs out) (applyRefused t out)
     (record { result = 0; tables = tablesOf (batchGraph (graphOf n t) (updatesIn xs)); answers = onto (answers (graphOf n t) (updatesIn xs)) out })
 
--- neighbours of p
+-- neighbours of p, each followed by the least member of its group; the count is of neighbours alone
 pub record Listed : Type 0 where
   pub result : ℕ
   pub count : ℕ
@@ -67,18 +66,21 @@ pub record Listed : Type 0 where
 abbrev pub listRefused : List ℕ → ℕ → Listed
 listRefused out r = record { result = r; count = 0; out = out }
 
+unfoldable pub listing : (ℕ → ℕ) → List ℕ → List ℕ → Listed
+listing leader ps out = record { result = 0; count = length ps; out = onto (pairs leader ps) out }
+
 unfoldable pub neighboursReasons : ℕ → Tables → ℕ → List ℕ → Reasons
 neighboursReasons n t p out =
     (wrongSize n (lengths t), 11)
     ∷ (not (holds n t), 12)
     ∷ (not (ltb p n), 14)
-    ∷ (ltb (length out) (length (neighbours (graphOf n t) p)), 18)
+    ∷ (ltb (length out) (2 * length (neighbours (graphOf n t) p)), 18)
     ∷ []
 
 unfoldable pub neighboursCall : ℕ → Tables → ℕ → List ℕ → Listed
 neighboursCall n t p out =
     judged (neighboursReasons n t p out) (listRefused out)
-    (record { result = 0; count = length (neighbours (graphOf n t) p); out = onto (neighbours (graphOf n t) p) out })
+    (listing (leaderIn (whole (graphOf n t))) (neighbours (graphOf n t) p) out)
 
 -- tied or not
 pub record Tied : Type 0 where
@@ -123,7 +125,7 @@ groupCall n t p =
     judged (groupReasons n t p) groupRefused
     (record {
       result = 0;
-      least = headOr p (groupIn (graphOf n t) p);
+      least = leaderIn (whole (graphOf n t)) p;
       kind = kindNumber (kindOf (graphOf n t .edge) (groupIn (graphOf n t) p));
       size = length (groupIn (graphOf n t) p);
     })
@@ -175,18 +177,18 @@ readCall n t file =
     judged (readReasons n t file) (openRefused t)
     (record { result = 0; tables = tablesOf (decode file) })
 
--- neighbours of p, asked of a file
+-- neighbours of p, each followed by the least member of its group, asked of a file
 unfoldable pub fileNeighboursReasons : List ℕ → ℕ → List ℕ → Reasons
 fileNeighboursReasons file p out =
     (not (isRelease file), 19)
     ∷ (not (isVisible (decode file) p), 14)
-    ∷ (ltb (length out) (length (neighbours (decode file) p)), 18)
+    ∷ (ltb (length out) (2 * length (neighbours (decode file) p)), 18)
     ∷ []
 
 unfoldable pub fileNeighboursCall : List ℕ → ℕ → List ℕ → Listed
 fileNeighboursCall file p out =
     judged (fileNeighboursReasons file p out) (listRefused out)
-    (record { result = 0; count = length (neighbours (decode file) p); out = onto (neighbours (decode file) p) out })
+    (listing (leaderIn (visible (decode file))) (neighbours (decode file) p) out)
 
 -- the distance of p and q, asked of a file
 pub record Measured : Type 0 where

@@ -3,14 +3,14 @@ use mathlib.Core.Path.{_≡_, refl, sym, ap, ap₂, _∙_}
 use mathlib.Core.Bool.{Bool, true, false, not, _&&_, _||_, cond}
 use mathlib.Core.List.{List, _∷_, map}
 use mathlib.Core.Logic.{_↔_}
-use Prim.Native.Nat.{ℕ, _≤_, _<_}
+use Prim.Native.Nat.{ℕ, _*_, _≤_, _<_}
 use native.Mathlib.Omega.{arith}
 use lib.Dec.{eqb, ltb}
 use lib.IntN.{ℤ, pos}
 use lib.ListN.{length}
 use borrow.Author.Tests.{eqb-true, eq-eqb, ne-eqb, lt-ltb, le-ltb, eqb-false}
 use Rattle.model.specs.Graph.{Graph, Proper, View, whole}
-use Rattle.model.specs.Grouping.{algorithm1}
+use Rattle.model.specs.Grouping.{algorithm1, least, similar}
 use Rattle.model.specs.Summary.{Summarises, Summary}
 use Rattle.model.specs.Tables.{Tables, graphOf, groupsIn, holds, tablesOf}
 use Rattle.model.specs.Refusals.{Lengths, firstOf, lengths, wrongSize, Reasons, judged}
@@ -18,14 +18,17 @@ use Rattle.model.specs.Updates.{Update, answers, batchGraph, refusal, up
 use Rattle.model.specs.Release.{release, superedgeCount, superedges, visible, visibleGroups, visiblePart, isVisible, visibleEdge}
 use Rattle.model.specs.Lists.{_∈_, all, nodes}
 use Rattle.model.specs.Steps.{Stepped, run}
-use Rattle.model.specs.Queries.{neighbours}
+use Rattle.model.specs.Queries.{leaderIn, neighbours}
 use Rattle.model.specs.Distance.{distance, distanceBy}
 use Rattle.model.specs.Reading.{decode, isRelease, summaryBy, summaryIn}
-use Rattle.model.specs.Calls.{Listed, Measured, Opened, Released, applyCall, applyReasons, distanceRefused, fileDistanceCall, fileDistanceReasons, fileNeighboursCall, fileNeighboursReasons, groupCall, groupReasons, listRefused, neighboursCall, neighboursReasons, onto, openCall, openReasons, openRefused, readCall, readReasons, releaseCall, releaseReasons, releaseRefused, released, tiedCall, tiedReasons}
+use Rattle.model.specs.Calls.{Listed, Measured, Opened, Released, applyCall, applyReasons, distanceRefused, fileDistanceCall, fileDistanceReasons, fileNeighboursCall, fileNeighboursReasons, groupCall, groupReasons, listRefused, listing, neighboursCall, neighboursReasons, onto, openCall, openReasons, openRefused, readCall, readReasons, releaseCall, releaseReasons, releaseRefused, released, tiedCall, tiedReasons}
 use Rattle.model.specs.History.{Alike, CallsTold, Source, byHistory, graphOfSource, handedIn, tablesOfSource}
 use Rattle.model.specs.TestLaws.{differ, fails}
-use Rattle.model.specs.ListLaws.{filter-cong, member-elim, nodes-ascending}
+use Rattle.model.specs.ListLaws.{filter-cong, nodes-ascending}
 use Rattle.model.specs.DistanceLaws.{distance-shortest}
+use Rattle.model.specs.TwinLaws.{similar-sym}
+use Rattle.model.specs.ClassLaws.{least-in, least-le, least-rel}
+use Rattle.model.specs.HiddenLaws.{seen-equivalence, seen-in}
 use Rattle.model.specs.SummaryLaws.{algorithm1-summarises}
 use Rattle.model.specs.GroupDistanceLaws.{distance-by-groups, summarises-unfolds}
 use Rattle.model.specs.FewestLaws.{fewest}
@@ -34,10 +37,10 @@ use Rattle.model.specs.ReleaseLaws.{alike-visible, length-release, non-i
 use Rattle.model.specs.UpdateLaws.{answer-accepted, answer-near, update-refused, wanted-there}
 use Rattle.model.specs.HistoryLaws.{Kept, lengths-of, lengthsFor, right-size, size-right, history-told}
 use Rattle.model.specs.RefusalLaws.{first-below, judged-refused, judged-result}
-use Rattle.model.specs.ReadingLaws.{marked, summary-encode, told-count, told-summarises}
-use Rattle.model.specs.ReadBackLaws.{decode-release, member-visible, only-releases, release-is, visible-alike, visible-proper}
+use Rattle.model.specs.ReadingLaws.{marked, summary-encode, told-count, told-similar, told-summarises}
+use Rattle.model.specs.ReadBackLaws.{decode-release, only-releases, release-is, visible-alike, visible-proper}
 use Rattle.model.specs.ProgramLaws.{program-fits}
-use Rattle.model.specs.Demands.{AskedExactly, Demand1, Demand2, Demand3, DistanceTold, GroupedExactly, MeasuredExactly, NoRelease, ReadExactly, Refuses, visibleNeighbours}
+use Rattle.model.specs.Demands.{AskedExactly, Demand1, Demand2, Demand3, DistanceTold, GroupedExactly, LeastOf, MeasuredExactly, NoRelease, ReadExactly, Refuses, visibleNeighbours}
 
 -- what a source's tables hold
 pub kept : (x : Source) → Kept (lengths (tablesOfSource x)) (graphOfSource x) (tablesOfSource x)
@@ -78,7 +81,7 @@ unfolding batchGraph answers run
 batch-refused g c cs h = ap (λ (x : Stepped Graph ℤ). (refusal g c, batchGraph (x .after) cs, x .outcome ∷ answers (x .after) cs)) (update-refused g c h)
 
 pub demand1 : Demand1
-unfolding openReasons openCall applyReasons applyCall neighboursReasons neighboursCall tiedReasons tiedCall groupReasons groupCall releaseReasons releaseCall released readReasons readCall fileNeighboursReasons fileNeighboursCall fileDistanceReasons fileDistanceCall updateReasons refusal
+unfolding openReasons openCall applyReasons applyCall neighboursReasons neighboursCall listing tiedReasons tiedCall groupReasons groupCall releaseReasons releaseCall released readReasons readCall fileNeighboursReasons fileNeighboursCall fileDistanceReasons fileDistanceCall updateReasons refusal
 demand1 = record {
   opening = λ n t. refuses _ _ _ _ _ refl (λ r. refl) refl;
   batch = λ n t xs out. refuses _ _ _ _ _ refl (λ r. refl) refl;
@@ -134,6 +137,23 @@ module _ (g : Graph) (h : Proper g) where
   unfolding visibleGroups
   file-count = ap (λ (d : Summary). d .count) file-summary ∙ told-count (visible g) (visible-simple g h) (visible-ascending g)
 
+  pub file-least : (p : ℕ) → p ∈ visible g .nodes → LeastOf (visible g) (summaryIn (release g)) p (leaderIn (visible g) p)
+  unfolding leaderIn
+  file-least p m = record {
+    node = seen;
+    same = eqb-true _ _ (alike l p seen m ∙ similar-sym (visible g) p l (least-rel (visible g .nodes) (similar (visible g)) (seen-equivalence g h) (visible-ascending g) p m));
+    least = λ q k s. least-le (visible g .nodes) (similar (visible g)) (seen-equivalence g h) (visible-ascending g) p q k (sym (alike p q m k) ∙ eq-eqb _ _ (sym s));
+  }
+    where
+      l : ℕ
+      l = least (visible g .nodes) (similar (visible g)) p
+
+      seen : l ∈ visible g .nodes
+      seen = least-in (visible g .nodes) (similar (visible g)) (seen-equivalence g h) (visible-ascending g) p m
+
+      alike : (x y : ℕ) → x ∈ visible g .nodes → y ∈ visible g .nodes → eqb (summaryIn (release g) .groupOf x) (summaryIn (release g) .groupOf y) ≡ similar (visible g) x y
+      alike x y mx my = rw file-summary (told-similar (visible g) (visible-simple g h) (visible-ascending g) x y mx my)
+
 -- DEMAND 2
 grouped-exactly : (l : Lengths) (g : Graph) (t : Tables) → Kept l g t → GroupedExactly g t
 grouped-exactly l g t h = record {
@@ -151,6 +171,9 @@ module _ (file : List ℕ) (g : Graph) (h : Proper g) (same : file ≡ release g
 
   told : decode file ≡ visiblePart g
   told = ap decode same ∙ decode-release g h
+
+  told-view : visible (decode file) ≡ visible g
+  told-view = ap visible told ∙ alike-visible (visiblePart g) g (visible-alike g)
 
   told-node : (p : ℕ) → isVisible (decode file) p ≡ isVisible g p
   told-node p = ap (λ (x : Graph). isVisible x p) told ∙ alike-node (visiblePart g) g (visible-alike g) p
@@ -269,12 +292,13 @@ module _ (file : List ℕ) (p : ℕ) (out : List ℕ) where
     unfolding neighbours visiblePart visibleEdge visibleNeighbours
     listed v = filter-cong (λ q. isVisible g p && (isVisible g q && g .edge p q)) (λ q. isVisible g q && g .edge p q) (nodes (g .nodeCount)) (λ q m. rw v)
 
-    asked : (b : Bool) → isVisible g p ≡ b → fileNeighboursCall file p out ≡ cond b (cond (ltb (length out) (length (neighbours (visiblePart g) p))) (listRefused out 18) (record { result = 0; count = length (neighbours (visiblePart g) p); out = onto (neighbours (visiblePart g) p) out })) (listRefused out 14)
+    asked : (b : Bool) → isVisible g p ≡ b
+        → fileNeighboursCall file p out ≡ cond b (cond (ltb (length out) (2 * length (neighbours (visiblePart g) p))) (listRefused out 18) (listing (leaderIn (visible g)) (neighbours (visiblePart g) p) out)) (listRefused out 14)
     unfolding fileNeighboursCall fileNeighboursReasons firstOf
-    asked b e = rw (passes file g h same, told-node file g h same p ∙ e, told file g h same) (step b (ltb (length out) (length (neighbours (visiblePart g) p))))
+    asked b e = rw (passes file g h same, told-node file g h same p ∙ e, told-view file g h same, told file g h same) (step b (ltb (length out) (2 * length (neighbours (visiblePart g) p))))
       where
         done : Listed
-        done = record { result = 0; count = length (neighbours (visiblePart g) p); out = onto (neighbours (visiblePart g) p) out }
+        done = listing (leaderIn (visible g)) (neighbours (visiblePart g) p) out
 
         step : (b c : Bool) → cond (eqb (cond (not b) 14 (cond c 18 0)) 0) done (listRefused out (cond (not b) 14 (cond c 18 0))) ≡ cond b (cond c (listRefused out 18) done) (listRefused out 14)
         step true true = refl
@@ -282,12 +306,13 @@ module _ (file : List ℕ) (p : ℕ) (out : List ℕ) where
         step false c = refl
 
   asked-exactly : AskedExactly file p out
-  unfolding fileNeighboursReasons all
+  unfolding fileNeighboursReasons all listing
   asked-exactly = record {
     none = rw (demand1 .file-neighbours file p out .first) (only-19 file _ refl);
     hidden = λ g h s v. asked g h s false v;
-    short = λ g h s v l. asked g h s true v ∙ rw (listed g h s v, lt-ltb (length out) (length (visibleNeighbours g p)) l);
-    told = λ g h s v l. asked g h s true v ∙ rw (listed g h s v, le-ltb (length out) (length (visibleNeighbours g p)) l);
+    short = λ g h s v l. asked g h s true v ∙ rw (listed g h s v, lt-ltb (length out) (2 * length (visibleNeighbours g p)) l);
+    told = λ g h s v l. asked g h s true v ∙ rw (listed g h s v, le-ltb (length out) (2 * length (visibleNeighbours g p)) l);
+    grouped = λ g h s q v. rw s (file-least g h q (seen-in g q v));
   }
 
 -- a file asked for a distance
@@ -295,7 +320,7 @@ module _ (file : List ℕ) (p q : ℕ) where
   module _ (g : Graph) (h : Proper g) (same : file ≡ release g) where
     measured : fileDistanceCall file p q ≡ cond (isVisible g p && isVisible g q) (record { result = 0; distance = distance (visible g) p q }) (distanceRefused 14)
     unfolding fileDistanceCall fileDistanceReasons firstOf
-    measured = rw (passes file g h same, told-node file g h same p, told-node file g h same q, ap visible (told file g h same) ∙ alike-visible (visiblePart g) g (visible-alike g)) (step (isVisible g p) (isVisible g q))
+    measured = rw (passes file g h same, told-node file g h same p, told-node file g h same q, told-view file g h same) (step (isVisible g p) (isVisible g q))
       where
         done : Measured
         done = record { result = 0; distance = distance (visible g) p q }
@@ -306,14 +331,11 @@ module _ (file : List ℕ) (p q : ℕ) where
         step false c = refl
 
     module _ (x : isVisible g p ≡ true) (y : isVisible g q ≡ true) where
-      seen : (r : ℕ) → isVisible g r ≡ true → r ∈ visible g .nodes
-      seen r v = member-elim r (visible g .nodes) (member-visible g r ∙ v)
-
       measured-told : DistanceTold g file p q
       unfolding distanceBy
       measured-told = record {
         told = call;
-        shortest = distance-shortest (visible g) p q (seen p x) (seen q y);
+        shortest = distance-shortest (visible g) p q (seen-in g p x) (seen-in g q y);
         grouped = grouped;
         independent = λ other one c j. ap (λ (m : Measured). m .distance) call ∙ grouped ∙ rw (ne-eqb p q other, eq-eqb (summaryIn file .groupOf p) (summaryIn file .groupOf q) one, c, j);
       }
@@ -322,7 +344,7 @@ module _ (file : List ℕ) (p q : ℕ) where
           call = measured ∙ rw (x, y)
 
           grouped : distance (visible g) p q ≡ distanceBy (summaryIn file) p q
-          grouped = distance-by-groups (visible g) (summaryIn file) (summarises-unfolds (visible g) (summaryIn file) (rw same (file-summarises g h))) p q (seen p x) (seen q y)
+          grouped = distance-by-groups (visible g) (summaryIn file) (summarises-unfolds (visible g) (summaryIn file) (rw same (file-summarises g h))) p q (seen-in g p x) (seen-in g q y)
 
   measured-exactly : MeasuredExactly file p q
   unfolding fileDistanceReasons all

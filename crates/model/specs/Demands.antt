@@ -8,8 +8,8 @@ use mathlib.Core.Logic.{_↔_}
 use Prim.Native.Nat.{ℕ, _+_, _*_, _≤_, _<_}
 use lib.IntN.{ℤ, pos, subℕ, natAbs}
 use lib.ListN.{length}
-use Rattle.model.specs.Graph.{Graph, Proper, emptyGraph, whole}
-use Rattle.model.specs.Lists.{filter, nodes}
+use Rattle.model.specs.Graph.{Graph, Proper, View, emptyGraph, whole}
+use Rattle.model.specs.Lists.{_∈_, filter, nodes}
 use Rattle.model.specs.Grouping.{algorithm1}
 use Rattle.model.specs.Summary.{Summarises, Summary, summaryOf}
 use Rattle.model.specs.Tables.{Tables, graphOf, groupsIn, tablesOf}
@@ -17,6 +17,7 @@ use Rattle.model.specs.Refusals.{Reasons, firstOf, lengths, wrongSize}
 use Rattle.model.specs.Updates.{Update, answer, answers, batchGraph, groupCount, refusal, updateReasons, updated, there, wanted}
 use Rattle.model.specs.Release.{release, superedgeCount, visible, visibleGroups, visiblePart, isVisible}
 use Rattle.model.specs.Reading.{summaryIn}
+use Rattle.model.specs.Queries.{leaderIn, pairs}
 use Rattle.model.specs.Distance.{Shortest, distance, distanceBy, isJoined}
 use Rattle.model.specs.Calls.{Applied, Grouped, Listed, Measured, Opened, Released, Tied, applyCall, applyReasons, applyRefused, distanceRefused, fileDistanceCall, fileDistanceReasons, fileNeighboursCall, fileNeighboursReasons, groupCall, groupReasons, groupRefused, listRefused, neighboursCall, neighboursReasons, onto, openCall, openReasons, openRefused, readCall, readReasons, releaseCall, releaseReasons, releaseRefused, released, tiedCall, tiedReasons, tiedRefused}
 use Rattle.model.specs.History.{Alike, CallsTold, Source, graphOfSource, tablesOfSource}
@@ -83,14 +84,23 @@ pub record ReadExactly (n : ℕ) (t : Tables) (file : List ℕ) : Type 0 where
 unfoldable pub visibleNeighbours : Graph → ℕ → List ℕ
 visibleNeighbours g p = filter (λ q. isVisible g q && g .edge p q) (nodes (g .nodeCount))
 
+-- l is the least of the nodes that a summary puts into p's group
+pub record LeastOf (v : View) (d : Summary) (p l : ℕ) : Type 0 where
+  pub node : l ∈ v .nodes
+  pub same : d .groupOf l ≡ d .groupOf p
+  pub least : (q : ℕ) → q ∈ v .nodes → d .groupOf q ≡ d .groupOf p → l ≤ q
+
 -- the neighbours of p, asked of a file: 19 exactly if it is no graph's release
 pub record AskedExactly (file : List ℕ) (p : ℕ) (out : List ℕ) : Type 0 where
   pub none : fileNeighboursCall file p out .result ≡ 19 ↔ NoRelease file
-  -- of a graph's release: 14 unless p is visible in it; 18 if its visible neighbours find no room, else they are written
+  -- of a graph's release: 14 unless p is visible in it; 18 if its visible neighbours find no room in pairs
   pub hidden : (g : Graph) → Proper g → file ≡ release g → isVisible g p ≡ false → fileNeighboursCall file p out ≡ listRefused out 14
-  pub short : (g : Graph) → Proper g → file ≡ release g → isVisible g p ≡ true → length out < length (visibleNeighbours g p) → fileNeighboursCall file p out ≡ listRefused out 18
-  pub told : (g : Graph) → Proper g → file ≡ release g → isVisible g p ≡ true → length (visibleNeighbours g p) ≤ length out
-      → fileNeighboursCall file p out ≡ record { result = 0; count = length (visibleNeighbours g p); out = onto (visibleNeighbours g p) out }
+  pub short : (g : Graph) → Proper g → file ≡ release g → isVisible g p ≡ true → length out < 2 * length (visibleNeighbours g p) → fileNeighboursCall file p out ≡ listRefused out 18
+  -- else they are written, each with the least visible member of its group in the visible part
+  pub told : (g : Graph) → Proper g → file ≡ release g → isVisible g p ≡ true → 2 * length (visibleNeighbours g p) ≤ length out
+      → fileNeighboursCall file p out ≡ record { result = 0; count = length (visibleNeighbours g p); out = onto (pairs (leaderIn (visible g)) (visibleNeighbours g p)) out }
+  -- which is the least of the group that the file puts it into
+  pub grouped : (g : Graph) → Proper g → file ≡ release g → (q : ℕ) → isVisible g q ≡ true → LeastOf (visible g) (summaryIn file) q (leaderIn (visible g) q)
 
 -- the distance of two visible nodes of g, asked of its release
 pub record DistanceTold (g : Graph) (file : List ℕ) (p q : ℕ) : Type 0 where

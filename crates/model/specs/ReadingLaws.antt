@@ -240,6 +240,11 @@ module _ (v : View) (g : Simple v) (asc : Ascending (v .nodes)) where
   length-marked [] = refl
   length-marked (x ∷ xs) = ap suc (length-marked xs)
 
+  -- a file puts two nodes into one group exactly if they are similar
+  pub told-similar : (p q : ℕ) → p ∈ v .nodes → q ∈ v .nodes → eqb (told .groupOf p) (told .groupOf q) ≡ similar v p q
+  unfolding summaryBy
+  told-similar p q mp mq = rw (members-back gs) (position-similar v g asc p q mp mq)
+
   pub told-count : told .count ≡ length gs
   unfolding summaryBy
   told-count = length-marked gs

@@ -1,23 +1,40 @@
-// What queries read off tables that hold a graph.
+// What queries read off rows and tables.
 ghost use mathlib.Core.Path.{_≡_};
 ghost use Prim.Native.Nat.{_+_, _*_, _≤_, _<_};
 ghost use lib.ListN.{length};
 ghost use lib.Seq.{sets};
 ghost use Rattle.model.specs.Graph.{maxNodes, rowWords, nodeNumbers};
-ghost use Rattle.model.specs.Tables.{edgeBit, nodeNumber};
+ghost use Rattle.model.specs.Tables.{nodeNumber};
+ghost use Rattle.model.specs.Queries.{pairs};
 ghost use Rattle.buffers.specs.Scan.{scan};
 ghost use Rattle.buffers.specs.WordBits.{bitsFrom};
 ghost use Rattle.buffers.specs.Wrote.{Wrote};
-ghost use Rattle.queries.specs.Query.{kindBy, ledBy};
+ghost use Rattle.queries.specs.Query.{Reaches, kindBy, leaderAt, ledBy, listed, rowNodes, rowTold};
 use groups::LEAST;
 use groups::NEXT;
 use groups::number;
 use rows::Graph;
 
-// How many neighbours a row has.
-pub fn count_neighbours(row: &[u64]) -> usize
+// A list of nodes that was asked for, beside the result: how many there are, 0 where it is refused.
+pub struct Listed {
+    pub result: u16,
+    pub count: u16,
+}
+
+// A list that is not told, for a reason with a number.
+pub fn unlisted(number: u16) -> Listed
+    ensures { λ r. ⌜ (r .result ≡ number) × (r .count ≡ 0) ⌝ }
+{
+    Listed {
+        result: number,
+        count: 0,
+    }
+}
+
+// How many nodes a row has.
+fn count_row(row: &[u64]) -> usize
     requires { ⌜ length (now row) ≡ rowWords ⌝ }
-    ensures { λ r. ⌜ r ≡ length (scan (edgeBit (now (row .entry)) 0) maxNodes 0) ⌝ }
+    ensures { λ r. ⌜ r ≡ length (rowNodes (now (row .entry))) ⌝ }
 {
     let mut count = 0;
     for w in 0..Graph::ROW_WORDS {
@@ -26,29 +43,56 @@ pub fn count_neighbours(row: &[u64]) -> usize
     count
 }
 
-// The nodes b + k for the bits k of a word, ascending, from a place of the buffer on; the place after them.
-fn write_word(word: u64, b: usize, out: &mut [u16], at: usize) -> usize
-    requires { ⌜ (b + 64 ≤ maxNodes) × (at + length (bitsFrom b word) ≤ length (now out)) ⌝ }
-    ensures { λ r. ⌜ Wrote (now (out .entry)) at (bitsFrom b word) (now (out .exit)) r ⌝ }
+// The nodes b + k for the bits k of a word, ascending, each followed by the least member of its group, from a place of the
+// buffer on; the place after them.
+fn write_word(
+    word: u64,
+    b: usize,
+    least: &[u16],
+    stride: usize,
+    out: &mut [u16],
+    at: usize,
+) -> usize
+    requires { ⌜ (b + 64 ≤ maxNodes) × Reaches (now least) stride (bitsFrom b word) × (at + 2 * length (bitsFrom b word) ≤ length (now out)) ⌝ }
+    ensures { λ r. ⌜ Wrote (now (out .entry)) at (pairs (leaderAt (now (least .entry)) stride) (bitsFrom b word)) (now (out .exit)) r ⌝ }
 {
     let mut to = at;
     let mut rest = word;
     while rest != 0 {
-        out[to] = (b + rows::lowest(rest)) as u16;
-        to += 1;
+        let q = b + rows::lowest(rest);
+        out[to] = q as u16;
+        out[to + 1] = least[stride * q];
+        to += 2;
         rest = rest & (rest - 1);
     }
     to
 }
 
-// The neighbours that a row has, ascending, from the start of the buffer on.
-pub fn write_neighbours(row: &[u64], out: &mut [u16])
-    requires { ⌜ (length (now row) ≡ rowWords) × (length (scan (edgeBit (now row) 0) maxNodes 0) ≤ length (now out)) ⌝ }
-    ensures { λ _. ⌜ now (out .exit) ≡ sets (now (out .entry)) 0 (scan (edgeBit (now (row .entry)) 0) maxNodes 0) ⌝ }
+// The nodes of a row, ascending, each followed by the least member of its group, from the start of the buffer on.
+fn write_row(row: &[u64], least: &[u16], stride: usize, out: &mut [u16])
+    requires { ⌜ (length (now row) ≡ rowWords) × Reaches (now least) stride (rowNodes (now row)) × (2 * length (rowNodes (now row)) ≤ length (now out)) ⌝ }
+    ensures { λ _. ⌜ now (out .exit) ≡ sets (now (out .entry)) 0 (pairs (leaderAt (now (least .entry)) stride) (rowNodes (now (row .entry)))) ⌝ }
 {
     let mut to = 0;
     for w in 0..Graph::ROW_WORDS {
-        to = write_word(row[w], 64 * w, out, to);
+        to = write_word(row[w], 64 * w, least, stride, out, to);
+    }
+}
+
+// The nodes of a row in pairs with the least members of their groups, or 18. `least` has `stride` numbers for each node, of
+// which the first is its least member.
+pub fn list_row(row: &[u64], least: &[u16], stride: usize, out: &mut [u16]) -> Listed
+    requires { ⌜ (length (now row) ≡ rowWords) × Reaches (now least) stride (rowNodes (now row)) ⌝ }
+    ensures { λ r. ⌜ listed (r .result) (r .count) (now (out .exit)) ≡ rowTold (now (row .entry)) (now (least .entry)) stride (now (out .entry)) ⌝ }
+{
+    let count = count_row(row);
+    if out.len() < 2 * count {
+        return unlisted(18);
+    }
+    write_row(row, least, stride, out);
+    Listed {
+        result: 0,
+        count: count as u16,
     }
 }
 

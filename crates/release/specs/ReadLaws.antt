@@ -1,43 +1,39 @@
 -- Reading a release back, and asking it, are the model's calls.
-use mathlib.Core.Path.{_≡_, refl, sym, ap, ap₂, subst, _∙_}
-use mathlib.Core.Bool.{Bool, true, false, cond, not, _||_, and-false, or-true}
+use mathlib.Core.Path.{_≡_, refl, sym, ap, subst, _∙_}
+use mathlib.Core.Bool.{Bool, true, false, cond, not, _||_, or-true}
 use mathlib.Core.List.{List, [], _∷_}
-use mathlib.Core.Logic.{_≢_, _⊎_, inl, inr}
-use Prim.Native.Nat.{ℕ, _≤_, _<_}
+use mathlib.Core.Logic.{_≢_}
+use Prim.Native.Nat.{ℕ, _*_, _≤_, _<_}
 use native.Mathlib.Omega.{arith}
 use lib.Dec.{eqb, ltb}
 use lib.ListN.{length, getD}
-use lib.Seq.{sets}
-use borrow.Author.Tests.{lt-ltb, le-ltb, eq-eqb, ne-eqb, not-true, not-false, not-true}
-use Rattle.model.specs.Lists.{filter, nodes}
-use Rattle.model.specs.Graph.{Graph, maxNodes}
+use borrow.Author.Tests.{lt-ltb, le-ltb, eq-eqb, ne-eqb, not-true, not-false}
+use Rattle.model.specs.Graph.{Graph, Proper, maxNodes}
 use Rattle.model.specs.Tables.{Tables, tablesOf, edgeBit}
 use Rattle.model.specs.Refusals.{firstOf, lengths, wrongSize}
 use Rattle.model.specs.Release.{isVisible, visible}
 use Rattle.model.specs.Reading.{decode, isRelease}
-use Rattle.model.specs.Queries.{neighbours}
+use Rattle.model.specs.Queries.{leaderIn, neighbours}
 use Rattle.model.specs.Distance.{distance}
-use Rattle.model.specs.Calls.{openRefused, readReasons, readCall, listRefused, fileDistanceReasons, fileDistanceCall, fileNeighboursReasons, fileNeighboursCall, onto}
-use Rattle.model.specs.TestLaws.{decide}
+use Rattle.model.specs.Calls.{openRefused, readReasons, readCall, fileDistanceReasons, fileDistanceCall, fileNeighboursReasons, fileNeighboursCall}
+use Rattle.model.specs.TestLaws.{and-fst, and-snd}
 use Rattle.model.specs.RefusalLaws.{first-none}
-use Rattle.model.specs.ListLaws.{filter-cong, nodes-out}
-use Rattle.buffers.specs.ScanLaws.{scan-cut, scan-nodes}
-use Rattle.buffers.specs.Scan.{scan}
-use Rattle.buffers.specs.WroteLaws.{sets-onto}
 use Rattle.reader.specs.declared.Decoded.{Decoded}
 use Rattle.reader.specs.declared.Decoded.the-variants as answer
 use Rattle.rows.specs.Rows.{noNode}
-use Rattle.compressed.specs.Compressed.{placed, unfolded}
+use Rattle.compressed.specs.Compressed.{placed, unfolded, unfoldedEdge}
 use Rattle.compressed.specs.PlacedLaws.{placed-visible}
 use Rattle.unfolding.specs.Unfolding.{NeighbourRow}
-use Rattle.index.specs.Index.{opened, listed}
-use Rattle.index.specs.IndexLaws.{call-refused, call-done}
+use Rattle.queries.specs.Query.{Reaches, leaderAt, listed, rowNodes, rowTold}
+use Rattle.queries.specs.QueryLaws.{row-reached, row-told}
+use Rattle.index.specs.Index.{opened}
+use Rattle.index.specs.IndexLaws.{call-refused}
 use Rattle.reader.specs.Decoding.{isFew}
 use Rattle.sums.specs.Sums.{Cubed}
 use Rattle.sums.specs.Joined.{JoinedSummed}
 use Rattle.judging.specs.Numbers.{askedNumber, readNumber}
 use Rattle.judging.specs.Judging.{Exact, Judged}
-use Rattle.release.specs.Release.{measured, rowTold}
+use Rattle.release.specs.Release.{measured}
 
 -- what a number tells of the file
 no-first : (b : Bool) → firstOf ((not b, 19) ∷ []) ≡ 19 → b ≡ false
@@ -98,6 +94,28 @@ module _ (n : ℕ) (first : List ℕ) (p : ℕ) where
 shown : {s first kinds joined sums : List ℕ} {r : Decoded} → Judged s first kinds joined sums r → (n : ℕ) → r ≡ answer.Graph n → (p : ℕ) → isVisible (decode s) p ≡ placed n first p
 shown {s} {first} {kinds} {joined} j n z p = ap (λ (g : Graph). isVisible g p) (sym (j .graph n z)) ∙ placed-visible n first p kinds joined
 
+-- what stands in the arrays of a release: its graph, by rows and by first members
+module _ {s first kinds joined sums : List ℕ} {r : Decoded} (j : Judged s first kinds joined sums r) (n : ℕ) (z : r ≡ answer.Graph n) where
+  told-proper : Proper (decode s)
+  told-proper = subst Proper (j .graph n z) (j .exact n z .proper)
+
+  told-edge : (p q : ℕ) → unfolded n first kinds joined .edge p q ≡ decode s .edge p q
+  told-edge p q = ap (λ (g : Graph). g .edge p q) (j .graph n z)
+
+  told-leader : (p q : ℕ) → decode s .edge p q ≡ true → getD first q 0 ≡ leaderIn (visible (decode s)) q
+  unfolding leaderIn
+  told-leader p q t = j .exact n z .told q (placed-visible n first q kinds joined ∙ in-group (told-edge p q ∙ t)) ∙ ap (λ (g : Graph). leaderIn (visible g) q) (j .graph n z)
+    where
+      in-group : unfolded n first kinds joined .edge p q ≡ true → placed n first q ≡ true
+      in-group e = and-fst (placed n first q) (unfoldedEdge first kinds joined p q) (and-snd (placed n first p) _ (unfold unfolded in e))
+
+  module _ {p : ℕ} {row : List ℕ} (w : NeighbourRow n first kinds joined p row) where
+    told-bits : (q : ℕ) → q < maxNodes → edgeBit row 0 q ≡ decode s .edge p q
+    told-bits q b = w .bits q b ∙ told-edge p q
+
+    pub ask-reached : Reaches first 1 (rowNodes row)
+    ask-reached = row-reached (decode s) told-proper p row told-bits first 1 (λ q l. omega (arith, j .exact n z .compressed .nodes, told-proper .small))
+
 -- neighbours asked of a file
 module _ (s : List ℕ) (p : ℕ) (out : List ℕ) {first kinds joined sums : List ℕ} {r : Decoded} (j : Judged s first kinds joined sums r) where
   pub ask-none : r ≡ answer.NoRelease → listed 19 0 out ≡ fileNeighboursCall s p out
@@ -109,33 +127,15 @@ module _ (s : List ℕ) (p : ℕ) (out : List ℕ) {first kinds joined sums : Li
     unfolding fileNeighboursCall fileNeighboursReasons firstOf
     ask-hidden h = rw (passed j n z, shown j n z p ∙ sym e ∙ h)
 
-    pub ask-row : b ≡ true → {row : List ℕ} → NeighbourRow n first kinds joined p row → rowTold row out ≡ fileNeighboursCall s p out
-    unfolding rowTold
-    ask-row h {row} w = rw list (step (decide (ltb (length out) (length (neighbours (decode s) p)))))
+    pub ask-told : b ≡ true → {row : List ℕ} → NeighbourRow n first kinds joined p row → rowTold row first 1 out ≡ fileNeighboursCall s p out
+    unfolding fileNeighboursCall
+    ask-told h {row} w = row-told (decode s) (told-proper j n z) p row (told-bits j n z w) first 1 out (visible (decode s)) (fileNeighboursReasons s p out) leaders number
       where
-        small : n ≤ maxNodes
-        small = j .exact n z .compressed .small
+        leaders : (q : ℕ) → decode s .edge p q ≡ true → leaderAt first 1 q ≡ leaderIn (visible (decode s)) q
+        leaders q t = let one : 1 * q ≡ q = omega arith in ap (λ (i : ℕ). getD first i 0) one ∙ told-leader j n z p q t
 
-        -- the row has no bit from n on
-        after : (q : ℕ) → n ≤ q → q < maxNodes → edgeBit row 0 q ≡ false
-        after q a b = w .bits q b ∙ unfold unfolded in rw (none, and-false (placed n first p))
-          where
-            none : placed n first q ≡ false
-            none = unfold placed in rw (le-ltb q n a)
-
-        list : scan (edgeBit row 0) maxNodes 0 ≡ neighbours (decode s) p
-        list = scan-cut (edgeBit row 0) n maxNodes small after 0 (omega arith) ∙ scan-nodes (edgeBit row 0) n ∙ told ∙ ap (λ (g : Graph). neighbours g p) (j .graph n z)
-          where
-            told : filter (edgeBit row 0) (nodes n) ≡ neighbours (unfolded n first kinds joined) p
-            told = unfold neighbours unfolded in filter-cong (edgeBit row 0) _ (nodes n) (λ q m. w .bits q (omega (arith, nodes-out n q m, small)))
-
-        number : firstOf (fileNeighboursReasons s p out) ≡ cond (ltb (length out) (length (neighbours (decode s) p))) 18 0
+        number : firstOf (fileNeighboursReasons s p out) ≡ cond (ltb (length out) (2 * length (neighbours (decode s) p))) 18 0
         number = unfold fileNeighboursReasons firstOf in rw (passed j n z, shown j n z p ∙ sym e ∙ h)
-
-        step : (ltb (length out) (length (neighbours (decode s) p)) ≡ true) ⊎ (ltb (length out) (length (neighbours (decode s) p)) ≡ false)
-            → cond (ltb (length out) (length (neighbours (decode s) p))) (listRefused out 18) (record { result = 0; count = length (neighbours (decode s) p); out = onto (neighbours (decode s) p) out }) ≡ fileNeighboursCall s p out
-        step (inl x) = unfold fileNeighboursCall in rw x (call-refused (fileNeighboursReasons s p out) (listRefused out) _ 18 (number ∙ rw x) (omega arith))
-        step (inr x) = unfold fileNeighboursCall in rw x (call-done (fileNeighboursReasons s p out) (listRefused out) _ (number ∙ rw x))
 
 -- a distance asked of a file
 module _ (s : List ℕ) (p q : ℕ) {first kinds joined sums : List ℕ} {r : Decoded} (j : Judged s first kinds joined sums r) where
@@ -158,18 +158,6 @@ module _ (s : List ℕ) (p q : ℕ) {first kinds joined sums : List ℕ} {r : De
     pub measure-done : placed n first p ≡ true → placed n first q ≡ true → {d : ℕ} → d ≡ distance (visible (unfolded n first kinds joined)) p q → measured 0 d ≡ fileDistanceCall s p q
     unfolding fileDistanceCall fileDistanceReasons firstOf
     measure-done a b e = rw (passed j n z, shown j n z p ∙ a, shown j n z q ∙ b) (ap (measured 0) (e ∙ ap (λ (g : Graph). distance (visible g) p q) (j .graph n z)))
-
--- a row listed
-module _ (row out : List ℕ) {k : ℕ} (c : k ≡ length (scan (edgeBit row 0) maxNodes 0)) where
-  pub row-short : length out < k → listed 18 0 out ≡ rowTold row out
-  unfolding rowTold
-  row-short l = rw (lt-ltb (length out) (length (scan (edgeBit row 0) maxNodes 0)) (omega (arith, c)))
-
-  pub row-done : k ≤ length out → {out₁ : List ℕ} → out₁ ≡ sets out 0 (scan (edgeBit row 0) maxNodes 0) → listed 0 k out₁ ≡ rowTold row out
-  unfolding rowTold
-  row-done l w =
-      rw (le-ltb (length out) (length (scan (edgeBit row 0) maxNodes 0)) (omega (arith, c)))
-      (ap₂ (listed 0) c (w ∙ sets-onto (scan (edgeBit row 0) maxNodes 0) out (omega (arith, c))))
 
 -- what is filled
 module _ {s first kinds joined sums : List ℕ} {r : Decoded} (j : Judged s first kinds joined sums r) (m : ℕ) (e : r ≡ answer.Graph m) (n : ℕ) (d : m ≡ n) where

@@ -5,11 +5,10 @@ use mathlib.Core.List.{List}
 use Prim.Native.Nat.{ℕ, _<_}
 use lib.Dec.{ltb}
 use lib.ListN.{length, getD}
-use Rattle.model.specs.Graph.{Graph, maxNodes}
-use Rattle.model.specs.Tables.{edgeBit, nodeNumber}
-use Rattle.buffers.specs.Scan.{scan}
+use Rattle.model.specs.Graph.{Graph}
+use Rattle.model.specs.Tables.{nodeNumber}
 use Rattle.model.specs.Release.{release}
-use Rattle.model.specs.Calls.{Listed, Measured, listRefused, onto, Released, releaseRefused, released}
+use Rattle.model.specs.Calls.{Measured, Released, releaseRefused, released}
 
 -- the release of a graph into a buffer, or 18
 unfoldable pub told : Graph → List ℕ → Released
@@ -22,9 +21,3 @@ measured r d = record { result = r; distance = d }
 -- the marks of n nodes, in a list of their own
 pub record Marks (n : ℕ) (nodes hidden : List ℕ) : Type 0 where
   pub same : (p : ℕ) → p < n → getD hidden p 0 ≡ nodeNumber nodes p 3
-
--- the neighbours that a row tells, into a buffer, or 18
-unfoldable pub rowTold : List ℕ → List ℕ → Listed
-rowTold row out =
-    cond (ltb (length out) (length (scan (edgeBit row 0) maxNodes 0))) (listRefused out 18)
-    (record { result = 0; count = length (scan (edgeBit row 0) maxNodes 0); out = onto (scan (edgeBit row 0) maxNodes 0) out })

@@ -10,19 +10,19 @@ ghost use Rattle.rows.specs.Rows.{lent};
 ghost use Rattle.masking.specs.Masking.{Drawn, markedGraph};
 ghost use Rattle.layout.specs.Truth.{Truth};
 ghost use Rattle.writer.specs.Written.{releasedBy};
-ghost use Rattle.compressed.specs.Compressed.{smallNodes};
+ghost use Rattle.compressed.specs.Compressed.{placed, smallNodes};
 ghost use Rattle.reader.specs.Decoding.{BlankRows, nodesIn};
-ghost use Rattle.index.specs.Index.{listed, opened};
+ghost use Rattle.queries.specs.Query.{listed};
+ghost use Rattle.index.specs.Index.{opened};
 ghost use Rattle.tables.specs.Lent.{Held};
 ghost use Rattle.release.specs.Release.{measured, told};
 use compressed::SINGLE;
 use compressed::SMALL;
-use index::Listed;
+use queries::Listed;
 use reader::Decoded;
 use rows::Graph;
 use writer::Written;
 
-mod asking;
 mod copies;
 mod reading;
 
@@ -149,7 +149,19 @@ pub fn read(n: usize, edges: &mut [u64], nodes: &mut [u16], keys: &mut [u32], fi
     read_with(n, edges, nodes, keys, file, &mut joined)
 }
 
-// The neighbours of p, asked of a release, with rows for the superedges between its groups.
+// Whether p is one of n nodes and in a group.
+fn is_placed(least: &[u16], n: usize, p: u16) -> bool
+    requires { ⌜ n ≤ length (now least) ⌝ }
+    ensures { λ r. ⌜ r ≡ placed n (now (least .entry)) p ⌝ }
+{
+    let node = p as usize;
+    if node >= n {
+        return false;
+    }
+    least[node] != Graph::NONE
+}
+
+// The neighbours of p with the least members of their groups, asked of a release, with rows for the superedges between its groups.
 fn ask_with(file: &[u8], p: u16, out: &mut [u16], joined: &mut [u64]) -> Listed
     requires { ⌜ BlankRows (now file) (now joined) ⌝ }
     ensures { λ r. ⌜ listed (r .result) (r .count) (now (out .exit)) ≡ fileNeighboursCall (now (file .entry)) p (now (out .entry)) ⌝ }
@@ -159,16 +171,17 @@ fn ask_with(file: &[u8], p: u16, out: &mut [u16], joined: &mut [u64]) -> Listed
     let mut sums = [0u32; 2 * Graph::NODES];
     let judged = judging::judge(file, &mut least, &mut kinds, joined, &mut sums);
     let Decoded::Graph { n } = judged else {
-        return asking::refused(19);
+        return queries::unlisted(19);
     };
-    if !asking::is_placed(&least, n, p) {
-        return asking::refused(14);
+    if !is_placed(&least, n, p) {
+        return queries::unlisted(14);
     }
     let row = unfolding::neighbour_row(&least, &kinds, joined, n, p as usize);
-    asking::answer(&row, out)
+    queries::list_row(&row, &least, 1, out)
 }
 
-// The neighbours of p, asked of a release, ascending, and their count. 0, or 19, 14 (out of range or hidden), 18.
+// The neighbours of p, asked of a release, ascending, each followed by the least member of its group there, and their count.
+// 0, or 19, 14 (out of range or hidden), 18.
 pub fn file_neighbours(file: &[u8], p: u16, out: &mut [u16]) -> Listed
     ensures { λ r. ⌜ listed (r .result) (r .count) (now (out .exit)) ≡ fileNeighboursCall (now (file .entry)) p (now (out .entry)) ⌝ }
 {
@@ -192,10 +205,10 @@ fn measure_with(file: &[u8], p: u16, q: u16, joined: &mut [u64]) -> Measured
     let Decoded::Graph { n } = judged else {
         return unmeasured(19);
     };
-    if !asking::is_placed(&least, n, p) {
+    if !is_placed(&least, n, p) {
         return unmeasured(14);
     }
-    if !asking::is_placed(&least, n, q) {
+    if !is_placed(&least, n, q) {
         return unmeasured(14);
     }
     let distance = distances::distance(&least, &kinds, joined, n, p as usize, q as usize);

@@ -71,7 +71,7 @@ fn is_start(file: &[u8], out: &[u8], count: u64) -> bool {
 
 // The neighbours of p, asked of the file, into a buffer filled with 4660.
 pub fn neighbours(file: &[u8], p: u64, room: u64, shown: u64) {
-    let mut out = [4660u16; 600];
+    let mut out = [4660u16; 1100];
     neighbours_part(file, p, &mut out, room, shown);
 }
 

@@ -15,15 +15,15 @@ fn fold_asked(h: u64, file: &[u8], p: u16, out: &mut [u16]) -> u64 {
     fold_numbers(fold(fold(h, wide(r.result)), wide(r.count)), out)
 }
 
-// The neighbours of p, into a buffer of four.
-fn fold_four(h: u64, file: &[u8], p: u16) -> u64 {
-    let mut out = [4660u16; 4];
+// The neighbours of p, into a buffer of eight.
+fn fold_eight(h: u64, file: &[u8], p: u16) -> u64 {
+    let mut out = [4660u16; 8];
     fold_asked(h, file, p, &mut out)
 }
 
 // And into one that is never too short.
 fn fold_all(h: u64, file: &[u8], p: u16) -> u64 {
-    let mut out = [4660u16; 512];
+    let mut out = [4660u16; 1024];
     fold_asked(h, file, p, &mut out)
 }
 
@@ -33,9 +33,9 @@ fn fold_hops(h: u64, file: &[u8], p: u16, q: u16) -> u64 {
     fold(fold(h, wide(r.result)), wide(r.distance))
 }
 
-// The neighbours of p, into a buffer of four, and its distance from node 0.
+// The neighbours of p, into a buffer of eight, and its distance from node 0.
 fn fold_asked_twice(h: u64, file: &[u8], p: u16) -> u64 {
-    fold_hops(fold_four(h, file, p), file, p, 0)
+    fold_hops(fold_eight(h, file, p), file, p, 0)
 }
 
 // The distances of p and each node below `limit`.
@@ -65,7 +65,7 @@ pub fn pairs(file: &[u8], limit: u64) {
 fn fold_queries(file: &[u8], limit: u64) -> u64 {
     let mut d = 0;
     for p in 0..limit {
-        d = fold_all(fold_four(d, file, small(p)), file, small(p));
+        d = fold_all(fold_eight(d, file, small(p)), file, small(p));
     }
     d
 }

@@ -3,7 +3,7 @@ use borrow.Author.Needs.{needs}
 use mathlib.Core.Path.{sym, _∙_}
 use native.Mathlib.Omega.{arith}
 use borrow.Author.Tests.{not-false, not-true}
-use Rattle.release.specs.ReadLaws.{ask-hidden, ask-none, ask-row}
+use Rattle.release.specs.ReadLaws.{ask-hidden, ask-none, ask-reached, ask-told}
 use Rattle.release.proofs.ask_with.Statement.{statement}
 use Rattle.release.proofs.ask_with.Tie as tie
 
@@ -25,15 +25,15 @@ enum-known-judged c = search needs
 enum-told : tie.Need-enum-told
 enum-told c = search needs
 
-refused-requires : tie.Need-refused-requires
-refused-requires c κs = search needs
+unlisted-requires : tie.Need-unlisted-requires
+unlisted-requires c κs = search needs
 
 same-length : tie.Need-same-length
 same-length c = search needs
 
 returns : tie.Need-returns
 returns c =
-    let e = c .refused .ensures in
+    let e = c .unlisted .ensures in
     rw (e .0, e .1) (ask-none _ _ _ (c .before .before .before .before .before .before .before .before .judge .ensures) (c .before .enum-told .given .1))
 
 slice-aggregate-is-placed : tie.Need-slice-aggregate-is-placed
@@ -44,16 +44,17 @@ is-placed-requires c κs =
     let x = c .before .before .before .before .before .before .before .before .before .judge .ensures .exact _ (c .before .before .judged .given .1) .compressed in
     omega (arith, x .small, x .nodes)
 
-refused-requires-2 : tie.Need-refused-requires-2
-refused-requires-2 c κs = search needs
+unlisted-requires-2 : tie.Need-unlisted-requires-2
+unlisted-requires-2 c κs = search needs
 
 same-length-2 : tie.Need-same-length-2
 same-length-2 c = search needs
 
 returns-2 : tie.Need-returns-2
 returns-2 c =
-    let e = c .refused2 .ensures in
-    rw (e .0, e .1) (ask-hidden _ _ _ (c .before .before .before .before .before .before .before .before .before .before .before .before .judge .ensures) _ (c .before .before .before .before .before .judged .given .1) (c .before .before .is-placed .ensures) (not-true _ (c .before .if1 .taken)))
+    let e = c .unlisted2 .ensures in
+    let k = c .before .before .before .before .before in
+    rw (e .0, e .1) (ask-hidden _ _ _ (k .before .before .before .before .before .before .before .judge .ensures) _ (k .judged .given .1) (c .before .before .is-placed .ensures) (not-true _ (c .before .if1 .taken)))
 
 slice-aggregate-neighbour-row : tie.Need-slice-aggregate-neighbour-row
 slice-aggregate-neighbour-row c = search needs
@@ -63,13 +64,21 @@ slice-aggregate-neighbour-row-2 c = search needs
 
 neighbour-row-requires : tie.Need-neighbour-row-requires
 neighbour-row-requires c κs =
-    (c .before .before .before .before .before .before .before .before .before .before .before .before .before .before .judge .ensures .exact _ (c .before .before .before .before .before .before .before .judged .given .1) .compressed, sym (c .before .before .before .before .is-placed .ensures) ∙ not-false _ (c .before .before .before .if1 .left))
+    let i = c .before .before .before in
+    let k = i .before .before .before .before in
+    (k .before .before .before .before .before .before .before .judge .ensures .exact _ (k .judged .given .1) .compressed, sym (i .before .is-placed .ensures) ∙ not-false _ (i .if1 .left))
 
-slice-aggregate-answer : tie.Need-slice-aggregate-answer
-slice-aggregate-answer c = search needs
+slice-aggregate-list-row : tie.Need-slice-aggregate-list-row
+slice-aggregate-list-row c = search needs
 
-answer-requires : tie.Need-answer-requires
-answer-requires c κs = search needs
+slice-aggregate-list-row-2 : tie.Need-slice-aggregate-list-row-2
+slice-aggregate-list-row-2 c = search needs
+
+list-row-requires : tie.Need-list-row-requires
+list-row-requires c κs =
+    let r = c .before .before .before in
+    let k = r .before .before .before .before .before .before .before .before in
+    (search needs, ask-reached (k .before .before .before .before .before .before .before .judge .ensures) _ (k .judged .given .1) (r .neighbour-row .ensures))
 
 same-length-3 : tie.Need-same-length-3
 same-length-3 c = search needs
@@ -79,8 +88,10 @@ same-length-4 c = search needs
 
 returns-3 : tie.Need-returns-3
 returns-3 c =
-    c .before .before .answer .ensures
-    ∙ ask-row _ _ _ (c .before .before .before .before .before .before .before .before .before .before .before .before .before .before .before .before .before .before .before .before .judge .ensures) _ (c .before .before .before .before .before .before .before .before .before .before .before .before .before .judged .given .1) (c .before .before .before .before .before .before .before .before .before .before .is-placed .ensures) (not-false _ (c .before .before .before .before .before .before .before .before .before .if1 .left)) (c .before .before .before .before .before .neighbour-row .ensures)
+    let r = c .before .before .before .before .before .before in
+    let i = r .before .before .before .before in
+    let k = i .before .before .before .before in
+    c .before .before .list-row .ensures ∙ ask-told _ _ _ (k .before .before .before .before .before .before .before .judge .ensures) _ (k .judged .given .1) (i .before .is-placed .ensures) (not-false _ (i .if1 .left)) (r .neighbour-row .ensures)
 
 pub ask-with-spec : {M : Type 1} → statement M
 ask-with-spec =
@@ -92,19 +103,20 @@ ask-with-spec =
     judge-requires
     enum-known-judged
     enum-told
-    refused-requires
+    unlisted-requires
     same-length
     returns
     slice-aggregate-is-placed
     is-placed-requires
-    refused-requires-2
+    unlisted-requires-2
     same-length-2
     returns-2
     slice-aggregate-neighbour-row
     slice-aggregate-neighbour-row-2
     neighbour-row-requires
-    slice-aggregate-answer
-    answer-requires
+    slice-aggregate-list-row
+    slice-aggregate-list-row-2
+    list-row-requires
     same-length-3
     same-length-4
     returns-3)

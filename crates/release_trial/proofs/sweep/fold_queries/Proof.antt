@@ -16,8 +16,8 @@ loop-holds c = search needs
 small-requires : tie.Need-small-requires Inv-loop μ-loop
 small-requires c κs = search needs
 
-fold-four-requires : tie.Need-fold-four-requires Inv-loop μ-loop
-fold-four-requires c κs = search needs
+fold-eight-requires : tie.Need-fold-eight-requires Inv-loop μ-loop
+fold-eight-requires c κs = search needs
 
 small-requires-2 : tie.Need-small-requires-2 Inv-loop μ-loop
 small-requires-2 c κs = search needs
@@ -45,7 +45,7 @@ fold-queries-spec =
     μ-loop
     loop-holds
     small-requires
-    fold-four-requires
+    fold-eight-requires
     small-requires-2
     fold-all-requires
     add-p

@@ -1,4 +1,4 @@
--- `queries::count_neighbours` meets its contract.
+-- `queries::count_row` meets its contract.
 use Prim.Native.Nat.{_*_, _-_, _≤_}
 use native.Mathlib.Omega.{arith}
 use lib.Count.{ones-le}
@@ -7,8 +7,8 @@ use Rattle.buffers.specs.Scan.{scan, Counting}
 use Rattle.buffers.specs.ScanLaws.{counting-start, counting-done}
 use Rattle.model.specs.Tables.{edgeBit}
 use Rattle.queries.specs.QueryLaws.{row-counted}
-use Rattle.queries.proofs.count_neighbours.Statement.{statement}
-use Rattle.queries.proofs.count_neighbours.Tie as tie
+use Rattle.queries.proofs.count_row.Statement.{statement}
+use Rattle.queries.proofs.count_row.Tie as tie
 
 abbrev Inv-loop : tie.InvT-loop
 Inv-loop row count₀ w₀ count w = (w ≤ 8) × (count ≤ 64 * w) × Counting (edgeBit row 0) 512 (length (scan (edgeBit row 0) 512 0)) count (64 * w)
@@ -53,8 +53,8 @@ loop-again c =
 returns : tie.Need-returns Inv-loop μ-loop
 returns c = counting-done (c .before .loop .inv .2) (omega arith)
 
-pub count-neighbours-spec : {M : Type 1} → statement M
-count-neighbours-spec =
+pub count-row-spec : {M : Type 1} → statement M
+count-row-spec =
     tie.close
     (tie.spec
     Inv-loop

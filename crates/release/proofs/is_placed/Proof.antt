@@ -1,8 +1,8 @@
--- `release::asking::is_placed` meets its contract.
+-- `release::is_placed` meets its contract.
 use borrow.Author.Needs.{needs}
 use Rattle.release.specs.ReadLaws.{inside-placed, outside-placed}
-use Rattle.release.proofs.asking.is_placed.Statement.{statement}
-use Rattle.release.proofs.asking.is_placed.Tie as tie
+use Rattle.release.proofs.is_placed.Statement.{statement}
+use Rattle.release.proofs.is_placed.Tie as tie
 
 returns : tie.Need-returns
 returns c = outside-placed _ _ _ (c .if1 .taken)
