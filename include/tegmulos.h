@@ -58,7 +58,8 @@ uint16_t tegmulos_open(size_t n, uint64_t *edges, size_t edges_len, uint16_t *no
 uint16_t tegmulos_apply(size_t n, uint64_t *edges, size_t edges_len, uint16_t *nodes, size_t nodes_len, uint32_t *keys,
                         size_t keys_len, const uint16_t *batch, size_t batch_len, int16_t *answers, size_t answers_len);
 
-/* The neighbours of p, ascending, and their count. 0, or 11, 12, 14, 18. */
+/* The neighbours of p, ascending, each followed by the least member of its group: two numbers for each. `count` is how many
+ * neighbours there are. 0, or 11, 12, 14, 18. */
 uint16_t tegmulos_neighbours(size_t n, const uint64_t *edges, size_t edges_len, const uint16_t *nodes, size_t nodes_len,
                              const uint32_t *keys, size_t keys_len, uint16_t p, uint16_t *out, size_t out_len, uint16_t *count);
 
@@ -79,7 +80,8 @@ uint16_t tegmulos_release(size_t n, const uint64_t *edges, size_t edges_len, con
 uint16_t tegmulos_read(size_t n, uint64_t *edges, size_t edges_len, uint16_t *nodes, size_t nodes_len, uint32_t *keys,
                        size_t keys_len, const uint8_t *file, size_t file_len);
 
-/* The neighbours of p, asked of a release, ascending, and their count. 0, or 19, 14, 18. */
+/* The neighbours of p, asked of a release, ascending, each followed by the least member of its group there: two numbers for each.
+ * `count` is how many neighbours there are. 0, or 19, 14, 18. */
 uint16_t tegmulos_file_neighbours(const uint8_t *file, size_t file_len, uint16_t p, uint16_t *out, size_t out_len,
                                   uint16_t *count);
 

@@ -66,7 +66,7 @@ fn apply(t: &mut Tables, random: &mut Random, tally: &mut Tally) {
 fn ask(t: &Tables, random: &mut Random, tally: &mut Tally) -> u16 {
     let p = random.below(t.n + 2) as u16;
     let q = random.below(t.n + 2) as u16;
-    let room = if random.below(3) == 0 { random.below(t.n + 1) } else { t.n };
+    let room = if random.below(3) == 0 { random.below(2 * t.n + 1) } else { 2 * t.n };
     let (mut x, mut y) = (vec![4660; room], vec![4660; room]);
     let (mut c, mut d) = (9, 9);
     let a = calls::neighbours(t.n, &t.edges, &t.nodes, &t.keys, p, &mut x, &mut c);
@@ -154,7 +154,7 @@ fn read(n: usize, file: &[u8], random: &mut Random, tally: &mut Tally) {
         _ => panic!("{x}"),
     }
     let p = random.below(n + 1) as u16;
-    let room = if random.below(3) == 0 { random.below(n + 1) } else { n };
+    let room = if random.below(3) == 0 { random.below(2 * n + 1) } else { 2 * n };
     let (mut x, mut y) = (vec![4660; room], vec![4660; room]);
     let (mut c, mut d) = (9, 9);
     let r = calls::file_neighbours(file, p, &mut x, &mut c);

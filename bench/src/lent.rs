@@ -466,15 +466,17 @@ pub fn apply(n: usize, e: &mut [u64], v: &mut [u16], k: &mut [u32], batch: &[u16
     0
 }
 
-fn list(r: &Row, out: &mut [u16], count: &mut u16) -> u16 {
+/// The nodes of a row, each followed by the least member of its group.
+fn list(r: &Row, least: impl Fn(usize) -> u16, out: &mut [u16], count: &mut u16) -> u16 {
     let ones: usize = r.iter().map(|x| x.count_ones() as usize).sum();
-    if out.len() < ones {
+    if out.len() < 2 * ones {
         return 18;
     }
-    let mut i = 0;
+    let mut pairs = out.as_chunks_mut().0.iter_mut();
     each_bit(r, |q| {
-        out[i] = q as u16;
-        i += 1;
+        if let Some(pair) = pairs.next() {
+            *pair = [q as u16, least(q)];
+        }
     });
     *count = ones as u16;
     0
@@ -489,7 +491,7 @@ pub fn neighbours(n: usize, e: &[u64], v: &[u16], k: &[u32], p: u16, out: &mut [
     if usize::from(p) >= n {
         return 14;
     }
-    list(row(e, usize::from(p)), out, count)
+    list(row(e, usize::from(p)), |q| v[4 * q], out, count)
 }
 
 pub fn tied(n: usize, e: &[u64], v: &[u16], k: &[u32], p: u16, q: u16, yes: &mut u16) -> u16 {
@@ -1263,7 +1265,7 @@ pub fn file_neighbours(file: &[u8], p: u16, out: &mut [u16], count: &mut u16) ->
     }
     let mut r = parts.neighbourhood(file, usize::from(parts.group[p]));
     r[p / 64] &= !bit(p);
-    list(&r, out, count)
+    list(&r, |q| parts.firsts[usize::from(parts.group[q])], out, count)
 }
 
 pub fn read(n: usize, e: &mut [u64], v: &mut [u16], k: &mut [u32], file: &[u8]) -> u16 {

@@ -84,8 +84,8 @@ fn updates(t: &Tables, name: &str, random: &mut Random) {
 }
 
 fn queries(t: &Tables, name: &str) {
-    let (mut yes, mut count, mut out) = (0, 0, [0; 512]);
-    let (mut yes2, mut count2, mut out2) = (0, 0, [0; 512]);
+    let (mut yes, mut count, mut out) = (0, 0, [0; 1024]);
+    let (mut yes2, mut count2, mut out2) = (0, 0, [0; 1024]);
     let times = medians(
         || assert_eq!(calls::tied(t.n, &t.edges, &t.nodes, &t.keys, 0, 1, &mut yes), 0),
         || assert_eq!(lent::tied(t.n, &t.edges, &t.nodes, &t.keys, 0, 1, &mut yes2), 0),
@@ -125,7 +125,7 @@ fn files(t: &Tables, name: &str) {
     );
     line(t, name, "read", times, 1.0);
     assert_eq!(a, b);
-    let (mut list, mut count, mut list2, mut count2) = ([0; 512], 0, [0; 512], 0);
+    let (mut list, mut count, mut list2, mut count2) = ([0; 1024], 0, [0; 1024], 0);
     let times = medians(
         || assert_eq!(calls::file_neighbours(black_box(file), 5, &mut list, &mut count), 0),
         || assert_eq!(lent::file_neighbours(black_box(file), 5, &mut list2, &mut count2), 0),

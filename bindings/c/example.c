@@ -14,10 +14,10 @@ static const uint16_t batch[3 * UPDATES] = {
     1, 0, 3, 1, 0, 4, 1, 0, 5, 1, 1, 3, 1, 1, 4, 1, 1, 5, 1, 2, 3, 1, 2, 4, 1, 2, 5, 3, 3, 0,
 };
 
-static void print_list(const char *name, const uint16_t *list, size_t count) {
-    printf("%s:", name);
+static void print_pairs(const char *name, const uint16_t *list, size_t count) {
+    printf("%s, with their groups:", name);
     for (size_t i = 0; i < count; i++) {
-        printf(" %u", list[i]);
+        printf(" %u (%u)", list[2 * i], list[2 * i + 1]);
     }
     printf("\n");
 }
@@ -25,7 +25,7 @@ static void print_list(const char *name, const uint16_t *list, size_t count) {
 int main(void) {
     int16_t answers[UPDATES];
     uint8_t file[128];
-    uint16_t out[N], count, m, g, least, kind, size, yes, distance;
+    uint16_t out[2 * N], count, m, g, least, kind, size, yes, distance;
     uint32_t s, bytes;
 
     printf("open: %u\n", tegmulos_open(N, edges, 8 * N, nodes, 4 * N, keys, 2 * N));
@@ -39,8 +39,8 @@ int main(void) {
     printf("0 and 3 tied: %u\n", yes);
     tegmulos_group(N, edges, 8 * N, nodes, 4 * N, keys, 2 * N, 4, &least, &kind, &size);
     printf("group of 4: least %u kind %u size %u\n", least, kind, size);
-    tegmulos_neighbours(N, edges, 8 * N, nodes, 4 * N, keys, 2 * N, 0, out, N, &count);
-    print_list("neighbours of 0", out, count);
+    tegmulos_neighbours(N, edges, 8 * N, nodes, 4 * N, keys, 2 * N, 0, out, 2 * N, &count);
+    print_pairs("neighbours of 0", out, count);
     printf("release: %u\n",
            tegmulos_release(N, edges, 8 * N, nodes, 4 * N, keys, 2 * N, file, sizeof file, &m, &g, &s, &bytes));
     printf("visible %u groups %u superedges %u bytes %u\n", m, g, s, bytes);
@@ -48,10 +48,10 @@ int main(void) {
         printf("%02X%c", file[i], i + 1 == bytes ? '\n' : ' ');
     }
     printf("read: %u\n", tegmulos_read(N, edges, 8 * N, nodes, 4 * N, keys, 2 * N, file, bytes));
-    tegmulos_file_neighbours(file, bytes, 0, out, N, &count);
-    print_list("neighbours of 0 in the file", out, count);
+    tegmulos_file_neighbours(file, bytes, 0, out, 2 * N, &count);
+    print_pairs("neighbours of 0 in the file", out, count);
     tegmulos_file_distance(file, bytes, 0, 1, &distance);
     printf("distance of 0 and 1: %u\n", distance);
-    printf("of 3, hidden: %u\n", tegmulos_file_neighbours(file, bytes, 3, out, N, &count));
+    printf("of 3, hidden: %u\n", tegmulos_file_neighbours(file, bytes, 3, out, 2 * N, &count));
     return 0;
 }

@@ -74,6 +74,18 @@ pub struct Group {
     pub size: u16,
 }
 
+/// A neighbour, and the least member of its group.
+#[derive(Clone, Copy, Debug, PartialEq, Eq)]
+pub struct Neighbour {
+    pub node: u16,
+    pub least: u16,
+}
+
+/// The first pairs of a buffer.
+fn pairs(out: &[u16], count: u16) -> Vec<Neighbour> {
+    out.chunks_exact(2).take(usize::from(count)).map(|pair| Neighbour { node: pair[0], least: pair[1] }).collect()
+}
+
 /// The file of the visible part, and how many nodes, groups and superedges it has.
 #[derive(Clone, Debug, PartialEq, Eq)]
 pub struct Release {
@@ -121,13 +133,12 @@ impl Index {
         done(result, answers)
     }
 
-    /// The neighbours of p, ascending.
-    pub fn neighbours(&self, p: u16) -> Result<Vec<u16>, Refusal> {
-        let mut out = vec![0; NODES];
+    /// The neighbours of p, ascending, with their groups in the whole graph.
+    pub fn neighbours(&self, p: u16) -> Result<Vec<Neighbour>, Refusal> {
+        let mut out = [0; 2 * NODES];
         let mut count = 0;
         let result = calls::neighbours(self.n, &self.edges, &self.nodes, &self.keys, p, &mut out, &mut count);
-        out.truncate(usize::from(count));
-        done(result, out)
+        done(result, pairs(&out, count))
     }
 
     /// Whether p and q are neighbours.
@@ -159,13 +170,12 @@ impl Index {
     }
 }
 
-/// The neighbours of p, asked of a release, ascending.
-pub fn file_neighbours(file: &[u8], p: u16) -> Result<Vec<u16>, Refusal> {
-    let mut out = vec![0; NODES];
+/// The neighbours of p, asked of a release, ascending, with their groups there.
+pub fn file_neighbours(file: &[u8], p: u16) -> Result<Vec<Neighbour>, Refusal> {
+    let mut out = [0; 2 * NODES];
     let mut count = 0;
     let result = calls::file_neighbours(file, p, &mut out, &mut count);
-    out.truncate(usize::from(count));
-    done(result, out)
+    done(result, pairs(&out, count))
 }
 
 /// How many edges separate p and q, asked of a release. None if no chain of edges does.
