@@ -11,6 +11,7 @@ import os
 import sys
 
 MOST_NODES, MOST_UPDATES, ROW_WORDS, NODE_NUMBERS = 512, 4096, 8, 4
+MOST_STATES, NAME_BYTES = 8, 16
 NO_CHAIN = 65535
 
 
@@ -54,25 +55,32 @@ def groups_of(graph):
     return algorithm1(range(graph.n), graph.neighbourhoods())
 
 
+def edges_of(graph):
+    """The edge table of a graph."""
+    rows = [sum(1 << q for q in neighbours) for neighbours in graph.neighbourhoods()]
+    return [row >> 64 * w & 2 ** 64 - 1 for row in rows for w in range(ROW_WORDS)]
+
+
+def marks_of(graph):
+    return [int(p in graph.hidden) for p in range(graph.n)]
+
+
 def tables_of(graph):
     """The three tables of a graph: edges, nodes, keys."""
-    n, neighbourhood = graph.n, graph.neighbourhoods()
-    edges, nodes, keys = [], [0] * (NODE_NUMBERS * n), []
+    n, neighbourhood, marks = graph.n, graph.neighbourhoods(), marks_of(graph)
+    nodes, keys = [0] * (NODE_NUMBERS * n), []
     for p in range(n):
-        row = sum(1 << q for q in neighbourhood[p])
-        edges += [row >> 64 * w & 2 ** 64 - 1 for w in range(ROW_WORDS)]
         cubes = sum((q + 1) ** 3 for q in neighbourhood[p])
         keys += [cubes % 2 ** 32, (cubes + (p + 1) ** 3) % 2 ** 32]
     for group in groups_of(graph):
         for i, p in enumerate(group):
             following, previous = group[(i + 1) % len(group)], group[i - 1]
-            nodes[4 * p:4 * p + 4] = [group[0], following, previous, int(p in graph.hidden)]
-    return [edges, nodes, keys]
+            nodes[4 * p:4 * p + 4] = [group[0], following, previous, marks[p]]
+    return [edges_of(graph), nodes, keys]
 
 
-def graph_of(n, tables):
-    """The graph that tables of the right lengths hold, or None."""
-    edges, nodes, keys = tables
+def simple_graph(n, edges, marks):
+    """The graph that an edge table and marks tell, or None where the edges are none of a graph."""
     rows = [sum(edges[8 * p + w] << 64 * w for w in range(ROW_WORDS)) for p in range(n)]
     graph = Graph(n)
     for p in range(n):
@@ -83,9 +91,56 @@ def graph_of(n, tables):
                 if not rows[q] >> p & 1:
                     return None
                 graph.edges.add((min(p, q), max(p, q)))
-        if nodes[4 * p + 3] == 1:
+        if marks[p] == 1:
             graph.hidden.add(p)
-    return graph if tables_of(graph) == tables else None
+    return graph
+
+
+def graph_of(n, tables):
+    """The graph that tables of the right lengths hold, or None."""
+    edges, nodes, keys = tables
+    graph = simple_graph(n, edges, nodes[3::NODE_NUMBERS])
+    return graph if graph and tables_of(graph) == tables else None
+
+
+def place_words(n):
+    return 3 + (ROW_WORDS + 1) * n
+
+
+def store_words(n):
+    return 1 + MOST_STATES * place_words(n)
+
+
+def place_of(n, place):
+    """The words of a place of a store: None for a free one, or a name and the graph kept under it."""
+    if place is None:
+        return [0] * place_words(n)
+    name, graph = place
+    return [1] + [int.from_bytes(half, 'little') for half in (name[:8], name[8:])] + edges_of(graph) + marks_of(graph)
+
+
+def store_of(n, places):
+    """The words of a store with these places."""
+    return [n + 1] + [word for place in places for word in place_of(n, place)]
+
+
+def place_in(n, words):
+    """The place that words tell; False where their edges are none of a graph."""
+    if words[0] == 0:
+        return None
+    name = b''.join(half.to_bytes(8, 'little') for half in words[1:3])
+    graph = simple_graph(n, words[3:3 + ROW_WORDS * n], words[3 + ROW_WORDS * n:])
+    return graph is not None and (name, graph)
+
+
+def places_in(n, store):
+    """The places of a store of the right length, or None where it is none: what its words tell must have them as its store."""
+    starts = range(1, store_words(n), place_words(n))
+    places = [place_in(n, store[i:i + place_words(n)]) for i in starts]
+    if False in places or store_of(n, places) != store:
+        return None
+    names = [place[0] for place in places if place]
+    return places if len(set(names)) == len(names) else None
 
 
 def update_refusal(graph, kind, u, v):
@@ -230,10 +285,54 @@ class Calls:
         for table, wanted in zip(tables, tables_of(graph)):
             table[:] = wanted
 
-    def open(self, n, tables):
-        if self.wrong_size(n, tables):
+    def open(self, n, tables, store):
+        if self.wrong_size(n, tables) or len(store) != store_words(n):
             return 11
         self.fill(tables, Graph(n))
+        store[:] = store_of(n, [None] * MOST_STATES)
+        return 0
+
+    def kept(self, n, store, name):
+        """The number that refuses a call for its store or its name's length, or 0, the places, and the one with the name."""
+        if n > MOST_NODES or len(store) != store_words(n) or len(name) != NAME_BYTES:
+            return 11, [], None
+        places = places_in(n, store)
+        if places is None:
+            return 12, [], None
+        return 0, places, next((i for i, place in enumerate(places) if place and place[0] == name), None)
+
+    def keep(self, n, tables, store, name):
+        if self.wrong_size(n, tables):
+            return 11
+        refused, places, at = self.kept(n, store, name)
+        if refused:
+            return refused
+        graph = graph_of(n, tables)
+        if graph is None:
+            return 12
+        if at is not None:
+            return 22
+        if None not in places:
+            return 23
+        places[places.index(None)] = name, graph
+        store[:] = store_of(n, places)
+        return 0
+
+    def restore(self, n, tables, store, name):
+        if self.wrong_size(n, tables):
+            return 11
+        refused, places, at = self.kept(n, store, name)
+        if refused or at is None:
+            return refused or 21
+        self.fill(tables, places[at][1])
+        return 0
+
+    def drop(self, n, store, name):
+        refused, places, at = self.kept(n, store, name)
+        if refused or at is None:
+            return refused or 21
+        places[at] = None
+        store[:] = store_of(n, places)
         return 0
 
     def apply(self, n, tables, batch, answers):
@@ -338,10 +437,13 @@ def fold_all(h, numbers):
     return h
 
 
+def halves(words):
+    return [x for w in words for x in (w % 2 ** 32, w >> 32)]
+
+
 def fold_tables(h, tables):
     edges, nodes, keys = tables
-    halves = [x for w in edges for x in (w % 2 ** 32, w >> 32)]
-    return fold_all(h, halves + nodes + keys)
+    return fold_all(h, halves(edges) + nodes + keys)
 
 
 def codes(answers):
@@ -413,17 +515,50 @@ class Script:
         if text.startswith('#'):
             self.out.write(text)
         elif words:
-            getattr(self, words[0])(*[int(w) if w.isdigit() else w for w in words[1:]])
+            about = 'store_' if words[0][0].isupper() else ''
+            getattr(self, about + words[0].lower())(*[int(w) if w.isdigit() else w for w in words[1:]])
 
 
 class IndexScript(Script):
     def __init__(self, out):
         super().__init__(out)
         self.batch = []
+        self.store = [7] * (store_words(MOST_NODES) + 8)
+        self.room = [0, 0]
+
+    def size(self, n):
+        super().size(n)
+        self.room = [store_words(n), NAME_BYTES]
+
+    def on_store(self, word, call, *args):
+        """A call on the lent parts of the tables and of the store."""
+        store = self.store[:self.room[0]]
+        result, parts = self.on_tables(call, store, *args)
+        self.store[:len(store)] = store
+        self.say(word, result, 'tables', fold_tables(0, parts), 'store', fold_all(0, halves(store)))
+
+    def name(self, k):
+        """The lent part of the name that a number stands for."""
+        return bytes([k % 10] * 8 + [k // 10] * 16)[:self.room[1]]
 
     def open(self):
-        result, parts = self.on_tables(self.calls.open)
-        self.say('open', result, 'tables', fold_tables(0, parts))
+        self.on_store('open', self.calls.open)
+
+    def store_keep(self, k):
+        self.on_store('keep', self.calls.keep, self.name(k))
+
+    def store_restore(self, k):
+        self.on_store('restore', self.calls.restore, self.name(k))
+
+    def store_drop(self, k):
+        self.on_store('drop', lambda n, tables, *rest: self.calls.drop(n, *rest), self.name(k))
+
+    def store_lend(self, store, name):
+        self.room = [store, name]
+
+    def store_poke(self, i, x):
+        if i < min(self.room[0], len(self.store)):
+            self.store[i] = x
 
     def update(self, kind, u, v):
         self.batch += [kind, u, v]

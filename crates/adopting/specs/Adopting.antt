@@ -2,13 +2,15 @@
 use mathlib.Core.Path.{_≡_}
 use mathlib.Core.Bool.{Bool, true, false, _&&_, cond}
 use mathlib.Core.List.{List}
-use Prim.Native.Nat.{ℕ, zero, suc, _+_, _*_, _≤_, _<_}
+use Prim.Native.Nat.{ℕ, _≤_, _<_}
 use lib.Dec.{eqb, ltb}
 use lib.ListN.{length, getD}
-use Rattle.model.specs.Graph.{Graph, Proper, rowWords}
+use Rattle.model.specs.Lists.{all}
+use Rattle.model.specs.Graph.{Graph, Proper}
 use Rattle.model.specs.Grouping.{least, similar}
 use Rattle.model.specs.Release.{isVisible, visible}
-use Rattle.search.specs.Search.{Within, edgesIn, graphIn, graphWith}
+use Rattle.model.specs.Tables.{edgesIn, graphIn, graphWith}
+use Rattle.search.specs.Search.{Within, rowIn}
 use Rattle.rows.specs.Rows.{leads, noNode}
 
 -- the graph of an edge table, in which nodes without a first member are hidden
@@ -23,13 +25,9 @@ pub record VisibleTold (n : ℕ) (edges first : List ℕ) : Type 0 where
   pub told : (p : ℕ) → isVisible (hiding n edges first) p ≡ true → getD first p 0 ≡ least (visible (hiding n edges first) .nodes) (similar (visible (hiding n edges first))) p
   pub none : (p q : ℕ) → p < n → getD first p 0 ≡ noNode → edgesIn n edges p q ≡ false
 
--- the first w words of p's row are empty; all are
-unfoldable pub emptyTo : List ℕ → ℕ → ℕ → Bool
-emptyTo edges p zero = true
-emptyTo edges p (suc w) = emptyTo edges p w && eqb (getD edges (rowWords * p + w) 0) 0
-
-abbrev pub emptyRow : List ℕ → ℕ → Bool
-emptyRow edges p = emptyTo edges p rowWords
+-- all words of p's row are 0
+unfoldable pub emptyRow : List ℕ → ℕ → Bool
+emptyRow edges p = all (rowIn edges p) (λ x. ltb x 1)
 
 -- p has no first member; p is a first member without edges
 unfoldable pub isHidden : List ℕ → ℕ → Bool

@@ -1,17 +1,17 @@
 -- Hidden nodes, which have no edges, share the group of the nodes without edges; the others' groups are those of the visible nodes.
 use mathlib.Core.Path.{_≡_, refl, sym, ap, _∙_}
 use mathlib.Core.Bool.{Bool, true, false, not, cond, _&&_, and-false}
-use mathlib.Core.List.{List}
+use mathlib.Core.List.{List, [], _∷_}
 use mathlib.Core.Logic.{_⊎_, inl, inr}
 use Prim.Native.Nat.{ℕ, zero, suc, _+_, _*_, _/_, _%_, _≤_, _<_}
 use native.Mathlib.Omega.{arith}
 use lib.Dec.{eqb, ltb}
-use lib.ListN.{getD}
+use lib.ListN.{drop, getD, length, length-take}
 use borrow.Author.Tests.{eqb-false, eqb-true, eq-eqb, lt-ltb, ltb-false, ltb-true, ne-eqb, not-true}
-use Rattle.model.specs.Lists.{_∈_, nodes}
+use Rattle.model.specs.Lists.{_∈_, all, nodes}
 use Rattle.model.specs.Graph.{Graph, Proper, whole}
 use Rattle.model.specs.Grouping.{least, similar}
-use Rattle.model.specs.Tables.{bitAt, edgeBit, word}
+use Rattle.model.specs.Tables.{bitAt, edgeBit, word, edgesIn, graphIn}
 use Rattle.model.specs.Release.{isVisible, visible}
 use Rattle.model.specs.TestLaws.{and-fst, and-snd, and-true, decide, differ}
 use Rattle.model.specs.ListLaws.{Ascending}
@@ -22,35 +22,34 @@ use Rattle.model.specs.HiddenLaws.{isolated-similar, least-isolated, least-visi
 use Rattle.rows.specs.Rows.{leads}
 use Rattle.rows.specs.BitLaws.{bit-zero, word-cong}
 use Rattle.rows.specs.EdgeLaws.{edges-at}
-use Rattle.search.specs.Search.{Within, edgesIn, graphIn}
+use Rattle.search.specs.Search.{Within, rowIn}
+use Rattle.search.specs.SearchLaws.{row-word}
 use Rattle.keys.specs.KeySums.{LeastTold}
-use Rattle.adopting.specs.Adopting.{First, NumbersRenamed, VisibleTold, emptyTo, hiding, isHidden, isIsolated}
+use Rattle.adopting.specs.Adopting.{First, NumbersRenamed, VisibleTold, emptyRow, hiding, isHidden, isIsolated}
 use Rattle.adopting.specs.LoopLaws.{hidden-here}
+
+-- words that are all 0
+zeros-at : (s : List ℕ) → all s (λ x. ltb x 1) ≡ true → (k : ℕ) → getD s k 0 ≡ 0
+unfolding all
+zeros-at [] h k = refl
+zeros-at (x ∷ xs) h zero = omega (arith, ltb-true x 1 (and-fst (ltb x 1) _ h))
+zeros-at (x ∷ xs) h (suc k) = zeros-at xs (and-snd (ltb x 1) _ h) k
+
+zeros-all : (s : List ℕ) → ((k : ℕ) → k < length s → getD s k 0 ≡ 0) → all s (λ x. ltb x 1) ≡ true
+unfolding all
+zeros-all [] h = refl
+zeros-all (x ∷ xs) h = and-true (lt-ltb x 1 (omega (arith, h 0 (omega arith)))) (zeros-all xs (λ k l. h (suc k) (omega arith)))
 
 -- an empty row is that of a node without edges
 module _ {n : ℕ} {edges : List ℕ} (in-table : Within n edges) where
-  empty-words : (p w : ℕ) → emptyTo edges p w ≡ true → (k : ℕ) → k < w → getD edges (8 * p + k) 0 ≡ 0
-  unfolding emptyTo
-  empty-words p zero h k l = absurd (omega arith)
-  empty-words p (suc w) h k l = step (decide (eqb k w)) (empty-words p w (and-fst (emptyTo edges p w) (eqb (getD edges (8 * p + w) 0) 0) h) k)
-    where
-      step : (eqb k w ≡ true) ⊎ (eqb k w ≡ false) → (k < w → getD edges (8 * p + k) 0 ≡ 0) → getD edges (8 * p + k) 0 ≡ 0
-      step (inl e) below = rw (eqb-true k w e) (eqb-true (getD edges (8 * p + w) 0) 0 (and-snd (emptyTo edges p w) (eqb (getD edges (8 * p + w) 0) 0) h))
-      step (inr e) below = let d : k ≡ w → ⊥ = eqb-false k w e in below (omega arith)
-
-  words-empty : (p w : ℕ) → ((k : ℕ) → k < w → getD edges (8 * p + k) 0 ≡ 0) → emptyTo edges p w ≡ true
-  unfolding emptyTo
-  words-empty p zero h = refl
-  words-empty p (suc w) h = and-true (words-empty p w (λ k l. h k (omega arith))) (eq-eqb (getD edges (8 * p + w) 0) 0 (h w (omega arith)))
-
-  pub empty-isolated : (p : ℕ) → emptyTo edges p 8 ≡ true → (q : ℕ) → edgesIn n edges p q ≡ false
-  unfolding edgesIn edgeBit
+  pub empty-isolated : (p : ℕ) → emptyRow edges p ≡ true → (q : ℕ) → edgesIn n edges p q ≡ false
+  unfolding edgesIn edgeBit emptyRow
   empty-isolated p h q = step (decide (ltb q n))
     where
       step : (ltb q n ≡ true) ⊎ (ltb q n ≡ false) → (ltb p n && (ltb q n && bitAt (getD edges (8 * p + q / 64) 0) (q % 64))) ≡ false
       step (inl t) =
           let l : q < n = ltb-true q n t in
-          rw (empty-words p 8 h (q / 64) (omega (arith, in-table .small)), bit-zero (q % 64), t) (and-false (ltb p n))
+          rw (sym (row-word edges p (q / 64) (omega (arith, in-table .small))) ∙ zeros-at (rowIn edges p) h (q / 64), bit-zero (q % 64), t) (and-false (ltb p n))
       step (inr t) = rw t (and-false (ltb p n))
 
   no-word : (k : ℕ) → word k (λ i. false) ≡ 0
@@ -58,8 +57,9 @@ module _ {n : ℕ} {edges : List ℕ} (in-table : Within n edges) where
   no-word zero = refl
   no-word (suc k) = rw (no-word k)
 
-  pub isolated-empty : (p : ℕ) → p < n → ((q : ℕ) → edgesIn n edges p q ≡ false) → emptyTo edges p 8 ≡ true
-  isolated-empty p l h = words-empty p 8 (λ k b. ap (λ (t : List ℕ). getD t (8 * p + k) 0) (in-table .edges-of) ∙ edges-at (graphIn n edges) p k l b ∙ word-cong 64 (λ i. edgesIn n edges p (64 * k + i)) (λ i. false) (λ j m. h (64 * k + j)) ∙ no-word 64)
+  pub isolated-empty : (p : ℕ) → p < n → ((q : ℕ) → edgesIn n edges p q ≡ false) → emptyRow edges p ≡ true
+  unfolding emptyRow
+  isolated-empty p l h = zeros-all (rowIn edges p) (λ k m. let b : k < 8 = omega (arith, length-take 8 (drop (8 * p) edges)) in row-word edges p k b ∙ ap (λ (t : List ℕ). getD t (8 * p + k) 0) (in-table .edges-of) ∙ edges-at (graphIn n edges) p k l b ∙ word-cong 64 (λ i. edgesIn n edges p (64 * k + i)) (λ i. false) (λ j m. h (64 * k + j)) ∙ no-word 64)
 
 -- the groups of all nodes
 module _ {n : ℕ} {edges first : List ℕ} (a : VisibleTold n edges first) where
@@ -146,7 +146,7 @@ module _ {n : ℕ} {edges first : List ℕ} (a : VisibleTold n edges first) wher
     unfolding isIsolated leads
     i-here l =
         let t = fi .hit (λ z. omega (arith, a .within .small)) .1 in
-        (eqb-true (getD first i 0) i (and-fst (eqb (getD first i 0) i) (emptyTo edges i 8) t), empty-isolated (a .within) i (and-snd (eqb (getD first i 0) i) (emptyTo edges i 8) t))
+        (eqb-true (getD first i 0) i (and-fst (eqb (getD first i 0) i) (emptyRow edges i) t), empty-isolated (a .within) i (and-snd (eqb (getD first i 0) i) (emptyRow edges i) t))
 
     -- what is told of a visible node: a visible one of its group
     module _ (p : ℕ) (v : isVisible (hiding n edges first) p ≡ true) where
@@ -201,7 +201,7 @@ module _ {n : ℕ} {edges first : List ℕ} (a : VisibleTold n edges first) wher
         below k l t (inr z) = omega (arith, ltb-false k i z)
 
     -- a node with an edge
-    pub edge-first : (p : ℕ) → p < n → emptyTo edges p 8 ≡ false → (getD first p 0 ≡ least (nodes n) (similar (whole (graphIn n edges))) p) × (getD first p 0 ≡ 65535 → ⊥) × (getD first p 0 ≡ i → ⊥)
+    pub edge-first : (p : ℕ) → p < n → emptyRow edges p ≡ false → (getD first p 0 ≡ least (nodes n) (similar (whole (graphIn n edges))) p) × (getD first p 0 ≡ 65535 → ⊥) × (getD first p 0 ≡ i → ⊥)
     edge-first p l e = (told-all p v group-seen, shown p v .1, apart)
       where
         clash : {X : Type 0} → ((x : ℕ) → edgesIn n edges p x ≡ false) → X
@@ -221,7 +221,7 @@ module _ {n : ℕ} {edges first : List ℕ} (a : VisibleTold n edges first) wher
 
     -- a node without edges, where k is the lesser of h and i
     module _ (k : ℕ) (lk : k < n) (bk : (x : ℕ) → edgesIn n edges k x ≡ false) (kh : k ≤ h) (ki : i < n → k ≤ i) where
-      pub isolated-least : (p : ℕ) → p < n → emptyTo edges p 8 ≡ true → k ≡ least (nodes n) (similar (whole (graphIn n edges))) p
+      pub isolated-least : (p : ℕ) → p < n → emptyRow edges p ≡ true → k ≡ least (nodes n) (similar (whole (graphIn n edges))) p
       isolated-least p l e = unfold hiding in least-isolated g proper-hiding p k l (empty-isolated (a .within) p e) lk bk low
         where
           low : (q : ℕ) → q < n → ((x : ℕ) → edgesIn n edges q x ≡ false) → k ≤ q
@@ -234,12 +234,12 @@ module _ {n : ℕ} {edges first : List ℕ} (a : VisibleTold n edges first) wher
               step (inr v) = omega (arith, hidden-below q y (hidden-first q y v))
 
     pub told-low : {after : List ℕ} → i < h → NumbersRenamed n 65535 i first after → LeastTold n edges after
-    told-low {after} b t = record { size = omega (arith, a .size, t .size); told = λ p l. t .names p l ∙ at p l (decide (emptyTo edges p 8)) (decide (eqb (getD first p 0) 65535)) }
+    told-low {after} b t = record { size = omega (arith, a .size, t .size); told = λ p l. t .names p l ∙ at p l (decide (emptyRow edges p)) (decide (eqb (getD first p 0) 65535)) }
       where
         li : i < n
         li = omega (arith, h-here .0)
 
-        at : (p : ℕ) → p < n → (emptyTo edges p 8 ≡ true) ⊎ (emptyTo edges p 8 ≡ false) → (eqb (getD first p 0) 65535 ≡ true) ⊎ (eqb (getD first p 0) 65535 ≡ false)
+        at : (p : ℕ) → p < n → (emptyRow edges p ≡ true) ⊎ (emptyRow edges p ≡ false) → (eqb (getD first p 0) 65535 ≡ true) ⊎ (eqb (getD first p 0) 65535 ≡ false)
             → cond (eqb (getD first p 0) 65535) i (getD first p 0) ≡ least (nodes n) (similar (whole (graphIn n edges))) p
         at p l (inl e) (inl z) = rw z (isolated-least i li (i-here li .1) (omega arith) (λ y. omega arith) p l e)
         at p l (inl e) (inr z) = rw z (isolated-first p (unhidden p l (eqb-false (getD first p 0) 65535 z)) (empty-isolated (a .within) p e) .0 ∙ isolated-least i li (i-here li .1) (omega arith) (λ y. omega arith) p l e)
@@ -249,17 +249,17 @@ module _ {n : ℕ} {edges first : List ℕ} (a : VisibleTold n edges first) wher
     pub told-high : {mid after : List ℕ} → h ≤ i → NumbersRenamed n 65535 h first mid → NumbersRenamed n i h mid after → LeastTold n edges after
     told-high {mid} {after} b t u = record {
       size = omega (arith, a .size, t .size, u .size);
-      told = λ p l. u .names p l ∙ ap (λ (x : ℕ). cond (eqb x i) h x) (t .names p l) ∙ at p l (decide (emptyTo edges p 8)) (decide (eqb (getD first p 0) 65535));
+      told = λ p l. u .names p l ∙ ap (λ (x : ℕ). cond (eqb x i) h x) (t .names p l) ∙ at p l (decide (emptyRow edges p)) (decide (eqb (getD first p 0) 65535));
     }
       where
-        low : (p : ℕ) → p < n → emptyTo edges p 8 ≡ true → h ≡ least (nodes n) (similar (whole (graphIn n edges))) p
+        low : (p : ℕ) → p < n → emptyRow edges p ≡ true → h ≡ least (nodes n) (similar (whole (graphIn n edges))) p
         low p l e = isolated-least h (h-here .0) (hidden-alone h (h-here .0) (h-here .1)) (omega arith) (λ y. b) p l e
 
         same : (x : Bool) → cond x h h ≡ h
         same true = refl
         same false = refl
 
-        at : (p : ℕ) → p < n → (emptyTo edges p 8 ≡ true) ⊎ (emptyTo edges p 8 ≡ false) → (eqb (getD first p 0) 65535 ≡ true) ⊎ (eqb (getD first p 0) 65535 ≡ false)
+        at : (p : ℕ) → p < n → (emptyRow edges p ≡ true) ⊎ (emptyRow edges p ≡ false) → (eqb (getD first p 0) 65535 ≡ true) ⊎ (eqb (getD first p 0) 65535 ≡ false)
             → cond (eqb (cond (eqb (getD first p 0) 65535) h (getD first p 0)) i) h (cond (eqb (getD first p 0) 65535) h (getD first p 0)) ≡ least (nodes n) (similar (whole (graphIn n edges))) p
         at p l (inl e) (inl z) = rw z (same (eqb h i) ∙ low p l e)
         at p l (inl e) (inr z) =

@@ -1,44 +1,25 @@
 -- What the loops come to: rows found empty, first numbers found, first members renamed.
 use mathlib.Core.Path.{_≡_, refl, sym, ap, _∙_}
-use mathlib.Core.Bool.{Bool, true, false, _&&_, cond}
+use mathlib.Core.Bool.{Bool, true, false, cond}
 use mathlib.Core.List.{List}
 use mathlib.Core.Logic.{_⊎_, inl, inr}
-use Prim.Native.Nat.{ℕ, _+_, _*_, _≤_, _<_}
-use native.Mathlib.Numerals.{add-one}
+use Prim.Native.Nat.{ℕ, _+_, _*_, _-_, _^_, _≤_, _<_}
 use native.Mathlib.Omega.{arith}
-use lib.Bits.{and-le-l, and-le-r, bitOr, or-add-and, or-zero-l}
-use lib.Dec.{eqb}
-use lib.ListN.{getD, length, length-set, set}
+use lib.Dec.{eqb, ltb}
+use lib.ListN.{drop, getD, length, length-set, set, take}
 use lib.Seq.{getD-set-other, getD-set-same}
 use borrow.Author.Tests.{eqb-false, eqb-true, eq-eqb, ne-eqb}
-use Rattle.model.specs.TestLaws.{and-fst, and-snd, decide, iff-eq}
+use Rattle.model.specs.Lists.{all}
+use Rattle.model.specs.TestLaws.{decide}
+use Rattle.buffers.specs.UnionLaws.{is-none}
 use Rattle.rows.specs.Rows.{leads}
-use Rattle.adopting.specs.Adopting.{First, NumbersRenamed, emptyTo, isHidden, isIsolated}
+use Rattle.search.specs.SearchLaws.{row-part}
+use Rattle.adopting.specs.Adopting.{First, NumbersRenamed, emptyRow, isHidden, isIsolated}
 
--- words of a row gathered
-or-zero : (a b : ℕ) → eqb (bitOr a b) 0 ≡ (eqb a 0 && eqb b 0)
-or-zero a b = iff-eq (eqb (bitOr a b) 0) (eqb a 0 && eqb b 0) there back
-  where
-    there : eqb (bitOr a b) 0 ≡ true → (eqb a 0 && eqb b 0) ≡ true
-    there h =
-        let z : bitOr a b ≡ 0 = eqb-true (bitOr a b) 0 h in
-        let x : a ≡ 0 = omega (arith, or-add-and a b, and-le-r a b) in
-        let y : b ≡ 0 = omega (arith, or-add-and a b, and-le-l a b) in
-        rw (eq-eqb a 0 x, eq-eqb b 0 y)
-
-    back : (eqb a 0 && eqb b 0) ≡ true → eqb (bitOr a b) 0 ≡ true
-    back h =
-        let x : a ≡ 0 = eqb-true a 0 (and-fst (eqb a 0) (eqb b 0) h) in
-        let y : b ≡ 0 = eqb-true b 0 (and-snd (eqb a 0) (eqb b 0) h) in
-        eq-eqb (bitOr a b) 0 (ap (λ (z : ℕ). bitOr z b) x ∙ or-zero-l b ∙ y)
-
-pub gather-none : (edges : List ℕ) (p : ℕ) → eqb 0 0 ≡ emptyTo edges p 0
-unfolding emptyTo
-gather-none edges p = refl
-
-pub gather-more : (edges : List ℕ) (p w any : ℕ) → eqb any 0 ≡ emptyTo edges p w → eqb (bitOr any (getD edges (8 * p + w) 0)) 0 ≡ emptyTo edges p (w + 1)
-unfolding emptyTo
-gather-more edges p w any h = rw (add-one w) (or-zero any (getD edges (8 * p + w) 0) ∙ ap (λ (b : Bool). b && eqb (getD edges (8 * p + w) 0) 0) h)
+-- the words of a row united
+pub empty-united : (edges : List ℕ) (p u : ℕ) → ((k : ℕ) → ltb u (2 ^ k) ≡ all (take (8 * p + 8 - 8 * p) (drop (8 * p) edges)) (λ x. ltb x (2 ^ k))) → eqb u 0 ≡ emptyRow edges p
+unfolding emptyRow
+empty-united edges p u h = is-none u ∙ h 0 ∙ ap (λ (s : List ℕ). all s (λ x. ltb x 1)) (row-part edges p)
 
 -- the first that passes
 pub first-is : {P : ℕ → Bool} {n p : ℕ} → p < n → ((k : ℕ) → k < p → P k ≡ false) → P p ≡ true → First P n p
@@ -60,7 +41,7 @@ module _ (edges first : List ℕ) (p : ℕ) where
   unfolding isIsolated leads
   isolated-not e h = rw (ne-eqb (getD first p 0) p (λ z. h (e ∙ z)))
 
-  pub isolated-if : {x : ℕ} {b : Bool} → x ≡ getD first p 0 → x ≡ p → b ≡ emptyTo edges p 8 → isIsolated edges first p ≡ b
+  pub isolated-if : {x : ℕ} {b : Bool} → x ≡ getD first p 0 → x ≡ p → b ≡ emptyRow edges p → isIsolated edges first p ≡ b
   unfolding isIsolated leads
   isolated-if e h z = rw (eq-eqb (getD first p 0) p (sym e ∙ h)) (sym z)
 

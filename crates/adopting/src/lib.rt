@@ -13,11 +13,7 @@ fn is_empty(edges: &[u64], p: usize) -> bool
     ensures { λ r. ⌜ r ≡ emptyRow (now (edges .entry)) p ⌝ }
 {
     let a = Graph::ROW_WORDS * p;
-    let mut any = 0u64;
-    for w in 0..Graph::ROW_WORDS {
-        any = any | edges[a + w];
-    }
-    any == 0
+    buffers::union_of(&edges[a..a + Graph::ROW_WORDS]) == 0
 }
 
 // The first member of the group without edges, NONE if there is none.

@@ -2,6 +2,10 @@ pub mod Scan
 pub mod ScanLaws
 pub mod AllLaws
 pub mod StoreLaws
+pub mod Filled
+pub mod FilledLaws
+pub mod Union
+pub mod UnionLaws
 pub mod Wrote
 pub mod WroteLaws
 pub mod WordBits

@@ -1,24 +1,65 @@
 // The calls for C and Rust: each does what the library's call does, and equals the model's call on every input.
 ghost use mathlib.Core.Path.{_≡_};
 ghost use mathlib.Core.Bool.{cond};
-ghost use Rattle.model.specs.Calls.{applyCall, fileDistanceCall, fileNeighboursCall, groupCall, neighboursCall, openCall, readCall, releaseCall, tiedCall};
+ghost use Rattle.model.specs.Calls.{applyCall, dropCall, fileDistanceCall, fileNeighboursCall, groupCall, keepCall, neighboursCall, openCall, readCall, releaseCall, restoreCall, tiedCall};
 ghost use Rattle.rows.specs.Rows.{lent};
+ghost use Rattle.tables.specs.Lent.{filled};
 ghost use Rattle.queries.specs.Query.{listed};
+ghost use Rattle.store.specs.Stored.{stored};
 ghost use Rattle.index.specs.Index.{applied, grouped, opened};
 ghost use Rattle.release.specs.Release.{measured};
 ghost use Rattle.capi.specs.Exported.{releasedWith};
 
-// A graph of n nodes without edges, none hidden.
+// A graph of n nodes without edges, none hidden, and a store without states.
 #[no_mangle]
 pub extern "C" fn tegmulos_open(
     n: usize,
     edges: &mut [u64],
     nodes: &mut [u16],
     keys: &mut [u32],
+    store: &mut [u64],
 ) -> u16
-    ensures { λ r. ⌜ opened r (lent (now (edges .exit)) (now (nodes .exit)) (now (keys .exit))) ≡ openCall n (lent (now (edges .entry)) (now (nodes .entry)) (now (keys .entry))) ⌝ }
+    ensures { λ r. ⌜ opened r (lent (now (edges .exit)) (now (nodes .exit)) (now (keys .exit))) (now (store .exit)) ≡ openCall n (lent (now (edges .entry)) (now (nodes .entry)) (now (keys .entry))) (now (store .entry)) ⌝ }
 {
-    index::open(n, edges, nodes, keys)
+    index::open(n, edges, nodes, keys, store)
+}
+
+// The graph kept under a name of sixteen bytes.
+#[no_mangle]
+pub extern "C" fn tegmulos_keep(
+    n: usize,
+    edges: &[u64],
+    nodes: &[u16],
+    keys: &[u32],
+    store: &mut [u64],
+    name: &[u8],
+) -> u16
+    ensures { λ r. ⌜ stored r (now (store .exit)) ≡ keepCall n (lent (now (edges .entry)) (now (nodes .entry)) (now (keys .entry))) (now (store .entry)) (now (name .entry)) ⌝ }
+{
+    store::keep(n, edges, nodes, keys, store, name)
+}
+
+// The tables of the graph kept under a name.
+#[no_mangle]
+pub extern "C" fn tegmulos_restore(
+    n: usize,
+    edges: &mut [u64],
+    nodes: &mut [u16],
+    keys: &mut [u32],
+    store: &[u64],
+    name: &[u8],
+) -> u16
+    ensures { λ r. ⌜ filled r (lent (now (edges .exit)) (now (nodes .exit)) (now (keys .exit))) ≡ restoreCall n (lent (now (edges .entry)) (now (nodes .entry)) (now (keys .entry))) (now (store .entry)) (now (name .entry)) ⌝ }
+{
+    store::restore(n, edges, nodes, keys, store, name)
+}
+
+// A name dropped, and its place cleared.
+#[no_mangle]
+pub extern "C" fn tegmulos_drop(n: usize, store: &mut [u64], name: &[u8]) -> u16
+    ensures { λ r. ⌜ stored r (now (store .exit)) ≡ dropCall n (now (store .entry)) (now (name .entry)) ⌝ }
+{
+    store::drop(n, store, name)
 }
 
 // A batch of updates, each with its answer.
@@ -133,7 +174,7 @@ pub extern "C" fn tegmulos_read(
     keys: &mut [u32],
     file: &[u8],
 ) -> u16
-    ensures { λ r. ⌜ opened r (lent (now (edges .exit)) (now (nodes .exit)) (now (keys .exit))) ≡ readCall n (lent (now (edges .entry)) (now (nodes .entry)) (now (keys .entry))) (now (file .entry)) ⌝ }
+    ensures { λ r. ⌜ filled r (lent (now (edges .exit)) (now (nodes .exit)) (now (keys .exit))) ≡ readCall n (lent (now (edges .entry)) (now (nodes .entry)) (now (keys .entry))) (now (file .entry)) ⌝ }
 {
     release::read(n, edges, nodes, keys, file)
 }

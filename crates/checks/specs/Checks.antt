@@ -6,21 +6,11 @@ use Prim.Native.Nat.{ℕ, _+_, _*_, _%_, _^_, _<_}
 use lib.Dec.{eqb, leb, ltb}
 use lib.ListN.{getD}
 use Rattle.model.specs.Lists.{all, nodes}
-use Rattle.model.specs.Graph.{maxNodes, rowWords, whole}
+use Rattle.model.specs.Graph.{rowWords, whole}
 use Rattle.model.specs.Grouping.{cube, openKey}
-use Rattle.model.specs.Tables.{edgeBit, nodeNumber}
-use Rattle.search.specs.Search.{firstFrom, joins, meets, rowIn, graphIn}
-
--- q is another node of the graph, and p's bit stands in q's row
-unfoldable pub mirrored : ℕ → List ℕ → ℕ → ℕ → Bool
-mirrored n edges p q = ltb q n && (not (eqb q p) && edgeBit edges q p)
-
--- node q's bit does not stand in p's row, or is mirrored
-unfoldable pub bitHolds : ℕ → List ℕ → ℕ → ℕ → Bool
-bitHolds n edges p q = not (edgeBit edges p q) || mirrored n edges p q
-
-unfoldable pub rowHolds : ℕ → List ℕ → ℕ → Bool
-rowHolds n edges p = all (nodes maxNodes) (bitHolds n edges p)
+use Rattle.model.specs.Tables.{edgeBit, nodeNumber, graphIn}
+use Rattle.search.specs.Search.{firstFrom, joins, meets, rowIn}
+use Rattle.edges.specs.Edges.{rowHolds}
 
 -- both keys of p are those of a row whose cubes add up to sum
 unfoldable pub agrees : List ℕ → ℕ → ℕ → Bool
@@ -32,10 +22,6 @@ keysHold n edges keys p = agrees keys p (openKey (whole (graphIn n edges)) p)
 
 unfoldable pub rowsHold : ℕ → List ℕ → List ℕ → Bool
 rowsHold n edges keys = all (nodes n) (λ p. rowHolds n edges p && keysHold n edges keys p)
-
--- no node has an edge to itself
-unfoldable pub loopless : ℕ → List ℕ → Bool
-loopless n edges = all (nodes n) (λ p. not (edgeBit edges p p))
 
 -- the keys of the nodes below p are right
 abbrev pub KeysBelow : ℕ → List ℕ → List ℕ → ℕ → Type 0

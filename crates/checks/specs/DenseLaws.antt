@@ -1,31 +1,28 @@
 -- Rows that are symmetric across the diagonal, without loops, pass the test of rows if their keys do; twins' keys tell of one another.
 use mathlib.Core.Path.{_≡_, refl, sym, ap, _∙_}
-use mathlib.Core.Bool.{Bool, true, false, not, _&&_, _||_, and-false}
+use mathlib.Core.Bool.{Bool, true, false, _&&_, and-false}
 use mathlib.Core.List.{List, []}
-use mathlib.Core.Logic.{_⊎_, inl, inr}
 use Prim.Native.Nat.{ℕ, _+_, _*_, _%_, _^_, _≤_, _<_}
 use native.Mathlib.Omega.{arith}
-use lib.Dec.{eqb, ltb}
 use lib.ListN.{length, getD}
-use borrow.Author.Tests.{eqb-true, ne-eqb, lt-ltb, ltb-true, ltb-false, not-true}
-use Rattle.model.specs.Lists.{nodes}
+use borrow.Author.Tests.{eqb-true}
 use Rattle.model.specs.Graph.{maxNodes, rowWords}
 use Rattle.model.specs.Grouping.{cube, openKey}
 use Rattle.model.specs.Tables.{edgeBit, graphOf, keysOf, nodeNumber}
-use Rattle.model.specs.TestLaws.{and-true, decide, differ, iff-eq}
-use Rattle.model.specs.ListLaws.{all-elim, all-intro, nodes-in, nodes-out}
+use Rattle.model.specs.TestLaws.{and-true, differ, fails}
 use Rattle.model.specs.TableLaws.{length-keys}
 use Rattle.rows.specs.Rows.{Words, lent, movedKey}
 use Rattle.search.specs.Search.{Ready, keyAgrees, meets, rowIn}
 use Rattle.search.specs.SearchLaws.{meets-words}
 use Rattle.search.specs.TwinRowLaws.{false-key, meet-false, meet-true, true-key}
-use Rattle.keys.specs.KeySums.{RowInside, rowCubes, rowKey, twinKey}
+use Rattle.keys.specs.KeySums.{rowCubes, rowKey, twinKey}
 use Rattle.keys.specs.FourLaws.{dense-key}
 use Rattle.symmetry.specs.Symmetry.{symmetric}
-use Rattle.symmetry.specs.BlockLaws.{all-symmetric, outside, symmetric-all}
-use Rattle.checks.specs.Checks.{KeysBelow, agrees, bitHolds, keysHold, loopless, mirrored, rowHolds, rowsHold, twinsHold}
+use Rattle.edges.specs.Edges.{RowsBelow, loopless, rowHolds}
+use Rattle.edges.specs.EdgesLaws.{row-inside, rows-symmetric, symmetric-rows}
+use Rattle.checks.specs.Checks.{KeysBelow, agrees, keysHold, rowsHold, twinsHold}
 use Rattle.buffers.specs.AllLaws.{all-fail, all-pass}
-use Rattle.checks.specs.HoldLaws.{closed-is, keys-told, mirror-back, no-loop, open-is, rows-ready, twin-low, twin-meets}
+use Rattle.checks.specs.HoldLaws.{closed-is, keys-told, open-is, rows-below, rows-ready, twin-low, twin-meets}
 
 -- the keys of one node
 module _ (n : ℕ) (edges keys : List ℕ) (p : ℕ) where
@@ -38,59 +35,21 @@ module _ (n : ℕ) (edges keys : List ℕ) (p : ℕ) where
   key-fails hp e = all-fail _ n p hp (rw e (and-false (rowHolds n edges p)))
 
 module _ (n : ℕ) (edges : List ℕ) (small : n ≤ maxNodes) (size : length edges ≡ rowWords * n) where
-  set-inside : (p q : ℕ) → edgeBit edges p q ≡ true → p < n
-  set-inside p q e = step (decide (ltb p n))
-    where
-      step : (ltb p n ≡ true) ⊎ (ltb p n ≡ false) → p < n
-      step (inl t) = ltb-true p n t
-      step (inr t) = differ e (outside n edges size p q (ltb-false p n t))
-
-  -- rows that pass are symmetric
-  pub asymmetric : (keys : List ℕ) → length keys ≡ 2 * n → Words edges → symmetric edges ≡ false → false ≡ rowsHold n edges keys
-  asymmetric keys size-k words e = step (decide (rowsHold n edges keys))
-    where
-      turn : rowsHold n edges keys ≡ true → (p q : ℕ) → q < 512 → edgeBit edges p q ≡ true → edgeBit edges q p ≡ true
-      turn h p q hq t = mirror-back n (lent edges [] keys) small size size-k words h p q (set-inside p q t) hq t
-
-      step : (rowsHold n edges keys ≡ true) ⊎ (rowsHold n edges keys ≡ false) → false ≡ rowsHold n edges keys
-      step (inl h) = differ (all-symmetric edges (λ p q hp hq. iff-eq (edgeBit edges p q) (edgeBit edges q p) (turn h p q hq) (turn h q p hp))) e
-      step (inr h) = sym h
-
-  -- and have no loops
-  pub looped : (keys : List ℕ) → length keys ≡ 2 * n → Words edges → loopless n edges ≡ false → false ≡ rowsHold n edges keys
-  unfolding loopless
-  looped keys size-k words e = step (decide (rowsHold n edges keys))
-    where
-      step : (rowsHold n edges keys ≡ true) ⊎ (rowsHold n edges keys ≡ false) → false ≡ rowsHold n edges keys
-      step (inl h) = differ (all-intro (nodes n) _ (λ p m. ap not (no-loop n (lent edges [] keys) small size size-k words h p (nodes-out n p m)))) e
-      step (inr h) = sym h
+  -- rows that pass are symmetric and have no loops
+  pub asymmetric : (keys : List ℕ) → (symmetric edges && loopless n edges) ≡ false → false ≡ rowsHold n edges keys
+  asymmetric keys e = sym (fails (rowsHold n edges keys) (λ h. differ (rows-symmetric n edges small size (rows-below n edges keys h)) e))
 
   -- symmetric rows without loops pass, if their keys do
   module _ (h : symmetric edges ≡ true) (free : loopless n edges ≡ true) where
-    turned : (p : ℕ) → p < n → (q : ℕ) → q < 512 → edgeBit edges p q ≡ true → edgeBit edges q p ≡ true
-    turned p hp q hq t = sym (symmetric-all edges h p q (omega arith) hq) ∙ t
-
-    no-edge : (p : ℕ) → p < n → edgeBit edges p p ≡ false
-    unfolding loopless
-    no-edge p hp = not-true (edgeBit edges p p) (all-elim (nodes n) (λ p. not (edgeBit edges p p)) free p (nodes-in n p hp))
-
-    row-symmetric : (p : ℕ) → p < n → rowHolds n edges p ≡ true
-    unfolding rowHolds bitHolds mirrored
-    row-symmetric p hp = all-intro (nodes 512) _ (λ q m. at q (nodes-out 512 q m) (decide (edgeBit edges p q)))
-      where
-        at : (q : ℕ) → q < 512 → (edgeBit edges p q ≡ true) ⊎ (edgeBit edges p q ≡ false) → (not (edgeBit edges p q) || (ltb q n && (not (eqb q p) && edgeBit edges q p))) ≡ true
-        at q hq (inl t) = rw t (and-true (lt-ltb q n (set-inside q p (turned p hp q hq t))) (and-true (ap not (ne-eqb q p (λ z. differ t (ap (edgeBit edges p) z ∙ no-edge p hp)))) (turned p hp q hq t)))
-        at q hq (inr t) = rw t
+    mirrored-rows : RowsBelow n edges n
+    mirrored-rows = symmetric-rows n edges small size h free
 
     pub keys-pass : (keys : List ℕ) (p : ℕ) → n ≤ p → KeysBelow n edges keys p → true ≡ rowsHold n edges keys
     unfolding rowsHold
-    keys-pass keys p l k = all-pass _ n n (omega arith) (λ q hq. and-true (row-symmetric q hq) (k q (omega arith)))
-
-    pub row-inside : (p : ℕ) → p < n → RowInside n edges p
-    row-inside p hp q hq t = set-inside q p (turned p hp q hq t)
+    keys-pass keys p l k = all-pass _ n n (omega arith) (λ q hq. and-true (mirrored-rows q hq) (k q (omega arith)))
 
     pub key-by-table : {s x : ℕ} (p : ℕ) → p < n → s ≡ rowCubes edges p 8 → x ≡ s % 2 ^ 32 → x ≡ rowKey n edges p
-    key-by-table p hp es ex = ex ∙ ap (λ (y : ℕ). y % 2 ^ 32) es ∙ dense-key edges p n small hp (row-inside p hp)
+    key-by-table p hp es ex = ex ∙ ap (λ (y : ℕ). y % 2 ^ 32) es ∙ dense-key edges p n small hp (row-inside n edges mirrored-rows p hp)
 
     -- twins, by the keys that the rows tell
     module _ (words : Words edges) where

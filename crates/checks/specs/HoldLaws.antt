@@ -1,5 +1,5 @@
 -- The parts of the test together are the model's `holds`.
-use mathlib.Core.Path.{_≡_, refl, sym, ap, _∙_, subst}
+use mathlib.Core.Path.{_≡_, sym, ap, _∙_, subst}
 use mathlib.Core.Bool.{Bool, true, false, not, _&&_, _||_, cond}
 use mathlib.Core.List.{List}
 use mathlib.Core.Logic.{_⊎_, inl, inr, ⊎-elim}
@@ -8,18 +8,17 @@ use native.Mathlib.Omega.{arith}
 use lib.Dec.{eqb, leb, ltb}
 use lib.ListN.{length, getD}
 use lib.Seq.{ext-getD}
-use borrow.Author.Tests.{eqb-true, eqb-false, eq-eqb, ne-eqb, le-leb, leb-true, lt-ltb, ltb-true, not-true}
+use borrow.Author.Tests.{eqb-true, eqb-false, eq-eqb, ne-eqb, le-leb, leb-true, lt-ltb, ltb-true}
 use Rattle.model.specs.Lists.{nodes, sameList}
 use Rattle.model.specs.Graph.{Graph, Proper, View, maxNodes, nodeNumbers, rowWords, whole}
 use Rattle.model.specs.Grouping.{cube, falseTwins, openKey, similar, trueTwins}
-use Rattle.model.specs.Tables.{Tables, edgeBit, edgesOf, graphOf, holds, keysOf, nodeNumber, nodesOf, simple, tablesOf}
-use Rattle.model.specs.TestLaws.{and-fst, and-snd, and-true, decide, differ, eq-beq, iff-eq, or-cases, or-left, or-right}
-use Rattle.model.specs.ListLaws.{all-elim, all-intro, nodes-in, nodes-out, same-refl}
+use Rattle.model.specs.Tables.{Tables, edgeBit, edgesOf, graphOf, holds, keysOf, nodeNumber, nodesOf, simple, tablesOf, edgesIn, graphIn}
+use Rattle.model.specs.TestLaws.{and-fst, and-snd, and-true, decide, differ, iff-eq, or-cases, or-left, or-right}
+use Rattle.model.specs.ListLaws.{all-elim, all-intro, nodes-in, nodes-out, same-eq}
 use Rattle.model.specs.TwinLaws.{Simple, falseTwins-by, falseTwins-no-edge, similar-N, similar-N+, similar-cases, trueTwins-edge}
-use Rattle.model.specs.TableLaws.{edge-bit, held-proper, held-tables, length-keys, mark-at, proper-simple, simple-edge, simple-loop, simple-proper}
+use Rattle.model.specs.TableLaws.{held-proper, held-tables, length-keys, mark-at, proper-simple, simple-proper}
 use Rattle.rows.specs.Rows.{Words, keyOf}
-use Rattle.search.specs.Search.{Ready, edgesIn, firstFrom, joins, meets, rowIn, graphIn}
-use Rattle.rows.specs.EdgeLaws.{edges-by-bits}
+use Rattle.search.specs.Search.{Ready, firstFrom, joins, meets, rowIn}
 use Rattle.rows.specs.KeyLaws.{keys-at}
 use Rattle.search.specs.SearchLaws.{first-none, meets-by, meets-words, ready}
 use Rattle.search.specs.TwinRowLaws.{false-meet, meet-false, meet-true, true-meet}
@@ -28,12 +27,9 @@ use Rattle.rings.specs.Steps.{Follows}
 use Rattle.rings.specs.NodesLaws.{graph-parts, is-nodes, mark-read, of-nodes}
 use Rattle.rings.specs.CertificateLaws.{LedByClass, certified, led, ringed}
 use Rattle.groups.specs.GroupLaws.{first-cases}
-use Rattle.checks.specs.Checks.{agrees, alone, bitHolds, keysHold, leadersApart, linkHolds, mirrored, nodeHolds, nodesHold, rowHolds, rowsHold, twinOf, twinsHold}
-
-both-false : (a b : Bool) {c : Bool} → c ≡ false → (a && (b && c)) ≡ false
-both-false true true e = e
-both-false true false e = refl
-both-false false b e = refl
+use Rattle.edges.specs.Edges.{RowsBelow, edgesHold, rowHolds}
+use Rattle.edges.specs.EdgesLaws.{held-below, held-with, rows-held, same-of}
+use Rattle.checks.specs.Checks.{KeysBelow, agrees, alone, keysHold, leadersApart, linkHolds, nodeHolds, nodesHold, rowsHold, twinOf, twinsHold}
 
 -- keys that pass
 module _ (n : ℕ) (edges keys : List ℕ) (p : ℕ) (h : keysHold n edges keys p ≡ true) where
@@ -48,70 +44,45 @@ module _ (n : ℕ) (edges keys : List ℕ) (p : ℕ) (h : keysHold n edges keys 
   unfolding keysHold agrees
   closed-is = eqb-true _ _ (and-snd (eqb (getD keys (2 * p) 0) own) _ h)
 
+-- rows that pass, each with its keys
+module _ (n : ℕ) (edges keys : List ℕ) (h : rowsHold n edges keys ≡ true) where
+  row : (p : ℕ) → p < n → (rowHolds n edges p && keysHold n edges keys p) ≡ true
+  unfolding rowsHold
+  row p hp = all-elim (nodes n) (λ p. rowHolds n edges p && keysHold n edges keys p) h p (nodes-in n p hp)
+
+  pub rows-below : RowsBelow n edges n
+  rows-below p hp = and-fst (rowHolds n edges p) _ (row p hp)
+
+  keys-below : KeysBelow n edges keys n
+  keys-below p hp = and-snd (rowHolds n edges p) _ (row p hp)
+
 -- rows and keys that pass are those of the graph
 module _ (n : ℕ) (t : Tables) (small : n ≤ maxNodes) (size : length (t .edges) ≡ rowWords * n) (size-k : length (t .keys) ≡ 2 * n) (words : Words (t .edges)) where
   abbrev g : Graph
   g = graphOf n t
 
   module _ (h : rowsHold n (t .edges) (t .keys) ≡ true) where
-    row : (p : ℕ) → p < n → (rowHolds n (t .edges) p && keysHold n (t .edges) (t .keys) p) ≡ true
-    unfolding rowsHold
-    row p hp = all-elim (nodes n) (λ p. rowHolds n (t .edges) p && keysHold n (t .edges) (t .keys) p) h p (nodes-in n p hp)
-
-    mirror : (p q : ℕ) → p < n → q < 512 → edgeBit (t .edges) p q ≡ true → mirrored n (t .edges) p q ≡ true
-    unfolding rowHolds bitHolds
-    mirror p q hp hq e =
-        rw e at (all-elim (nodes 512) (λ q. not (edgeBit (t .edges) p q) || mirrored n (t .edges) p q) (and-fst (rowHolds n (t .edges) p) _ (row p hp)) q (nodes-in 512 q hq))
-
-    mirror-inside : (p q : ℕ) → p < n → q < 512 → edgeBit (t .edges) p q ≡ true → q < n
-    unfolding mirrored
-    mirror-inside p q hp hq e = ltb-true q n (and-fst (ltb q n) _ (mirror p q hp hq e))
-
-    pub mirror-back : (p q : ℕ) → p < n → q < 512 → edgeBit (t .edges) p q ≡ true → edgeBit (t .edges) q p ≡ true
-    unfolding mirrored
-    mirror-back p q hp hq e = and-snd (not (eqb q p)) _ (and-snd (ltb q n) _ (mirror p q hp hq e))
-
-    pub no-loop : (p : ℕ) → p < n → edgeBit (t .edges) p p ≡ false
-    unfolding mirrored
-    no-loop p hp = step (decide (edgeBit (t .edges) p p))
-      where
-        step : (edgeBit (t .edges) p p ≡ true) ⊎ (edgeBit (t .edges) p p ≡ false) → edgeBit (t .edges) p p ≡ false
-        step (inl e) = absurd (eqb-false p p (not-true (eqb p p) (and-fst (not (eqb p p)) _ (and-snd (ltb p n) _ (mirror p p hp (omega arith) e)))) refl)
-        step (inr e) = e
-
-    symmetric : (p q : ℕ) → p < n → q < n → (ltb p n && (ltb q n && edgeBit (t .edges) p q)) ≡ (ltb q n && (ltb p n && edgeBit (t .edges) q p))
-    symmetric p q hp hq = rw (lt-ltb p n hp, lt-ltb q n hq) (iff-eq (edgeBit (t .edges) p q) (edgeBit (t .edges) q p) (mirror-back p q hp (omega arith)) (mirror-back q p hq (omega arith)))
+    edges-pass : (simple (graphOf n t) && sameList (t .edges) (edgesOf (graphOf n t))) ≡ true
+    unfolding graphOf
+    edges-pass = sym (held-with n (t .edges) _) ∙ rows-held n (t .edges) small size words (rows-below n (t .edges) (t .keys) h)
 
     rows-simple : simple (graphOf n t) ≡ true
-    unfolding simple graphOf
-    rows-simple =
-        all-intro (nodes n) _
-        (λ p m. and-true (ap not (both-false (ltb p n) (ltb p n) (no-loop p (nodes-out n p m)))) (all-intro (nodes n) _ (λ q k. eq-beq _ _ (symmetric p q (nodes-out n p m) (nodes-out n q k)))))
+    rows-simple = and-fst (simple g) _ edges-pass
 
     rows-edges : t .edges ≡ edgesOf (graphOf n t)
-    rows-edges = edges-by-bits g (t .edges) (unfold graphOf in size) words (unfold graphOf in at)
-      where
-        at : (p q : ℕ) → p < n → q < 512 → edgeBit (t .edges) p q ≡ (ltb p n && (ltb q n && edgeBit (t .edges) p q))
-        at p q hp hq = step (decide (edgeBit (t .edges) p q))
-          where
-            step : (edgeBit (t .edges) p q ≡ true) ⊎ (edgeBit (t .edges) p q ≡ false) → edgeBit (t .edges) p q ≡ (ltb p n && (ltb q n && edgeBit (t .edges) p q))
-            step (inl e) = rw (lt-ltb p n hp, lt-ltb q n (mirror-inside p q hp hq e))
-            step (inr e) = e ∙ sym (both-false (ltb p n) (ltb q n) e)
+    rows-edges = same-eq (t .edges) (edgesOf g) (and-snd (simple g) _ edges-pass)
 
     rows-keys : t .keys ≡ keysOf (graphOf n t)
     unfolding graphOf openKey edgesIn
     rows-keys = ext-getD 0 (t .keys) (keysOf g) (size-k ∙ sym (length-keys g)) at
       where
-        both : (p : ℕ) → p < n → keysHold n (t .edges) (t .keys) p ≡ true
-        both p hp = and-snd (rowHolds n (t .edges) p) _ (row p hp)
-
         one : (p k : ℕ) → p < n → k < 2 → getD (t .keys) (2 * p + k) 0 ≡ keyOf (graphOf n t) p k
         one p zero hp hk =
-            let e : getD (t .keys) (2 * p) 0 ≡ openKey (whole (graphIn n (t .edges))) p = open-is n (t .edges) (t .keys) p (both p hp) in
+            let e : getD (t .keys) (2 * p) 0 ≡ openKey (whole (graphIn n (t .edges))) p = open-is n (t .edges) (t .keys) p (keys-below n (t .edges) (t .keys) h p hp) in
             let z : 2 * p + 0 ≡ 2 * p = omega arith in
             rw z (omega arith)
         one p (suc zero) hp hk =
-            let e : getD (t .keys) (2 * p + 1) 0 ≡ (openKey (whole (graphIn n (t .edges))) p + cube p) % 2 ^ 32 = closed-is n (t .edges) (t .keys) p (both p hp) in
+            let e : getD (t .keys) (2 * p + 1) 0 ≡ (openKey (whole (graphIn n (t .edges))) p + cube p) % 2 ^ 32 = closed-is n (t .edges) (t .keys) p (keys-below n (t .edges) (t .keys) h p hp) in
             omega arith
         one p (suc (suc k)) hp hk = absurd (omega arith)
 
@@ -121,6 +92,7 @@ module _ (n : ℕ) (t : Tables) (small : n ≤ maxNodes) (size : length (t .edge
             rw e (one (i / 2) (i % 2) (omega arith) (omega arith) ∙ sym (keys-at g (i / 2) (i % 2) (omega arith) (omega arith)))
 
     rows-proper : Proper (graphOf n t)
+    unfolding edgesIn
     rows-proper = simple-proper g rows-simple (unfold graphOf in small) ends held
       where
         ends : (p q : ℕ) → graphOf n t .edge p q ≡ true → (p < graphOf n t .nodeCount) × (q < graphOf n t .nodeCount)
@@ -146,27 +118,13 @@ module _ (n : ℕ) (t : Tables) (small : n ≤ maxNodes) (size : length (t .edge
         first = let z : 2 * p + 0 ≡ 2 * p = omega arith in ap (λ (i : ℕ). getD (t .keys) i 0) (sym z) ∙ one 0 (omega arith) ∙ omega arith
 
   module _ (ok : simple (graphOf n t) ≡ true) (same-edges : t .edges ≡ edgesOf (graphOf n t)) (same-keys : t .keys ≡ keysOf (graphOf n t)) where
-    bit-told : (p q : ℕ) → p < n → q < 512 → edgeBit (t .edges) p q ≡ true → mirrored n (t .edges) p q ≡ true
-    unfolding graphOf mirrored
-    bit-told p q hp hq e =
-        let f : (ltb p n && (ltb q n && edgeBit (t .edges) p q)) ≡ true = sym (ap (λ (s : List ℕ). edgeBit s p q) same-edges ∙ edge-bit (graphOf n t) p q hp hq) ∙ e in
-        let hq : q < n = ltb-true q n (and-fst (ltb q n) _ (and-snd (ltb p n) _ f)) in
-        and-true (lt-ltb q n hq) (and-true (ap not (ne-eqb q p (other hq f))) (and-snd (ltb p n) _ (and-snd (ltb q n) _ (sym (simple-edge (graphOf n t) ok p q hp hq) ∙ f))))
-      where
-        other : q < n → (ltb p n && (ltb q n && edgeBit (t .edges) p q)) ≡ true → q ≡ p → ⊥
-        other l f z = differ f (ap (λ (r : ℕ). graphOf n t .edge p r) z ∙ simple-loop (graphOf n t) ok p hp)
-
-    row-told : (p : ℕ) → p < n → rowHolds n (t .edges) p ≡ true
-    unfolding rowHolds bitHolds
-    row-told p hp = all-intro (nodes 512) _ (λ q m. at q (nodes-out 512 q m) (decide (edgeBit (t .edges) p q)))
-      where
-        at : (q : ℕ) → q < 512 → (edgeBit (t .edges) p q ≡ true) ⊎ (edgeBit (t .edges) p q ≡ false) → (not (edgeBit (t .edges) p q) || mirrored n (t .edges) p q) ≡ true
-        at q hq (inl e) = rw e (bit-told p q hp hq e)
-        at q hq (inr e) = rw e
+    edges-told : edgesHold n (t .edges) ≡ true
+    unfolding graphOf
+    edges-told = held-with n (t .edges) _ ∙ and-true ok (same-of same-edges)
 
     rows-told : rowsHold n (t .edges) (t .keys) ≡ true
     unfolding rowsHold
-    rows-told = all-intro (nodes n) _ (λ p m. and-true (row-told p (nodes-out n p m)) (keys-told same-keys p (nodes-out n p m)))
+    rows-told = all-intro (nodes n) _ (λ p m. and-true (held-below n (t .edges) edges-told p (nodes-out n p m)) (keys-told same-keys p (nodes-out n p m)))
 
 -- every node is a twin of its leader
 module _ (n : ℕ) (edges table : List ℕ) (twins : twinsHold n edges table ≡ true) where
@@ -321,9 +279,6 @@ module _ (n : ℕ) (table : List ℕ) where
       placed : (p : ℕ) → (nodeNumber table p 0 ≡ p) ⊎ (nodeNumber table p 2 < p) → (eqb (nodeNumber table p 0) p || ltb (nodeNumber table p 2) p) ≡ true
       placed p (inl z) = or-left (ltb (nodeNumber table p 2) p) (eq-eqb (nodeNumber table p 0) p z)
       placed p (inr z) = or-right (eqb (nodeNumber table p 0) p) (lt-ltb (nodeNumber table p 2) p z)
-
-same-of : {a b : List ℕ} → a ≡ b → sameList a b ≡ true
-same-of {a} {b} e = subst (λ x. sameList a x ≡ true) e (same-refl a)
 
 -- the whole
 module _ (n : ℕ) (t : Tables) (small : n ≤ maxNodes) (size : length (t .edges) ≡ rowWords * n) (size-n : length (t .nodes) ≡ nodeNumbers * n) (size-k : length (t .keys) ≡ 2 * n) (words : Words (t .edges)) where

@@ -12,10 +12,10 @@ use lib.Seq.{getD-set-same, getD-set-other}
 use borrow.Author.Tests.{eqb-true, eq-eqb}
 use Rattle.model.specs.Graph.{whole}
 use Rattle.model.specs.Grouping.{falseTwins, trueTwins}
-use Rattle.model.specs.Tables.{nodeNumber}
+use Rattle.model.specs.Tables.{nodeNumber, graphIn}
 use Rattle.model.specs.TestLaws.{and-fst, and-snd, decide}
 use Rattle.model.specs.TwinLaws.{similar-cases}
-use Rattle.search.specs.Search.{Ready, firstFrom, joins, keyAgrees, graphIn}
+use Rattle.search.specs.Search.{Ready, firstFrom, joins, keyAgrees}
 use Rattle.search.specs.SearchLaws.{first-none}
 use Rattle.search.specs.TwinRowLaws.{false-key, true-key}
 use Rattle.checks.specs.Checks.{alone}

@@ -6,22 +6,10 @@ ghost use lib.ListN.{length};
 ghost use Rattle.model.specs.Graph.{maxNodes, nodeNumbers, rowWords};
 ghost use Rattle.keys.specs.KeySums.{Widened, rowKey};
 ghost use Rattle.symmetry.specs.Symmetry.{symmetric};
-ghost use Rattle.checks.specs.Checks.{KeysBelow, loopless, rowsHold, twinsHold};
+ghost use Rattle.edges.specs.Edges.{loopless};
+ghost use Rattle.checks.specs.Checks.{KeysBelow, rowsHold, twinsHold};
 use groups::LEAST;
 use groups::number;
-
-// Whether no node has an edge to itself.
-fn is_loopless(edges: &[u64], n: usize) -> bool
-    requires { ⌜ (n ≤ maxNodes) × (length (now edges) ≡ rowWords * n) ⌝ }
-    ensures { λ r. ⌜ r ≡ loopless n (now (edges .entry)) ⌝ }
-{
-    for p in 0..n {
-        if rows::edge(edges, p, p) {
-            return false;
-        }
-    }
-    true
-}
 
 // The open key of p: by the keys of its leader, which are right, or by the table.
 fn open_key(edges: &[u64], nodes: &[u16], keys: &[u32], sums: &[u32], n: usize, p: usize) -> u32
@@ -84,10 +72,7 @@ pub fn rows_hold(edges: &[u64], nodes: &[u16], keys: &[u32], n: usize) -> bool
     requires { ⌜ (n ≤ maxNodes) × (length (now edges) ≡ rowWords * n) × (length (now nodes) ≡ nodeNumbers * n) × (length (now keys) ≡ 2 * n) × (twinsHold n (now edges) (now nodes) ≡ true) ⌝ }
     ensures { λ r. ⌜ r ≡ rowsHold n (now (edges .entry)) (now (keys .entry)) ⌝ }
 {
-    if !symmetry::is_symmetric(edges, n) {
-        return false;
-    }
-    if !is_loopless(edges, n) {
+    if !edges::hold_by_blocks(edges, n) {
         return false;
     }
     if n <= 64 {

@@ -7,6 +7,7 @@ ghost use Rattle.model.specs.Graph.{maxNodes, rowWords, nodeNumbers};
 ghost use Rattle.model.specs.Tables.{holds};
 ghost use Rattle.rows.specs.Rows.{lent};
 ghost use Rattle.search.specs.Search.{Ready};
+ghost use Rattle.edges.specs.Edges.{rowHolds};
 ghost use Rattle.checks.specs.Slots.{Seen, SlotsMarked, keySlot};
 ghost use Rattle.checks.specs.Checks.{
   agrees,
@@ -14,10 +15,8 @@ ghost use Rattle.checks.specs.Checks.{
   linkHolds,
   keysHold,
   leadersApart,
-  mirrored,
   nodeHolds,
   nodesHold,
-  rowHolds,
   rowsHold,
   twinOf,
   twinsHold,
@@ -31,20 +30,6 @@ use groups::NEXT;
 use groups::PREVIOUS;
 use groups::number;
 use rows::Graph;
-
-// Whether q is another node, with p's bit in its row.
-fn is_mirrored(edges: &[u64], n: usize, p: usize, q: usize) -> bool
-    requires { ⌜ (n ≤ maxNodes) × (length (now edges) ≡ rowWords * n) × (p < n) ⌝ }
-    ensures { λ r. ⌜ r ≡ mirrored n (now (edges .entry)) p q ⌝ }
-{
-    if q >= n {
-        return false;
-    }
-    if q == p {
-        return false;
-    }
-    rows::edge(edges, q, p)
-}
 
 // Whether the keys of p are those of a row whose cubes add up to sum.
 fn keys_agree(keys: &[u32], p: usize, sum: u32) -> bool
@@ -69,7 +54,7 @@ fn row_holds(edges: &[u64], keys: &[u32], n: usize, p: usize) -> bool
         let mut x = edges[a + w];
         while x != 0 {
             let q = 64 * w + rows::lowest(x);
-            if !is_mirrored(edges, n, p, q) {
+            if !edges::is_mirrored(edges, n, p, q) {
                 return false;
             }
             sum = std::num::wrapping_add_u32(sum, rows::cube_of(q));
@@ -93,22 +78,12 @@ fn sparse_rows_hold(edges: &[u64], keys: &[u32], n: usize) -> bool
     true
 }
 
-// Whether a walk over all bits would take longer than the way by blocks, told by a sample: of few nodes, every third. Either answer is right.
-fn is_dense(edges: &[u64], n: usize) -> bool
-    requires { ⌜ length (now edges) ≤ rowWords * maxNodes ⌝ }
-{
-    if n <= 64 {
-        return keys::bits_among(edges, 24) > 300;
-    }
-    keys::has_many_bits(edges)
-}
-
 // Whether edges and keys are those of a graph, where every node is a twin of its leader.
 fn rows_hold(edges: &[u64], nodes: &[u16], keys: &[u32], n: usize) -> bool
     requires { ⌜ (n ≤ maxNodes) × (length (now edges) ≡ rowWords * n) × (length (now nodes) ≡ nodeNumbers * n) × (length (now keys) ≡ 2 * n) × (twinsHold n (now edges) (now nodes) ≡ true) ⌝ }
     ensures { λ r. ⌜ r ≡ rowsHold n (now (edges .entry)) (now (keys .entry)) ⌝ }
 {
-    if is_dense(edges, n) {
+    if edges::is_dense(edges, n) {
         return dense::rows_hold(edges, nodes, keys, n);
     }
     sparse_rows_hold(edges, keys, n)

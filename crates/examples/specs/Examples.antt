@@ -1,5 +1,5 @@
--- Document 01's examples with a star, the examples of its table of refusals and the one of the program, and document 02's distances
--- and neighbours with their groups, as one list of equations: on the left what the definitions of `model` give, on the right what
+-- Document 01's examples with a star, the examples of its table of refusals and the one of the program, and document 02's distances,
+-- neighbours with their groups and named states, as one list of equations: on the left what the definitions of `model` give, on the right what
 -- the documents say.
 use mathlib.Core.Path.{_≡_}
 use mathlib.Core.Bool.{Bool, false, _&&_}
@@ -11,10 +11,11 @@ use lib.ListN.{length, getD, replicate}
 use Rattle.model.specs.Lists.{nodes}
 use Rattle.model.specs.Graph.{Graph, emptyGraph, nodeNumbers, rowWords, whole}
 use Rattle.model.specs.Grouping.{Kind, singleton, independent, clique, kindOf, similar}
-use Rattle.model.specs.Tables.{Tables, tablesOf, keysOf, nodesOf, groupsIn}
+use Rattle.model.specs.Tables.{Tables, edgesOf, tablesOf, keysOf, nodesOf, groupsIn}
+use Rattle.model.specs.Store.{kept, maxStates, nameBytes, storeOf, storeWords}
 use Rattle.model.specs.Updates.{Update, batchGraph, updateCount}
 use Rattle.model.specs.Release.{visibleEdge, visibleGroups, superedgeCount, release}
-use Rattle.model.specs.Calls.{openCall, applyCall, neighboursCall, tiedCall, groupCall, releaseCall, readCall, fileDistanceCall, fileNeighboursCall}
+use Rattle.model.specs.Calls.{openCall, keepCall, restoreCall, dropCall, applyCall, neighboursCall, tiedCall, groupCall, releaseCall, readCall, fileDistanceCall, fileNeighboursCall}
 use Rattle.model.specs.Program.{text, program}
 
 -- an equation between two of the things that the documents speak of: numbers of a file, a text or a buffer, a
@@ -100,12 +101,28 @@ openKeyIn g p = getD (keysOf g) (2 * p) 0
 abbrev closedKeyIn : Graph → ℕ → ℕ
 closedKeyIn g p = getD (keysOf g) (2 * p + 1) 0
 
--- tables as they may be lent for n nodes, and those of a new bundle
+-- tables and a store as they may be lent for n nodes, and those of a new bundle
 abbrev lent : ℕ → Tables
 lent n = record { edges = replicate (rowWords * n) 7; nodes = replicate (nodeNumbers * n) 7; keys = replicate (2 * n) 7 }
 
+abbrev lentStore : ℕ → List ℕ
+lentStore n = replicate (storeWords n) 7
+
 abbrev opened : ℕ → Tables
-opened n = openCall n (lent n) .tables
+opened n = openCall n (lent n) (lentStore n) .tables
+
+abbrev openedStore : ℕ → List ℕ
+openedStore n = openCall n (lent n) (lentStore n) .store
+
+-- a name of like bytes, and the store of one kept state and of eight
+abbrev name : ℕ → List ℕ
+name b = replicate nameBytes b
+
+unfoldable pub oneKept : List ℕ
+oneKept = keepCall 2 (tablesOf oneEdge) (openedStore 2) (name 255) .store
+
+unfoldable pub eightKept : List ℕ
+eightKept = storeOf 1 (map (λ b. kept (name b) (emptyGraph 1)) (nodes maxStates))
 
 -- the answers to a sheet, in a buffer of their number
 abbrev answersOn : ℕ → Tables → List ℕ → List ℤ
@@ -175,7 +192,7 @@ examples =
     ∷ number (length (visibleGroups equalKeys)) 5
     ∷ number (size equalKeys) 86
     -- number 11: n 513
-    ∷ number (openCall 513 (lent 513) .result) 11
+    ∷ number (openCall 513 (lent 513) (lentStore 513) .result) 11
     -- number 12: n 1, person 0 tied to 0
     ∷ number (applyCall 1 selfTied [] [] .result) 12
     ∷ number (neighboursCall 1 selfTied 0 (0 ∷ []) .result) 12
@@ -216,6 +233,22 @@ examples =
     ∷ list (fileNeighboursCall (release hidden3) 0 (replicate 5 9) .out) (4 ∷ 4 ∷ 5 ∷ 4 ∷ 9 ∷ [])
     ∷ number (fileNeighboursCall (release hidden3) 0 (replicate 4 9) .count) 2
     ∷ number (fileNeighboursCall (release hidden3) 0 (replicate 3 9) .result) 18
+    -- named states: a state is kept, comes back and is dropped
+    ∷ number (keepCall 2 (tablesOf oneEdge) (openedStore 2) (name 255) .result) 0
+    ∷ list (restoreCall 2 (opened 2) oneKept (name 255) .tables .edges) (edgesOf oneEdge)
+    ∷ list (restoreCall 2 (opened 2) oneKept (name 255) .tables .nodes) (nodesOf oneEdge)
+    ∷ list (dropCall 2 oneKept (name 255) .store) (openedStore 2)
+    -- number 11: a name of 15 bytes; number 12: a store filled with 7
+    ∷ number (keepCall 1 (opened 1) (openedStore 1) (replicate 15 0) .result) 11
+    ∷ number (keepCall 1 (opened 1) (lentStore 1) (name 0) .result) 12
+    ∷ number (restoreCall 1 (opened 1) (lentStore 1) (name 0) .result) 12
+    ∷ number (dropCall 1 (lentStore 1) (name 0) .result) 12
+    -- number 21: name not kept; number 22: already kept; number 23: eight names kept
+    ∷ number (restoreCall 2 (opened 2) oneKept (name 0) .result) 21
+    ∷ number (dropCall 2 oneKept (name 0) .result) 21
+    ∷ number (keepCall 2 (opened 2) oneKept (name 255) .result) 22
+    ∷ number (keepCall 1 (opened 1) eightKept (name 7) .result) 22
+    ∷ number (keepCall 1 (opened 1) eightKept (name 8) .result) 23
     -- the program
     ∷ list (program (text "3\nt 0 1\nt 1 2\nw 0\n")) (text "change 1: 1\nchange 2: 0\nchange 3: 0\nopen 2 groups 1 joins 0\nC 1 2\n")
     ∷ []

@@ -3,7 +3,7 @@ use mathlib.Core.Path.{_≡_, refl, sym, ap, ap₂, _∙_}
 use mathlib.Core.Bool.{Bool, true, false, xor, cond}
 use mathlib.Core.List.{List}
 use mathlib.Core.Logic.{_⊎_, inl, inr}
-use Prim.Native.Nat.{ℕ, zero, suc, _+_, _*_, _-_, _^_, _≤_, _<_}
+use Prim.Native.Nat.{ℕ, suc, _+_, _*_, _-_, _^_, _≤_, _<_}
 use native.Mathlib.Omega.{arith}
 use lib.Bits.{bitXor, xor-lt}
 use lib.Dec.{eqb, ltb}
@@ -13,6 +13,7 @@ use lib.Seq.{getD-set-other, getD-set-same}
 use borrow.Author.Tests.{eqb-false, eqb-true, eq-eqb, ltb-true, ltb-false, ne-eqb}
 use Rattle.model.specs.Tables.{bitAt}
 use Rattle.model.specs.TestLaws.{decide, differ}
+use Rattle.buffers.specs.FilledLaws.{getD-zeros}
 use Rattle.search.specs.Search.{ownBit, ownBits, rowIn}
 use Rattle.rows.specs.Rows.{Words}
 use Rattle.rows.specs.BitLaws.{bit-xor, bit-zero}
@@ -125,11 +126,6 @@ met-miss {slot} {leads} {twin} {u} {c} h e = record { hit = λ l. absurd (omega 
     step q hq hl hs (inr y) = y
 
 -- nothing in the chains
-getD-zeros : (k i : ℕ) → _≡_ {A = ℕ} (getD (replicate k 0) i 0) 0
-getD-zeros zero i = refl
-getD-zeros (suc k) zero = refl
-getD-zeros (suc k) (suc i) = getD-zeros k i
-
 pub links-none : Links 0 (replicate 1536 0)
 links-none = record { size = refl; below = λ s h. omega (arith, getD-zeros 1536 s); falls = λ c h. omega (arith, getD-zeros 1536 (1024 + c)) }
 

@@ -7,8 +7,8 @@ use lib.Bits.{bitXor}
 use lib.Dec.{eqb}
 use lib.ListN.{length, getD}
 use Rattle.model.specs.Graph.{maxNodes, rowWords}
+use Rattle.model.specs.Tables.{markedGraph}
 use Rattle.search.specs.Search.{ownBit}
-use Rattle.masking.specs.Masking.{markedGraph}
 use Rattle.grouping.specs.Least.{leading}
 
 -- word w of node p's row, of the open or of the closed one

@@ -12,7 +12,7 @@ use borrow.Author.Tests.{eqb-false, eqb-true, eq-eqb, lt-ltb, ltb-false, ltb-tru
 use Rattle.model.specs.Lists.{_∈_, nodes}
 use Rattle.model.specs.Graph.{Graph, View, whole}
 use Rattle.model.specs.Grouping.{closed, falseTwins, least, similar, trueTwins}
-use Rattle.model.specs.Tables.{edgeBit, keysOf}
+use Rattle.model.specs.Tables.{edgeBit, keysOf, edgesIn, graphIn, markedGraph}
 use Rattle.model.specs.Release.{isVisible, visible}
 use Rattle.model.specs.TestLaws.{decide, differ}
 use Rattle.model.specs.ListLaws.{Ascending}
@@ -23,10 +23,10 @@ use Rattle.model.specs.ReadBackLaws.{visible-inside}
 use Rattle.model.specs.HiddenLaws.{edge-seen, seen-equivalence, seen-in, seen-out, similar-seen}
 use Rattle.layout.specs.Truth.{Truth}
 use Rattle.rows.specs.Rows.{Words}
-use Rattle.search.specs.Search.{Ready, edgesIn, graphIn, meets, rowIn}
+use Rattle.search.specs.Search.{Ready, meets, rowIn}
 use Rattle.search.specs.SearchLaws.{meets-by, meets-words, within-length}
 use Rattle.search.specs.TwinRowLaws.{false-meet, meet-false, meet-true, true-meet, word-small}
-use Rattle.masking.specs.Masking.{Apart, markedGraph, shown}
+use Rattle.masking.specs.Masking.{Apart, shown}
 use Rattle.grouping.specs.Least.{leading, leastVisible}
 use Rattle.compressed.specs.Compressed.{alike}
 use Rattle.grouping.specs.Chains.{Entered, Links, Met, Sought, rowSlot}

@@ -14,12 +14,12 @@ use Rattle.model.specs.Grouping.{similar}
 use Rattle.model.specs.Tables.{Tables, edgesOf, graphOf, keysOf, nodeNumber, tablesOf}
 use Rattle.model.specs.Updates.{Update, answer, onEdge, refusal, updated, wanted}
 use Rattle.model.specs.TestLaws.{decide}
-use Rattle.model.specs.TableLaws.{length-edges, length-keys, length-nodes-of, read-back}
+use Rattle.model.specs.TableLaws.{edges-in, length-edges, length-keys, length-nodes-of, read-back}
 use Rattle.model.specs.BoundLaws.{withEdges}
 use Rattle.model.specs.UpdateLaws.{apart, proper-updated, u-inside, v-inside}
 use Rattle.rows.specs.Rows.{Changed, KeysChanged, lent}
 use Rattle.search.specs.Search.{Ready}
-use Rattle.search.specs.SearchLaws.{edges-in, ready}
+use Rattle.search.specs.SearchLaws.{ready}
 use Rattle.rows.specs.EdgeLaws.{edges-updated}
 use Rattle.rows.specs.KeyLaws.{keys-updated}
 use Rattle.rings.specs.Steps.{Back, OthersLeft, Sound, Taken}

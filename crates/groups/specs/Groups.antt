@@ -5,9 +5,8 @@ use mathlib.Core.List.{List}
 use Prim.Native.Nat.{ℕ}
 use Rattle.model.specs.Graph.{Proper, whole}
 use Rattle.model.specs.Grouping.{similar}
-use Rattle.model.specs.Tables.{Tables, graphOf, tablesOf}
+use Rattle.model.specs.Tables.{Tables, graphOf, tablesOf, graphIn}
 use Rattle.model.specs.Updates.{Update, refusal}
-use Rattle.search.specs.Search.{graphIn}
 
 -- who shares a group, by an edge table
 abbrev pub similarIn : ℕ → List ℕ → ℕ → ℕ → Bool

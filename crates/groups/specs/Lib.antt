@@ -1,3 +1,4 @@
 pub mod Groups
 pub mod GroupLaws
 pub mod ChangeLaws
+pub mod FillLaws

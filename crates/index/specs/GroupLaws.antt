@@ -11,7 +11,7 @@ use borrow.Author.Tests.{eqb-true, eqb-false, lt-ltb, le-leb, lt-leb}
 use Rattle.model.specs.Lists.{_∈_, filter, nodes}
 use Rattle.model.specs.Graph.{Graph, whole}
 use Rattle.model.specs.Grouping.{similar, group, least, adjacent, kindOf, isClique, clique, independent}
-use Rattle.model.specs.Tables.{Tables, edgeBit, nodeNumber, graphOf, groupIn, nodesOf, tablesOf}
+use Rattle.model.specs.Tables.{Tables, edgeBit, edgesIn, nodeNumber, graphOf, groupIn, nodesOf, tablesOf}
 use Rattle.model.specs.Queries.{leaderIn, kindNumber}
 use Rattle.model.specs.TestLaws.{decide}
 use Rattle.model.specs.ListLaws.{Ascending, filter-ascending, nodes-in, nodes-out, nodes-ascending}
@@ -143,7 +143,7 @@ module _ (n : ℕ) (t : Tables) (h : Held n t) (p : ℕ) (hp : p < n) where
       ordered = unfold groupIn group graphOf in filter-ascending _ vs asc
 
       bit : graphOf n t .edge l m ≡ edgeBit (t .edges) l m
-      bit = unfold graphOf in rw (lt-ltb l n l-below, lt-ltb m n m-below)
+      bit = unfold graphOf edgesIn in rw (lt-ltb l n l-below, lt-ltb m n m-below)
 
       small : eqb m l ≡ true → kindBy (t .edges) (t .nodes) l ≡ 0
       small x = unfold kindBy in rw x

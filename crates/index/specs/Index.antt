@@ -6,8 +6,8 @@ use lib.IntN.{ℤ}
 use Rattle.model.specs.Tables.{Tables}
 use Rattle.model.specs.Calls.{Opened, Applied, Tied, Grouped}
 
-abbrev pub opened : ℕ → Tables → Opened
-opened r t = record { result = r; tables = t }
+abbrev pub opened : ℕ → Tables → List ℕ → Opened
+opened r t s = record { result = r; tables = t; store = s }
 
 abbrev pub applied : ℕ → Tables → List ℤ → Applied
 applied r t out = record { result = r; tables = t; answers = out }

@@ -10,13 +10,14 @@ use lib.IntN.{ℤ}
 use lib.ListN.{length}
 use borrow.Author.Tests.{not-true, not-false, eq-eqb, ne-eqb, lt-ltb, le-ltb, ltb-false}
 use Rattle.model.specs.Graph.{emptyGraph, maxNodes, nodeNumbers, whole}
-use Rattle.model.specs.Tables.{Tables, tablesOf, graphOf, holds, edgeBit, nodeNumber, groupIn}
-use Rattle.model.specs.Refusals.{Reasons, firstOf, judged, lengths, wrongSize}
+use Rattle.model.specs.Tables.{Tables, tablesOf, graphOf, holds, edgeBit, edgesIn, nodeNumber, groupIn}
+use Rattle.model.specs.Store.{noStates, storeOf, wrongStore}
+use Rattle.model.specs.Refusals.{firstOf, lengths, wrongSize}
 use Rattle.model.specs.Updates.{updateCount, updateNumbers, wrongBatch}
 use Rattle.model.specs.Calls.{openReasons, openCall, applyReasons, applyRefused, applyCall, neighboursReasons, listRefused, neighboursCall, tiedReasons, tiedRefused, tiedCall, groupReasons, groupRefused, groupCall}
 use Rattle.model.specs.TestLaws.{or-none}
 use Rattle.model.specs.TableLaws.{edge-bit, held-tables, held-proper}
-use Rattle.model.specs.RefusalLaws.{first-none, judged-done, judged-refused}
+use Rattle.model.specs.RefusalLaws.{call-done, call-refused, first-none}
 use Rattle.index.specs.Index.{opened, applied, tiedOf, grouped}
 use Rattle.tables.specs.Lent.{tableReasons, Held}
 use Rattle.tables.specs.LentLaws.{sized, table-refused, table-rest, table-held, held-sized}
@@ -29,21 +30,20 @@ use Rattle.buffers.specs.Scan.{scan}
 use Rattle.model.specs.Grouping.{kindOf}
 use Rattle.model.specs.Queries.{neighbours, leaderIn, kindNumber}
 
--- 11: what `fits` says
-pub open-refused : (n : ℕ) (t : Tables) (f : Bool) → f ≡ not (wrongSize n (lengths t)) → f ≡ false → opened 11 t ≡ openCall n t
-unfolding openCall openReasons firstOf
-open-refused n t f e h = rw (not-false (wrongSize n (lengths t)) (sym e ∙ h))
+-- 11: what the two tests of sizes say
+module _ (n : ℕ) (t : Tables) (s : List ℕ) (f : Bool) (e : f ≡ not (wrongSize n (lengths t))) where
+  pub open-tables : f ≡ false → opened 11 t s ≡ openCall n t s
+  unfolding openCall openReasons firstOf
+  open-tables h = rw (not-false (wrongSize n (lengths t)) (sym e ∙ h))
 
-pub open-done : (n : ℕ) (t t₁ : Tables) (f : Bool) → f ≡ not (wrongSize n (lengths t)) → f ≡ true → t₁ ≡ tablesOf (emptyGraph n) → opened 0 t₁ ≡ openCall n t
-unfolding openCall openReasons firstOf
-open-done n t t₁ f e h k = rw (not-true (wrongSize n (lengths t)) (sym e ∙ h), k)
+  module _ (h : f ≡ true) (k : Bool) (d : k ≡ not (wrongStore n (length s))) where
+    pub open-store : k ≡ false → opened 11 t s ≡ openCall n t s
+    unfolding openCall openReasons firstOf
+    open-store l = rw (not-true (wrongSize n (lengths t)) (sym e ∙ h), not-false (wrongStore n (length s)) (sym d ∙ l))
 
--- refused by r, or done
-pub call-refused : {A : Type 0} (rs : Reasons) (refused : ℕ → A) (done : A) (r : ℕ) → firstOf rs ≡ r → r ≢ 0 → refused r ≡ judged rs refused done
-call-refused rs refused done r e d = ap refused (sym e) ∙ sym (judged-refused rs refused done (λ z. d (sym e ∙ z)))
-
-pub call-done : {A : Type 0} (rs : Reasons) (refused : ℕ → A) (done : A) → firstOf rs ≡ 0 → done ≡ judged rs refused done
-call-done rs refused done e = sym (judged-done rs refused done e)
+    pub open-done : k ≡ true → {t₁ : Tables} {s₁ : List ℕ} → t₁ ≡ tablesOf (emptyGraph n) → s₁ ≡ storeOf n noStates → opened 0 t₁ s₁ ≡ openCall n t s
+    unfolding openCall openReasons firstOf
+    open-done l a b = rw (not-true (wrongSize n (lengths t)) (sym e ∙ h), not-true (wrongStore n (length s)) (sym d ∙ l), a, b)
 
 -- apply: an ill-formed batch is 11 too
 module _ (n : ℕ) (t : Tables) (xs : List ℕ) (out : List ℤ) where
@@ -152,7 +152,7 @@ module _ (n : ℕ) (t : Tables) (p q r : ℕ) (e : r ≡ firstOf (tableReasons n
           none = table-rest n t r e z ((not (ltb p n) || not (ltb q n), 14) ∷ (eqb p q, 15) ∷ []) ∙ unfold firstOf in rw (lt-ltb p n h, lt-ltb q n k, ne-eqb p q d)
 
           bit : edgeBit (t .edges) p q ≡ graphOf n t .edge p q
-          bit = unfold graphOf in rw (lt-ltb p n h, lt-ltb q n k)
+          bit = unfold graphOf edgesIn in rw (lt-ltb p n h, lt-ltb q n k)
 
 -- group
 module _ (n : ℕ) (t : Tables) (p r : ℕ) (e : r ≡ firstOf (tableReasons n t [])) where

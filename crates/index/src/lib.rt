@@ -8,14 +8,24 @@ ghost use Rattle.index.specs.Index.{applied, grouped, opened, tiedOf};
 use queries::Listed;
 use rows::Graph;
 
-// A graph of n nodes without edges, none hidden. 0, or 11.
-pub fn open(n: usize, edges: &mut [u64], nodes: &mut [u16], keys: &mut [u32]) -> u16
-    ensures { λ r. ⌜ opened r (lent (now (edges .exit)) (now (nodes .exit)) (now (keys .exit))) ≡ openCall n (lent (now (edges .entry)) (now (nodes .entry)) (now (keys .entry))) ⌝ }
+// A graph of n nodes without edges, none hidden, and a store without states. 0, or 11.
+pub fn open(
+    n: usize,
+    edges: &mut [u64],
+    nodes: &mut [u16],
+    keys: &mut [u32],
+    store: &mut [u64],
+) -> u16
+    ensures { λ r. ⌜ opened r (lent (now (edges .exit)) (now (nodes .exit)) (now (keys .exit))) (now (store .exit)) ≡ openCall n (lent (now (edges .entry)) (now (nodes .entry)) (now (keys .entry))) (now (store .entry)) ⌝ }
 {
     if !tables::right_size(n, edges, nodes, keys) {
         return 11;
     }
+    if !places::right_size(n, store) {
+        return 11;
+    }
     opening::fill(Graph::empty(n), edges, nodes, keys);
+    places::empty(n, store);
     0
 }
 

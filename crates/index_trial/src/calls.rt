@@ -2,12 +2,43 @@
 use trial::digest::wide;
 use trial::say;
 use trial::script::small;
+use trial::script::small_byte;
 use trial::script::within;
 
-pub fn open(n: usize, edges: &mut [u64], nodes: &mut [u16], keys: &mut [u32]) {
-    let r = index::open(n, edges, nodes, keys);
-    say::field(b"open", wide(r));
-    say::tables(edges, nodes, keys);
+pub fn open(n: usize, edges: &mut [u64], nodes: &mut [u16], keys: &mut [u32], store: &mut [u64]) {
+    let r = index::open(n, edges, nodes, keys, store);
+    say::stored(b"open", r, edges, nodes, keys, store);
+}
+
+// The bytes of the name that k stands for.
+pub fn name_of(k: u64) -> [u8; 24] {
+    let mut name = [small_byte(k / 10); 24];
+    for i in 0..8 {
+        name[i] = small_byte(k % 10);
+    }
+    name
+}
+
+pub fn keep(n: usize, edges: &[u64], nodes: &[u16], keys: &[u32], store: &mut [u64], name: &[u8]) {
+    let r = store::keep(n, edges, nodes, keys, store, name);
+    say::stored(b"keep", r, edges, nodes, keys, store);
+}
+
+pub fn restore(
+    n: usize,
+    edges: &mut [u64],
+    nodes: &mut [u16],
+    keys: &mut [u32],
+    store: &[u64],
+    name: &[u8],
+) {
+    let r = store::restore(n, edges, nodes, keys, store, name);
+    say::stored(b"restore", r, edges, nodes, keys, store);
+}
+
+pub fn drop(n: usize, edges: &[u64], nodes: &[u16], keys: &[u32], store: &mut [u64], name: &[u8]) {
+    let r = store::drop(n, store, name);
+    say::stored(b"drop", r, edges, nodes, keys, store);
 }
 
 // The batch, into a buffer of answers filled with 4660.

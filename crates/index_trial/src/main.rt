@@ -20,7 +20,6 @@ fn call(
     batch: &[u16],
 ) {
     match command {
-        b'o' => calls::open(n, edges, nodes, keys),
         b'a' => calls::apply(n, edges, nodes, keys, batch, line[1], line[2]),
         b'w' => sweep::walk(n, edges, nodes, keys, line[1], line[2]),
         _ => return,
@@ -39,42 +38,72 @@ fn ask(command: u8, line: &[u64; 7], n: usize, edges: &[u64], nodes: &[u16], key
     }
 }
 
-// What a line does with the tables lent.
-fn on_tables(
+// Lines that call with the store, or change it behind the library's back.
+fn on_store(
     command: u8,
     line: &[u64; 7],
     n: usize,
     edges: &mut [u64],
     nodes: &mut [u16],
     keys: &mut [u32],
+    store: &mut [u64],
+    name: &[u8],
+) {
+    match command {
+        b'o' => calls::open(n, edges, nodes, keys, store),
+        b'K' => calls::keep(n, edges, nodes, keys, store, name),
+        b'R' => calls::restore(n, edges, nodes, keys, store, name),
+        b'D' => calls::drop(n, edges, nodes, keys, store, name),
+        b'P' => pokes::put_word(store, line[1], line[2]),
+        _ => return,
+    }
+}
+
+// What a line does with the tables and the store lent.
+fn on_lent(
+    command: u8,
+    line: &[u64; 7],
+    n: usize,
+    edges: &mut [u64],
+    nodes: &mut [u16],
+    keys: &mut [u32],
+    store: &mut [u64],
+    name: &[u8],
     batch: &[u16],
 ) {
+    on_store(command, line, n, edges, nodes, keys, store, name);
     call(command, line, n, edges, nodes, keys, batch);
     ask(command, line, n, edges, nodes, keys);
     pokes::execute(command, line, edges, nodes, keys);
 }
 
-// What a line does with the tables, of the lengths lent.
+// What a line does with the tables, the store and the name that its number stands for, of the lengths lent.
 fn lend(
     command: u8,
     line: &[u64; 7],
-    set: &[u64; 5],
+    set: &[u64; 7],
     edges: &mut [u64],
     nodes: &mut [u16],
     keys: &mut [u32],
+    store: &mut [u64],
     batch: &[u16],
 ) {
     let n = within(set[sizes::NODES], 65536);
     let a = within(set[sizes::EDGES_LENT], edges.len());
     let b = within(set[sizes::NODES_LENT], nodes.len());
     let c = within(set[sizes::KEYS_LENT], keys.len());
-    on_tables(
+    let d = within(set[sizes::STORE_LENT], store.len());
+    let name = calls::name_of(line[1]);
+    let e = within(set[sizes::NAME_LENT], 24);
+    on_lent(
         command,
         line,
         n,
         &mut edges[..a],
         &mut nodes[..b],
         &mut keys[..c],
+        &mut store[..d],
+        &name[..e],
         batch,
     );
 }
@@ -82,10 +111,11 @@ fn lend(
 // One line.
 fn execute(
     text: &[u8],
-    set: &mut [u64; 5],
+    set: &mut [u64; 7],
     edges: &mut [u64],
     nodes: &mut [u16],
     keys: &mut [u32],
+    store: &mut [u64],
     batch: &mut [u16],
 ) {
     let mut line = [0u64; 7];
@@ -94,35 +124,46 @@ fn execute(
     script::echo(command, text);
     sizes::execute(command, &line, set);
     let count = within(set[sizes::OWN], batch.len());
-    lend(command, &line, set, edges, nodes, keys, &batch[..count]);
+    lend(
+        command,
+        &line,
+        set,
+        edges,
+        nodes,
+        keys,
+        store,
+        &batch[..count],
+    );
     set[sizes::OWN] = batch::execute(command, &line, batch, count) as u64;
 }
 
 // Every line of the script.
 fn run(
     text: &[u8],
-    set: &mut [u64; 5],
+    set: &mut [u64; 7],
     edges: &mut [u64],
     nodes: &mut [u16],
     keys: &mut [u32],
+    store: &mut [u64],
     batch: &mut [u16],
 ) {
     let mut at = 0;
     while at < text.len() {
         let end = script::line_end(text, at);
-        execute(&text[at..end], set, edges, nodes, keys, batch);
+        execute(&text[at..end], set, edges, nodes, keys, store, batch);
         at = end;
     }
 }
 
-// The tables start filled with 7.
+// The tables and the store start filled with 7.
 fn main() {
     let mut text = io::large_buffer();
     let n = io::read_full(0, &mut text);
-    let mut set = [0u64; 5];
+    let mut set = [0u64; 7];
     let mut edges = [7u64; 4104];
     let mut nodes = [7u16; 2052];
     let mut keys = [7u32; 1026];
+    let mut store = [7u64; 36897];
     let mut batch = [0u16; 12300];
     run(
         &text[..n],
@@ -130,6 +171,7 @@ fn main() {
         &mut edges,
         &mut nodes,
         &mut keys,
+        &mut store,
         &mut batch,
     );
 }

@@ -12,12 +12,11 @@ use borrow.Author.Tests.{lt-ltb}
 use Rattle.model.specs.Lists.{filter, from, nodes}
 use Rattle.model.specs.Graph.{whole}
 use Rattle.model.specs.Grouping.{cube, openKey, sumCubes}
-use Rattle.model.specs.Tables.{bitAt, edgeBit}
+use Rattle.model.specs.Tables.{bitAt, edgeBit, edgesIn, graphIn}
 use Rattle.model.specs.TestLaws.{decide}
 use Rattle.model.specs.ListLaws.{from-out}
 use Rattle.buffers.specs.StoreLaws.{stored, stored-size}
 use Rattle.rows.specs.BitLaws.{word-bit}
-use Rattle.search.specs.Search.{edgesIn, graphIn}
 use Rattle.rows.specs.KeyLaws.{cube-le, cubes-cong, no-cubes}
 use Rattle.keys.specs.TotalLaws.{cubes-one, cubes-split}
 use Rattle.keys.specs.KeySums.{FoursFilled, Widened, eightCubes, fourCubes, rowCubes, wordCubes}

@@ -11,10 +11,10 @@ use lib.Seq.{ext-getD, getD-set-other, getD-set-same}
 use borrow.Author.Tests.{eqb-false, eqb-true}
 use Rattle.model.specs.Graph.{Graph, whole}
 use Rattle.model.specs.Grouping.{cube, openKey}
-use Rattle.model.specs.Tables.{keysOf}
+use Rattle.model.specs.Tables.{keysOf, graphIn}
 use Rattle.model.specs.TestLaws.{decide}
 use Rattle.model.specs.TableLaws.{length-keys}
-use Rattle.search.specs.Search.{Within, graphIn}
+use Rattle.search.specs.Search.{Within}
 use Rattle.search.specs.SearchLaws.{within-inside}
 use Rattle.rows.specs.KeyLaws.{keys-at}
 use Rattle.rows.specs.Rows.{keyOf}

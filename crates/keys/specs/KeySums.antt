@@ -7,9 +7,8 @@ use lib.ListN.{length, getD, set}
 use Rattle.model.specs.Lists.{nodes}
 use Rattle.model.specs.Graph.{Graph, maxNodes, rowWords, whole}
 use Rattle.model.specs.Grouping.{cube, least, openKey, similar}
-use Rattle.model.specs.Tables.{bitAt, edgeBit}
+use Rattle.model.specs.Tables.{bitAt, edgeBit, graphIn}
 use Rattle.rows.specs.Rows.{keyOf, movedKey}
-use Rattle.search.specs.Search.{graphIn}
 
 -- p's row has no bit for a number n or above
 abbrev pub RowInside : ℕ → List ℕ → ℕ → Type 0

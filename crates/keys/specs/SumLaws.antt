@@ -12,10 +12,9 @@ use borrow.Author.Tests.{lt-ltb}
 use Rattle.model.specs.Lists.{filter, nodes}
 use Rattle.model.specs.Graph.{whole}
 use Rattle.model.specs.Grouping.{cube, openKey, sumCubes}
-use Rattle.model.specs.Tables.{edgeBit}
+use Rattle.model.specs.Tables.{edgeBit, edgesIn, graphIn}
 use Rattle.model.specs.TestLaws.{differ}
 use Rattle.rows.specs.Rows.{Words}
-use Rattle.search.specs.Search.{edgesIn, graphIn}
 use Rattle.buffers.specs.WordBitsLaws.{cleared-less, lowest-small}
 use Rattle.keys.specs.Totals.{sumOf}
 use Rattle.keys.specs.TotalLaws.{total-cong, total-cubes, total-none, total-set}

@@ -10,7 +10,7 @@ use borrow.Author.Tests.{eqb-true, lt-ltb}
 use Rattle.model.specs.Lists.{filter, nodes}
 use Rattle.model.specs.Graph.{Proper, View, whole}
 use Rattle.model.specs.Grouping.{cube, falseTwins, least, openKey, similar, sumCubes, trueTwins}
-use Rattle.model.specs.Tables.{edgeBit, keysOf}
+use Rattle.model.specs.Tables.{edgeBit, keysOf, edgesIn, graphIn}
 use Rattle.model.specs.TestLaws.{differ}
 use Rattle.model.specs.ListLaws.{nodes-ascending, nodes-in}
 use Rattle.model.specs.TwinLaws.{Simple, falseTwins-no-edge, similar-cases, similar-refl, trueTwins-edge}
@@ -18,7 +18,7 @@ use Rattle.model.specs.ClassLaws.{Equivalence, least-le, least-rel}
 use Rattle.model.specs.SummaryLaws.{equivalence}
 use Rattle.model.specs.TableLaws.{proper-simple}
 use Rattle.rows.specs.Rows.{keyOf, movedKey}
-use Rattle.search.specs.Search.{Ready, Within, edgesIn, graphIn, keyAgrees}
+use Rattle.search.specs.Search.{Ready, Within, keyAgrees}
 use Rattle.rows.specs.KeyLaws.{keys-at, moved-out}
 use Rattle.search.specs.TwinRowLaws.{false-key, true-key}
 use Rattle.keys.specs.KeySums.{LeastTold, Summed, twinKey}

@@ -4,8 +4,8 @@ ghost use Prim.Native.Nat.{_+_, _*_, _/_, _%_, _^_, _≤_, _<_};
 ghost use lib.ListN.{length};
 ghost use Rattle.model.specs.Graph.{Proper, maxNodes, rowWords, whole};
 ghost use Rattle.model.specs.Grouping.{openKey};
-ghost use Rattle.model.specs.Tables.{keysOf};
-ghost use Rattle.search.specs.Search.{Within, graphIn};
+ghost use Rattle.model.specs.Tables.{keysOf, graphIn};
+ghost use Rattle.search.specs.Search.{Within};
 ghost use Rattle.keys.specs.KeySums.{
   FoursFilled,
   KeysPut,
@@ -255,12 +255,19 @@ fn sum_each(edges: &[u64], keys: &mut [u32], n: usize)
     }
 }
 
-// The keys that an edge table with many bits demands, with the least members known. For few nodes no table is filled.
+// Whether rows are summed bit by bit: with few nodes or few bits a table would take longer. Either answer is right.
+fn is_sparse(edges: &[u64], n: usize) -> bool
+    requires { ⌜ length (now edges) ≤ rowWords * maxNodes ⌝ }
+{
+    n <= 64 || !has_many_bits(edges)
+}
+
+// The keys that an edge table demands, with the least members known.
 pub fn sum_rows(edges: &[u64], least: &[u16], keys: &mut [u32], n: usize)
     requires { ⌜ Within n (now edges) × Proper (graphIn n (now edges)) × LeastTold n (now edges) (now least) × (length (now keys) ≡ 2 * n) ⌝ }
     ensures { λ _. ⌜ now (keys .exit) ≡ keysOf (graphIn n (now (edges .entry))) ⌝ }
 {
-    if n <= 64 {
+    if is_sparse(edges, n) {
         sum_each(edges, keys, n);
         return;
     }

@@ -19,6 +19,7 @@ use Rattle.model.specs.Release.{superedgeRecord}
 use Rattle.model.specs.TestLaws.{decide, iff-eq}
 use Rattle.rows.specs.BitLaws.{bit-and}
 use Rattle.rows.specs.Rows.{leads}
+use Rattle.buffers.specs.FilledLaws.{getD-zeros}
 use Rattle.buffers.specs.Wrote.{Left, Wrote}
 use Rattle.buffers.specs.WroteLaws.{left-room, left-step}
 use Rattle.buffers.specs.Scan.{Counting, scan}
@@ -176,11 +177,6 @@ module _ (position : List ℕ) (i b x : ℕ) where
     word-more l v = left-step l v word-one
 
 -- a set of bits, node after node
-getD-zeros : (k i : ℕ) → _≡_ {A = ℕ} (getD (replicate k 0) i 0) 0
-getD-zeros zero i = refl
-getD-zeros (suc k) zero = refl
-getD-zeros (suc k) (suc i) = getD-zeros k i
-
 pub marking-start : (P : ℕ → Bool) → Marking P (replicate 8 0) 0
 unfolding edgeBit bitAt
 marking-start P = record {

@@ -13,20 +13,20 @@ use lib.Seq.{getD-set-other, getD-set-same}
 use borrow.Author.Tests.{eqb-false, eqb-true, lt-ltb, ltb-false, ltb-true}
 use Rattle.model.specs.Graph.{Graph, Proper, View, rowWords}
 use Rattle.model.specs.Grouping.{least, similar}
-use Rattle.model.specs.Tables.{bitAt, edgeBit, edgesOf}
+use Rattle.model.specs.Tables.{bitAt, edgeBit, edgesOf, edgesIn, markedGraph}
 use Rattle.model.specs.Release.{isVisible, visible, visibleEdge, visiblePart}
 use Rattle.model.specs.History.{Alike}
 use Rattle.model.specs.TestLaws.{and-fst, decide}
-use Rattle.model.specs.TableLaws.{simple-test}
+use Rattle.model.specs.TableLaws.{edges-in, simple-test}
 use Rattle.model.specs.ReleaseLaws.{alike-visible}
 use Rattle.model.specs.ReadBackLaws.{visible-proper}
 use Rattle.layout.specs.Truth.{Truth}
 use Rattle.layout.specs.Words.{Marking}
 use Rattle.rows.specs.BitLaws.{bit-and, bit-zero}
-use Rattle.search.specs.Search.{Within, edgesIn}
+use Rattle.search.specs.Search.{Within}
 use Rattle.rows.specs.EdgeLaws.{edges-by-bits}
-use Rattle.search.specs.SearchLaws.{edges-in, ready}
-use Rattle.masking.specs.Masking.{Apart, Drawn, RowPut, cutWord, keptWord, markedGraph, maskedWord, shown}
+use Rattle.search.specs.SearchLaws.{ready}
+use Rattle.masking.specs.Masking.{Apart, Drawn, RowPut, cutWord, keptWord, maskedWord, shown}
 
 pub visible-is : (n : ℕ) (edges marks : List ℕ) (p : ℕ) → isVisible (markedGraph n edges marks) p ≡ (ltb p n && shown marks p)
 unfolding isVisible markedGraph shown

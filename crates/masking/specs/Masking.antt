@@ -1,19 +1,16 @@
 -- The visible part of a graph whose edges and marks are lent: rows masked.
 use mathlib.Core.Path.{_≡_}
-use mathlib.Core.Bool.{Bool, false, not, cond, _&&_}
+use mathlib.Core.Bool.{Bool, false, not, cond}
 use mathlib.Core.List.{List}
 use Prim.Native.Nat.{ℕ, _+_, _*_, _≤_, _<_}
 use lib.Bits.{bitAnd}
-use lib.Dec.{eqb, ltb}
+use lib.Dec.{eqb}
 use lib.ListN.{length, getD}
-use Rattle.model.specs.Graph.{Graph, Proper, maxNodes, rowWords}
-use Rattle.search.specs.Search.{Within, edgesIn, graphWith}
+use Rattle.model.specs.Graph.{Proper, maxNodes, rowWords}
+use Rattle.model.specs.Tables.{edgesIn, markedGraph}
+use Rattle.search.specs.Search.{Within}
 
--- the graph of n nodes that an edge table and a list of marks tell (1: hidden)
-unfoldable pub markedGraph : ℕ → List ℕ → List ℕ → Graph
-markedGraph n edges marks = graphWith n edges (λ p. ltb p n && eqb (getD marks p 0) 1)
-
--- it is a graph: edges without direction, none from a node to itself
+-- the edge table and the marks tell a graph: edges without direction, none from a node to itself
 pub record Drawn (n : ℕ) (edges marks : List ℕ) : Type 0 where
   pub small : n ≤ maxNodes
   pub proper : Proper (markedGraph n edges marks)

@@ -3,10 +3,10 @@ ghost use mathlib.Core.Path.{_≡_};
 ghost use Prim.Native.Nat.{_+_, _*_, _≤_, _<_};
 ghost use lib.ListN.{length};
 ghost use Rattle.model.specs.Graph.{maxNodes, rowWords};
-ghost use Rattle.model.specs.Tables.{edgesOf};
+ghost use Rattle.model.specs.Tables.{edgesOf, markedGraph};
 ghost use Rattle.model.specs.Release.{visiblePart};
 ghost use Rattle.layout.specs.Words.{Marking};
-ghost use Rattle.masking.specs.Masking.{Drawn, RowPut, cutWord, markedGraph, maskedWord, shown};
+ghost use Rattle.masking.specs.Masking.{Drawn, RowPut, cutWord, maskedWord, shown};
 use rows::Graph;
 
 // Whether node q is visible.

@@ -9,6 +9,7 @@ use lib.ListN.{length, drop}
 use Rattle.model.specs.Graph.{Graph, emptyGraph, whole}
 use Rattle.model.specs.Grouping.{kindOf}
 use Rattle.model.specs.Tables.{Tables, tablesOf, graphOf, groupIn, holds}
+use Rattle.model.specs.Store.{dropping, isFull, isKept, isStore, keeping, keptGraph, noStates, placesIn, storeOf, wrongName, wrongStore}
 use Rattle.model.specs.Refusals.{Reasons, judged, lengths, wrongSize}
 use Rattle.model.specs.Updates.{updateCount, wrongBatch, updatesIn, batchGraph, answers}
 use Rattle.model.specs.Queries.{neighbours, leaderIn, pairs, kindNumber}
@@ -20,21 +21,75 @@ use Rattle.model.specs.Reading.{decode, isRelease}
 abbrev pub onto : {A : Type 0} → List A → List A → List A
 onto xs out = xs ++ drop (length xs) out
 
--- open a graph without edges
+-- open a graph without edges, with an empty store
 pub record Opened : Type 0 where
   pub result : ℕ
   pub tables : Tables
+  pub store : List ℕ
 
-abbrev pub openRefused : Tables → ℕ → Opened
-openRefused t r = record { result = r; tables = t }
+abbrev pub openRefused : Tables → List ℕ → ℕ → Opened
+openRefused t s r = record { result = r; tables = t; store = s }
 
-unfoldable pub openReasons : ℕ → Tables → Reasons
-openReasons n t = (wrongSize n (lengths t), 11) ∷ []
+unfoldable pub openReasons : ℕ → Tables → List ℕ → Reasons
+openReasons n t s = (wrongSize n (lengths t) || wrongStore n (length s), 11) ∷ []
 
-unfoldable pub openCall : ℕ → Tables → Opened
-openCall n t =
-    judged (openReasons n t) (openRefused t)
-    (record { result = 0; tables = tablesOf (emptyGraph n) })
+unfoldable pub openCall : ℕ → Tables → List ℕ → Opened
+openCall n t s =
+    judged (openReasons n t s) (openRefused t s)
+    (record { result = 0; tables = tablesOf (emptyGraph n); store = storeOf n noStates })
+
+-- keep the graph under a name, drop a name: what becomes of the store
+pub record Stored : Type 0 where
+  pub result : ℕ
+  pub store : List ℕ
+
+abbrev pub storeRefused : List ℕ → ℕ → Stored
+storeRefused s r = record { result = r; store = s }
+
+unfoldable pub keepReasons : ℕ → Tables → List ℕ → List ℕ → Reasons
+keepReasons n t s name =
+    (wrongSize n (lengths t) || wrongName n (length s) name, 11)
+    ∷ (not (holds n t) || not (isStore n s), 12)
+    ∷ (isKept name (placesIn n s), 22)
+    ∷ (isFull (placesIn n s), 23)
+    ∷ []
+
+unfoldable pub keepCall : ℕ → Tables → List ℕ → List ℕ → Stored
+keepCall n t s name =
+    judged (keepReasons n t s name) (storeRefused s)
+    (record { result = 0; store = storeOf n (keeping name (graphOf n t) (placesIn n s)) })
+
+unfoldable pub dropReasons : ℕ → List ℕ → List ℕ → Reasons
+dropReasons n s name =
+    (wrongName n (length s) name, 11)
+    ∷ (not (isStore n s), 12)
+    ∷ (not (isKept name (placesIn n s)), 21)
+    ∷ []
+
+unfoldable pub dropCall : ℕ → List ℕ → List ℕ → Stored
+dropCall n s name =
+    judged (dropReasons n s name) (storeRefused s)
+    (record { result = 0; store = storeOf n (dropping name (placesIn n s)) })
+
+-- come back to the graph kept under a name: what becomes of the tables
+pub record Filled : Type 0 where
+  pub result : ℕ
+  pub tables : Tables
+
+abbrev pub fillRefused : Tables → ℕ → Filled
+fillRefused t r = record { result = r; tables = t }
+
+unfoldable pub restoreReasons : ℕ → Tables → List ℕ → List ℕ → Reasons
+restoreReasons n t s name =
+    (wrongSize n (lengths t) || wrongName n (length s) name, 11)
+    ∷ (not (isStore n s), 12)
+    ∷ (not (isKept name (placesIn n s)), 21)
+    ∷ []
+
+unfoldable pub restoreCall : ℕ → Tables → List ℕ → List ℕ → Filled
+restoreCall n t s name =
+    judged (restoreReasons n t s name) (fillRefused t)
+    (record { result = 0; tables = tablesOf (keptGraph name (placesIn n s)) })
 
 -- apply a batch (a sheet)
 pub record Applied : Type 0 where
@@ -172,9 +227,9 @@ readReasons n t file =
     ∷ (not (eqb (decode file .nodeCount) n), 20)
     ∷ []
 
-unfoldable pub readCall : ℕ → Tables → List ℕ → Opened
+unfoldable pub readCall : ℕ → Tables → List ℕ → Filled
 readCall n t file =
-    judged (readReasons n t file) (openRefused t)
+    judged (readReasons n t file) (fillRefused t)
     (record { result = 0; tables = tablesOf (decode file) })
 
 -- neighbours of p, each followed by the least member of its group, asked of a file

@@ -21,8 +21,8 @@ use Rattle.model.specs.Steps.{Stepped, run}
 use Rattle.model.specs.Queries.{leaderIn, neighbours}
 use Rattle.model.specs.Distance.{distance, distanceBy}
 use Rattle.model.specs.Reading.{decode, isRelease, summaryBy, summaryIn}
-use Rattle.model.specs.Calls.{Listed, Measured, Opened, Released, applyCall, applyReasons, distanceRefused, fileDistanceCall, fileDistanceReasons, fileNeighboursCall, fileNeighboursReasons, groupCall, groupReasons, listRefused, listing, neighboursCall, neighboursReasons, onto, openCall, openReasons, openRefused, readCall, readReasons, releaseCall, releaseReasons, releaseRefused, released, tiedCall, tiedReasons}
-use Rattle.model.specs.History.{Alike, CallsTold, Source, byHistory, graphOfSource, handedIn, tablesOfSource}
+use Rattle.model.specs.Calls.{Filled, Listed, Measured, Released, applyCall, applyReasons, distanceRefused, dropCall, dropReasons, fileDistanceCall, fileDistanceReasons, fileNeighboursCall, fileNeighboursReasons, fillRefused, groupCall, groupReasons, keepCall, keepReasons, listRefused, listing, neighboursCall, neighboursReasons, onto, openCall, openReasons, readCall, readReasons, releaseCall, releaseReasons, releaseRefused, released, restoreCall, restoreReasons, tiedCall, tiedReasons}
+use Rattle.model.specs.History.{Alike, CallsTold, Room, Source, StoreTold, byHistory, graphOfSource, handedIn, number, opening, roomOf, tablesOfSource}
 use Rattle.model.specs.TestLaws.{differ, fails}
 use Rattle.model.specs.ListLaws.{filter-cong, nodes-ascending}
 use Rattle.model.specs.DistanceLaws.{distance-shortest}
@@ -35,7 +35,7 @@ use Rattle.model.specs.FewestLaws.{fewest}
 use Rattle.model.specs.TableLaws.{groups-told, held-proper, held-tables, proper-holds, proper-simple, read-back, simple-test}
 use Rattle.model.specs.ReleaseLaws.{alike-visible, length-release, non-interference, visible-ascending, visible-simple, alike-node}
 use Rattle.model.specs.UpdateLaws.{answer-accepted, answer-near, update-refused, wanted-there}
-use Rattle.model.specs.HistoryLaws.{Kept, lengths-of, lengthsFor, right-size, size-right, history-told}
+use Rattle.model.specs.HistoryLaws.{Kept, history-told, lengths-of, lengthsFor, name-stays, opened-size, returned, right-size, size-right}
 use Rattle.model.specs.RefusalLaws.{first-below, judged-refused, judged-result}
 use Rattle.model.specs.ReadingLaws.{marked, summary-encode, told-count, told-similar, told-summarises}
 use Rattle.model.specs.ReadBackLaws.{decode-release, only-releases, release-is, visible-alike, visible-proper}
@@ -50,13 +50,17 @@ kept (byHistory s n cs ok) = record {
   fits = ap lengths (k .tables) ∙ lengths-of (graphOfSource (byHistory s n cs ok));
 }
   where
-    k : Kept (lengths (s .tables)) (graphOfSource (byHistory s n cs ok)) (tablesOfSource (byHistory s n cs ok))
+    k : Kept (roomOf s .tables) (graphOfSource (byHistory s n cs ok)) (tablesOfSource (byHistory s n cs ok))
     k = history-told s n cs ok .0 .tables
 kept (handedIn t n w h) = record {
   tables = held-tables n t h;
   proper = held-proper n t h (right-size n (lengths t) w .0);
   fits = right-size n (lengths t) w .1 ∙ unfold graphOf in refl;
 }
+
+pub store-of : (x : Source) → StoreTold x
+store-of (byHistory s n cs ok) = history-told s n cs ok .0 .store .words
+store-of (handedIn t n w h) = tt
 
 pub calls-of : (x : Source) → CallsTold x
 calls-of (byHistory s n cs ok) = history-told s n cs ok .1
@@ -81,15 +85,18 @@ unfolding batchGraph answers run
 batch-refused g c cs h = ap (λ (x : Stepped Graph ℤ). (refusal g c, batchGraph (x .after) cs, x .outcome ∷ answers (x .after) cs)) (update-refused g c h)
 
 pub demand1 : Demand1
-unfolding openReasons openCall applyReasons applyCall neighboursReasons neighboursCall listing tiedReasons tiedCall groupReasons groupCall releaseReasons releaseCall released readReasons readCall fileNeighboursReasons fileNeighboursCall fileDistanceReasons fileDistanceCall updateReasons refusal
+unfolding openReasons openCall keepReasons keepCall restoreReasons restoreCall dropReasons dropCall applyReasons applyCall neighboursReasons neighboursCall listing tiedReasons tiedCall groupReasons groupCall releaseReasons releaseCall released readReasons readCall fileNeighboursReasons fileNeighboursCall fileDistanceReasons fileDistanceCall updateReasons refusal
 demand1 = record {
-  opening = λ n t. refuses _ _ _ _ _ refl (λ r. refl) refl;
+  opening = λ n t s. refuses _ _ _ _ _ refl (λ r. refl) refl;
   batch = λ n t xs out. refuses _ _ _ _ _ refl (λ r. refl) refl;
   update = λ g c cs. record { listed = refl; first = refl; kept = batch-refused g c cs };
   neighbours = λ n t p out. refuses _ _ _ _ _ refl (λ r. refl) refl;
   tied = λ n t p q. refuses _ _ _ _ _ refl (λ r. refl) refl;
   group = λ n t p. refuses _ _ _ _ _ refl (λ r. refl) refl;
   releasing = λ n t out. refuses _ _ _ _ _ refl (λ r. refl) refl;
+  keeping = λ n t s name. refuses _ _ _ _ _ refl (λ r. refl) refl;
+  restoring = λ n t s name. refuses _ _ _ _ _ refl (λ r. refl) refl;
+  dropping = λ n s name. refuses _ _ _ _ _ refl (λ r. refl) refl;
   reading = λ n t file. refuses _ _ _ _ _ refl (λ r. refl) refl;
   file-neighbours = λ file p out. refuses _ _ _ _ _ refl (λ r. refl) refl;
   file-distance = λ file p q. refuses _ _ _ _ _ refl (λ r. refl) refl;
@@ -200,7 +207,7 @@ module _ (n : ℕ) (t : Tables) (file : List ℕ) (w : wrongSize n (lengths t) �
   result-is : readCall n t file .result ≡ numbered (isRelease file) (eqb (decode file .nodeCount) n)
   unfolding readCall readReasons numbered firstOf
   result-is =
-      judged-result (λ (o : Opened). o .result) (readReasons n t file) (openRefused t) (record { result = 0; tables = tablesOf (decode file) }) (λ r. refl) refl
+      judged-result (λ (o : Filled). o .result) (readReasons n t file) (fillRefused t) (record { result = 0; tables = tablesOf (decode file) }) (λ r. refl) refl
       ∙ rw w (step (isRelease file) (eqb (decode file .nodeCount) n))
     where
       step : (a b : Bool) → cond (not a) 19 (cond (not b) 20 0) ≡ numbered a b
@@ -258,7 +265,7 @@ module _ (n : ℕ) (t : Tables) (file : List ℕ) (w : wrongSize n (lengths t) �
 
           call : releaseCall n (readCall n t file .tables) out ≡ released (visiblePart g) out
           call =
-              ap₂ (λ (m : ℕ) (x : Opened). releaseCall m (x .tables) out) part-size read-done
+              ap₂ (λ (m : ℕ) (x : Filled). releaseCall m (x .tables) out) part-size read-done
               ∙ release-written (lengthsFor n) (visiblePart g) (tablesOf (visiblePart g)) kept-part out (rw back k)
 
   read-only : readCall n t file .result ≡ 0 → (g : Graph) × Proper g × (g .nodeCount ≡ n) × (file ≡ release g)
@@ -280,8 +287,8 @@ module _ (n : ℕ) (t : Tables) (file : List ℕ) (w : wrongSize n (lengths t) �
       λ z. result-is ∙ rw (no-release file .1 z) (unfold numbered in refl),
     );
     other = (other-only, λ x. read-other (x .0) (x .1) (x .3) (x .2));
-    done = (read-only, λ x. ap (λ (o : Opened). o .result) (read-done (x .0) (x .1) (x .3) (x .2)));
-    tables = λ g h s e. ap (λ (x : Opened). x .tables) (read-done g h e s);
+    done = (read-only, λ x. ap (λ (o : Filled). o .result) (read-done (x .0) (x .1) (x .3) (x .2)));
+    tables = λ g h s e. ap (λ (x : Filled). x .tables) (read-done g h e s);
     again = λ ok. let b = read-only ok in read-again (b .0) (b .1) (b .3) (b .2);
   }
 
@@ -356,6 +363,11 @@ module _ (file : List ℕ) (p q : ℕ) where
 
 pub demand2 : Demand2
 demand2 = record {
+  returning = λ s n cs ok name ds z.
+      let l : Room = roomOf s in
+      let w : wrongSize n (l .tables) ≡ false = opened-size s n ok in
+      let h = history-told s n cs ok .0 in
+      record { back = returned n l w _ _ h name ds z; stays = name-stays n l w _ _ h name ds z };
   grouped = λ x. grouped-exactly (lengths (tablesOfSource x)) (graphOfSource x) (tablesOfSource x) (kept x);
   answered = λ x c ok. record { effect = wanted-there (graphOfSource x) c; difference = answer-accepted (graphOfSource x) c ok; range = answer-near (graphOfSource x) c (kept x .proper) ok };
   unfolded = λ x. file-summarises (graphOfSource x) (kept x .proper);
@@ -375,6 +387,7 @@ pub demand3 : Demand3
 demand3 = record {
   each = λ x. let g : Graph = graphOfSource x in let k = kept x in record {
     tables = k .tables;
+    store = store-of x;
     calls = calls-of x;
     written = release-written (lengths (tablesOfSource x)) g (tablesOfSource x) k;
     short = release-short (lengths (tablesOfSource x)) g (tablesOfSource x) k;

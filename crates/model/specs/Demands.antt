@@ -13,14 +13,16 @@ use Rattle.model.specs.Lists.{_∈_, filter, nodes}
 use Rattle.model.specs.Grouping.{algorithm1}
 use Rattle.model.specs.Summary.{Summarises, Summary, summaryOf}
 use Rattle.model.specs.Tables.{Tables, graphOf, groupsIn, tablesOf}
+use Rattle.model.specs.Store.{isKept, keptGraph, placesIn}
+use Rattle.model.specs.Steps.{run}
 use Rattle.model.specs.Refusals.{Reasons, firstOf, lengths, wrongSize}
 use Rattle.model.specs.Updates.{Update, answer, answers, batchGraph, groupCount, refusal, updateReasons, updated, there, wanted}
 use Rattle.model.specs.Release.{release, superedgeCount, visible, visibleGroups, visiblePart, isVisible}
 use Rattle.model.specs.Reading.{summaryIn}
 use Rattle.model.specs.Queries.{leaderIn, pairs}
 use Rattle.model.specs.Distance.{Shortest, distance, distanceBy, isJoined}
-use Rattle.model.specs.Calls.{Applied, Grouped, Listed, Measured, Opened, Released, Tied, applyCall, applyReasons, applyRefused, distanceRefused, fileDistanceCall, fileDistanceReasons, fileNeighboursCall, fileNeighboursReasons, groupCall, groupReasons, groupRefused, listRefused, neighboursCall, neighboursReasons, onto, openCall, openReasons, openRefused, readCall, readReasons, releaseCall, releaseReasons, releaseRefused, released, tiedCall, tiedReasons, tiedRefused}
-use Rattle.model.specs.History.{Alike, CallsTold, Source, graphOfSource, tablesOfSource}
+use Rattle.model.specs.Calls.{Applied, Filled, Grouped, Listed, Measured, Opened, Released, Stored, Tied, applyCall, applyReasons, applyRefused, distanceRefused, dropCall, dropReasons, fileDistanceCall, fileDistanceReasons, fileNeighboursCall, fileNeighboursReasons, fillRefused, groupCall, groupReasons, groupRefused, keepCall, keepReasons, listRefused, neighboursCall, neighboursReasons, onto, openCall, openReasons, openRefused, readCall, readReasons, releaseCall, releaseReasons, releaseRefused, released, restoreCall, restoreReasons, storeRefused, tiedCall, tiedReasons, tiedRefused}
+use Rattle.model.specs.History.{Alike, Call, CallsTold, Source, State, StoreTold, callStep, graphOfSource, history, keep, number, opening, restore, spare, tablesOfSource}
 use Rattle.model.specs.Program.{accepted, inputOf, maxBytes}
 
 -- DEMAND 1. A call is refused by the listed numbers, each for its listed reason.
@@ -33,7 +35,7 @@ pub record Refuses {A : Type 0} (result : A → ℕ) (refused : ℕ → A) (numb
   pub kept : (result call ≡ 0 → ⊥) → call ≡ refused (result call)
 
 pub record Demand1 : Type 0 where
-  pub opening : (n : ℕ) (t : Tables) → Refuses (λ (o : Opened). o .result) (openRefused t) (11 ∷ []) (openReasons n t) (openCall n t)
+  pub opening : (n : ℕ) (t : Tables) (s : List ℕ) → Refuses (λ (o : Opened). o .result) (openRefused t s) (11 ∷ []) (openReasons n t s) (openCall n t s)
   pub batch : (n : ℕ) (t : Tables) (xs : List ℕ) (out : List ℤ) → Refuses (λ (o : Applied). o .result) (applyRefused t out) (11 ∷ 12 ∷ 18 ∷ []) (applyReasons n t xs out) (applyCall n t xs out)
   -- an update of a batch: a refused one only writes its number among the answers
   pub update : (g : Graph) (c : Update) (cs : List Update) → Refuses (λ (o : ℕ × Graph × List ℤ). o .0) (λ r. (r, batchGraph g cs, pos r ∷ answers g cs))
@@ -42,7 +44,10 @@ pub record Demand1 : Type 0 where
   pub tied : (n : ℕ) (t : Tables) (p q : ℕ) → Refuses (λ (o : Tied). o .result) tiedRefused (11 ∷ 12 ∷ 14 ∷ 15 ∷ []) (tiedReasons n t p q) (tiedCall n t p q)
   pub group : (n : ℕ) (t : Tables) (p : ℕ) → Refuses (λ (o : Grouped). o .result) groupRefused (11 ∷ 12 ∷ 14 ∷ []) (groupReasons n t p) (groupCall n t p)
   pub releasing : (n : ℕ) (t : Tables) (out : List ℕ) → Refuses (λ (o : Released). o .result) (releaseRefused out) (11 ∷ 12 ∷ 18 ∷ []) (releaseReasons n t out) (releaseCall n t out)
-  pub reading : (n : ℕ) (t : Tables) (file : List ℕ) → Refuses (λ (o : Opened). o .result) (openRefused t) (11 ∷ 19 ∷ 20 ∷ []) (readReasons n t file) (readCall n t file)
+  pub keeping : (n : ℕ) (t : Tables) (s name : List ℕ) → Refuses (λ (o : Stored). o .result) (storeRefused s) (11 ∷ 12 ∷ 22 ∷ 23 ∷ []) (keepReasons n t s name) (keepCall n t s name)
+  pub restoring : (n : ℕ) (t : Tables) (s name : List ℕ) → Refuses (λ (o : Filled). o .result) (fillRefused t) (11 ∷ 12 ∷ 21 ∷ []) (restoreReasons n t s name) (restoreCall n t s name)
+  pub dropping : (n : ℕ) (s name : List ℕ) → Refuses (λ (o : Stored). o .result) (storeRefused s) (11 ∷ 12 ∷ 21 ∷ []) (dropReasons n s name) (dropCall n s name)
+  pub reading : (n : ℕ) (t : Tables) (file : List ℕ) → Refuses (λ (o : Filled). o .result) (fillRefused t) (11 ∷ 19 ∷ 20 ∷ []) (readReasons n t file) (readCall n t file)
   pub file-neighbours : (file : List ℕ) (p : ℕ) (out : List ℕ) → Refuses (λ (o : Listed). o .result) (listRefused out) (19 ∷ 14 ∷ 18 ∷ []) (fileNeighboursReasons file p out) (fileNeighboursCall file p out)
   pub file-distance : (file : List ℕ) (p q : ℕ) → Refuses (λ (o : Measured). o .result) distanceRefused (19 ∷ 14 ∷ []) (fileDistanceReasons file p q) (fileDistanceCall file p q)
   -- the program's release buffer is never too short
@@ -120,7 +125,20 @@ pub record MeasuredExactly (file : List ℕ) (p q : ℕ) : Type 0 where
   pub hidden : (g : Graph) → Proper g → file ≡ release g → (isVisible g p && isVisible g q) ≡ false → fileDistanceCall file p q ≡ distanceRefused 14
   pub visible : (g : Graph) → Proper g → file ≡ release g → isVisible g p ≡ true → isVisible g q ≡ true → DistanceTold g file p q
 
+-- after a history that leaves the state a: what is kept under a name, then calls that spare it
+pub record ReturnsExactly (n : ℕ) (a : State) (name : List ℕ) (cs : List Call) : Type 0 where
+  -- a keep that is done, then these calls: a return gives the tables as they were when it was kept, and leaves the store
+  pub back : callStep a (keep n name) .outcome .result ≡ 0
+      → callStep (run callStep (callStep a (keep n name) .after) cs .after) (restore n name)
+      ≡ record { outcome = number 0; after = record { tables = a .tables; store = run callStep (callStep a (keep n name) .after) cs .after .store } }
+  -- a name that is kept stays, with its graph
+  pub stays : isKept name (placesIn n (a .store)) ≡ true
+      → (isKept name (placesIn n (run callStep a cs .after .store)) ≡ true)
+      × (keptGraph name (placesIn n (run callStep a cs .after .store)) ≡ keptGraph name (placesIn n (a .store)))
+
 pub record Demand2 : Type 0 where
+  -- the graph of a history is the one since the last return or opening that was done, on top of the state it gave
+  pub returning : (s : State) (n : ℕ) (cs : List Call) → callStep s (opening n) .outcome .result ≡ 0 → (name : List ℕ) (ds : List Call) → spare name ds ≡ true → ReturnsExactly n (history s n cs .after) name ds
   pub grouped : (x : Source) → GroupedExactly (graphOfSource x) (tablesOfSource x)
   pub answered : (x : Source) (c : Update) → refusal (graphOfSource x) c ≡ 0 → Answered (graphOfSource x) c
   -- a release unfolds to the edges among visible nodes
@@ -131,8 +149,10 @@ pub record Demand2 : Type 0 where
 
 -- DEMAND 3. What is claimed of one source: a history, refused calls included, or tables handed in; g is its plain graph.
 pub record Faithful (x : Source) (g : Graph) (t : Tables) : Type 0 where
-  -- the tables hold the plain graph, and every call gave the number and the answers that it tells from the arguments
+  -- the tables hold the plain graph, the store has the plain list, and every call gave the number and the answers that these tell
+  -- from the arguments
   pub tables : t ≡ tablesOf g
+  pub store : StoreTold x
   pub calls : CallsTold x
   -- the release is document 01's file, with its m, g, s and length, in every buffer that is long enough
   pub written : (out : List ℕ) → length (release g) ≤ length out → releaseCall (g .nodeCount) t out ≡ released g out

@@ -1,4 +1,4 @@
--- After a history the tables hold its plain graph, and each call gave the number and the answers that the plain graph tells.
+-- After a history the tables hold its plain graph, the store has its plain list, and each call gave the number and the answers that these tell.
 use mathlib.Core.Path.{_≡_, refl, sym, ap, ap₂, _∙_}
 use mathlib.Core.Bool.{true, false, not, _||_}
 use mathlib.Core.List.{List, [], _∷_}
@@ -8,18 +8,20 @@ use native.Mathlib.Omega.{arith}
 use lib.Dec.{eqb, ltb}
 use lib.IntN.{ℤ}
 use lib.ListN.{length}
-use borrow.Author.Tests.{eqb-true, eq-eqb, ltb-false, le-ltb, not-false}
+use borrow.Author.Tests.{eqb-true, eq-eqb, ltb-false, le-ltb, not-false, not-true}
 use Rattle.model.specs.Graph.{Graph, Proper, emptyGraph, maxNodes, nodeNumbers, rowWords}
 use Rattle.model.specs.Tables.{Tables, graphOf, holds, tablesOf}
+use Rattle.model.specs.Store.{Place, dropping, isFull, isKept, isName, isStore, keeping, keptGraph, noStates, placesIn, storeOf, storeWords, wrongName, wrongStore}
 use Rattle.model.specs.Refusals.{Lengths, Reasons, firstOf, lengths, wrongSize}
-use Rattle.model.specs.Steps.{run}
+use Rattle.model.specs.Steps.{Stepped, run}
 use Rattle.model.specs.Updates.{answers, batchGraph, updateCount, updatesIn, wrongBatch}
-use Rattle.model.specs.Calls.{Opened, applyCall, applyReasons, applyRefused, onto, openCall, openReasons, openRefused}
-use Rattle.model.specs.History.{Call, Plain, State, applyStep, batch, callStep, history, openStep, opening, plain, plainRefused, plainStep, unopened}
-use Rattle.model.specs.TestLaws.{decide, or-none}
+use Rattle.model.specs.Calls.{Opened, applyCall, applyReasons, applyRefused, dropCall, dropReasons, fillRefused, keepCall, keepReasons, onto, openCall, openReasons, openRefused, restoreCall, restoreReasons, storeRefused}
+use Rattle.model.specs.History.{Call, Outcome, Plain, Room, State, applyStep, batch, callStep, drop, fillStep, history, keep, number, openStep, opening, plain, plainRefused, plainStep, restore, roomOf, spare, spares, storeStep, unopened}
+use Rattle.model.specs.TestLaws.{and-fst, and-snd, decide, differ, or-none}
 use Rattle.model.specs.TableLaws.{length-edges, length-keys, length-nodes-of, proper-holds, read-back}
+use Rattle.model.specs.StoreLaws.{Sound, Under, dropping-other, keeping-new, keeping-other, kept-proper, sound-back, sound-dropping, sound-keeping, sound-length, sound-none, sound-store}
 use Rattle.model.specs.UpdateLaws.{proper-batch, proper-empty}
-use Rattle.model.specs.RefusalLaws.{first-none, judged-related, judged-result}
+use Rattle.model.specs.RefusalLaws.{first-none, judged-done, judged-keeps, judged-related, judged-result}
 use Rattle.model.specs.StepLaws.{Matched, run-matched}
 
 -- tables of a graph have the right lengths
@@ -52,34 +54,94 @@ pub record Kept (l : Lengths) (g : Graph) (t : Tables) : Type 0 where
   pub proper : Proper g
   pub fits : l ≡ lengthsFor (g .nodeCount)
 
--- what a new graph's opening leaves
-opening-kept : (n : ℕ) (l : Lengths) → firstOf ((wrongSize n l, 11) ∷ []) ≡ 0 → Kept l (emptyGraph n) (tablesOf (emptyGraph n))
-opening-kept n l ok =
-    let s = right-size n l (first-none (wrongSize n l) 11 [] refl ok .0) in
-    record { tables = refl; proper = proper-empty n (s .0); fits = s .1 ∙ unfold emptyGraph in refl }
+-- a store s of length k for n nodes has these places
+pub record StoreKept (k n : ℕ) (xs : List Place) (s : List ℕ) : Type 0 where
+  pub words : s ≡ storeOf n xs
+  pub sound : Sound n xs
+  pub fits : k ≡ storeWords n
+
+-- lengths that are not wrong
+right-store : (n k : ℕ) → wrongStore n k ≡ false → k ≡ storeWords n
+unfolding wrongStore
+right-store n k w = eqb-true k (storeWords n) (not-false _ (or-none (ltb maxNodes n) _ w .1))
+
+right-name : (n k : ℕ) (name : List ℕ) → wrongName n k name ≡ false → (wrongStore n k ≡ false) × (isName name ≡ true)
+unfolding wrongName
+right-name n k name w = let a = or-none (wrongStore n k) _ w in (a .0, not-false _ (a .1))
 
 -- what calls find and leave agrees with what the plain side knows
-pub record Agrees (l : Lengths) (s : State) (p : Plain) : Type 0 where
-  pub tables : Kept l (p .graph) (s .tables)
+pub record Agrees (l : Room) (s : State) (p : Plain) : Type 0 where
+  pub tables : Kept (l .tables) (p .graph) (s .tables)
+  pub store : StoreKept (l .store) (p .graph .nodeCount) (p .places) (s .store)
 
-module _ (l : Lengths) (s : State) (p : Plain) (h : Agrees l s p) where
+-- why calls are refused, as the plain side knows it
+abbrev openWhy : Room → ℕ → Reasons
+openWhy l n = (wrongSize n (l .tables) || wrongStore n (l .store), 11) ∷ []
+
+abbrev batchWhy : Room → ℕ → List ℕ → List ℤ → Reasons
+batchWhy l n xs out = (wrongSize n (l .tables) || wrongBatch xs, 11) ∷ (ltb (length out) (updateCount xs), 18) ∷ []
+
+abbrev keepWhy : Room → List Place → ℕ → List ℕ → Reasons
+keepWhy l xs n name = (wrongSize n (l .tables) || wrongName n (l .store) name, 11) ∷ (isKept name xs, 22) ∷ (isFull xs, 23) ∷ []
+
+abbrev restoreWhy : Room → List Place → ℕ → List ℕ → Reasons
+restoreWhy l xs n name = (wrongSize n (l .tables) || wrongName n (l .store) name, 11) ∷ (not (isKept name xs), 21) ∷ []
+
+abbrev dropWhy : Room → List Place → ℕ → List ℕ → Reasons
+dropWhy l xs n name = (wrongName n (l .store) name, 11) ∷ (not (isKept name xs), 21) ∷ []
+
+-- what a done opening leaves
+opening-agrees : (n : ℕ) (l : Room) → firstOf (openWhy l n) ≡ 0
+    → Agrees l (record { tables = tablesOf (emptyGraph n); store = storeOf n noStates }) (record { graph = emptyGraph n; places = noStates })
+unfolding emptyGraph
+opening-agrees n l ok =
+    let a = or-none (wrongSize n (l .tables)) _ (first-none _ 11 [] refl ok .0) in
+    let w = right-size n (l .tables) (a .0) in record {
+      tables = record { tables = refl; proper = proper-empty n (w .0); fits = w .1 };
+      store = record { words = refl; sound = sound-none n; fits = right-store n (l .store) (a .1) };
+    }
+
+module _ (l : Room) (s : State) (p : Plain) (h : Agrees l s p) where
   abbrev g : Graph
   g = p .graph
+
+  abbrev xs : List Place
+  xs = p .places
 
   abbrev t : Tables
   t = s .tables
 
-  lengths-t : lengths (s .tables) ≡ l
-  lengths-t = ap lengths (h .tables .tables) ∙ lengths-of g ∙ sym (h .tables .fits)
+  abbrev st : List ℕ
+  st = s .store
 
-  same-n : (n : ℕ) → wrongSize n l ≡ false → n ≡ p .graph .nodeCount
-  same-n n w =
-      let a : l .edges ≡ rowWords * n = ap (λ (x : Lengths). x .edges) (right-size n l w .1) in
-      let z : l .edges ≡ rowWords * p .graph .nodeCount = ap (λ (x : Lengths). x .edges) (h .tables .fits) in
+  room-t : lengths (s .tables) ≡ l .tables
+  room-t = ap lengths (h .tables .tables) ∙ lengths-of g ∙ sym (h .tables .fits)
+
+  room-s : length (s .store) ≡ l .store
+  room-s = ap length (h .store .words) ∙ sound-length (g .nodeCount) xs (h .store .sound) ∙ sym (h .store .fits)
+
+  by-tables : (n : ℕ) → wrongSize n (l .tables) ≡ false → n ≡ p .graph .nodeCount
+  by-tables n w =
+      let a : l .tables .edges ≡ rowWords * n = ap (λ (x : Lengths). x .edges) (right-size n (l .tables) w .1) in
+      let z : l .tables .edges ≡ rowWords * p .graph .nodeCount = ap (λ (x : Lengths). x .edges) (h .tables .fits) in
       omega arith
 
-  graph-t : graphOf (p .graph .nodeCount) (s .tables) ≡ p .graph
-  graph-t = ap (graphOf (g .nodeCount)) (h .tables .tables) ∙ read-back g (h .tables .proper)
+  by-store : (n : ℕ) → wrongStore n (l .store) ≡ false → n ≡ p .graph .nodeCount
+  by-store n w = omega (arith, right-store n (l .store) w, h .store .fits)
+
+  -- read with the right n
+  module _ (n : ℕ) (e : n ≡ p .graph .nodeCount) where
+    holds-n : holds n (s .tables) ≡ true
+    holds-n = ap₂ holds e (h .tables .tables) ∙ proper-holds g (h .tables .proper)
+
+    graph-n : graphOf n (s .tables) ≡ p .graph
+    graph-n = ap₂ graphOf e (h .tables .tables) ∙ read-back g (h .tables .proper)
+
+    store-n : isStore n (s .store) ≡ true
+    store-n = ap₂ isStore e (h .store .words) ∙ sound-store (g .nodeCount) xs (h .store .sound)
+
+    places-n : placesIn n (s .store) ≡ p .places
+    places-n = ap₂ placesIn e (h .store .words) ∙ sound-back (g .nodeCount) xs (h .store .sound)
 
   -- what is to be shown of a call
   abbrev Told : Call → Type 0
@@ -89,75 +151,275 @@ module _ (l : Lengths) (s : State) (p : Plain) (h : Agrees l s p) where
   unfolding callStep plainStep openCall openReasons
   opening-told n =
       judged-related (λ o x. Matched (Agrees l) (openStep o) x)
-      ((wrongSize n (lengths t), 11) ∷ []) ((wrongSize n l, 11) ∷ []) (openRefused t) (plainRefused p []) _ _
-      (ap (λ (k : Lengths). firstOf ((wrongSize n k, 11) ∷ [])) lengths-t)
+      (openReasons n t st) (openWhy l n) (openRefused t st) (plainRefused p []) _ _
+      (ap₂ (λ (k : Lengths) (m : ℕ). firstOf ((wrongSize n k || wrongStore n m, 11) ∷ [])) room-t room-s)
       (λ z. (h, refl))
-      (λ ok. (record { tables = opening-kept n l ok }, refl))
-
-  -- why a batch is refused, as the plain side knows it
-  abbrev plainReasons : ℕ → List ℕ → List ℤ → Reasons
-  plainReasons n xs out = (wrongSize n l || wrongBatch xs, 11) ∷ (ltb (length out) (updateCount xs), 18) ∷ []
+      (λ ok. (opening-agrees n l ok, refl))
 
   -- with the right n, 12 never arises
-  batch-refusal : (n : ℕ) (xs : List ℕ) (out : List ℤ)
-      → firstOf (applyReasons n (s .tables) xs out) ≡ firstOf (plainReasons n xs out)
+  batch-refusal : (n : ℕ) (cs : List ℕ) (out : List ℤ) → firstOf (applyReasons n (s .tables) cs out) ≡ firstOf (batchWhy l n cs out)
   unfolding applyReasons firstOf
-  batch-refusal n xs out = rw lengths-t (step (decide (wrongSize n l)))
+  batch-refusal n cs out = rw room-t (step (decide (wrongSize n (l .tables))))
     where
-      step : (wrongSize n l ≡ true) ⊎ (wrongSize n l ≡ false)
-          → firstOf ((wrongSize n l || wrongBatch xs, 11) ∷ (not (holds n t), 12) ∷ (ltb (length out) (updateCount xs), 18) ∷ [])
-          ≡ firstOf (plainReasons n xs out)
+      step : (wrongSize n (l .tables) ≡ true) ⊎ (wrongSize n (l .tables) ≡ false)
+          → firstOf ((wrongSize n (l .tables) || wrongBatch cs, 11) ∷ (not (holds n t), 12) ∷ (ltb (length out) (updateCount cs), 18) ∷ [])
+          ≡ firstOf (batchWhy l n cs out)
       step (inl w) = rw w
-      step (inr w) = rw (ap₂ holds (same-n n w) (h .tables .tables) ∙ proper-holds g (h .tables .proper))
+      step (inr w) = rw (holds-n n (by-tables n w))
 
-  batch-told : (n : ℕ) (xs : List ℕ) (out : List ℤ) → Told (batch n xs out)
+  batch-told : (n : ℕ) (cs : List ℕ) (out : List ℤ) → Told (batch n cs out)
   unfolding callStep plainStep applyCall
-  batch-told n xs out =
-      judged-related (λ a x. Matched (Agrees l) (applyStep a) x)
-      (applyReasons n t xs out) (plainReasons n xs out) (applyRefused t out) (plainRefused p out) _ _
-      (batch-refusal n xs out)
+  batch-told n cs out =
+      judged-related (λ a x. Matched (Agrees l) (applyStep st a) x)
+      (applyReasons n t cs out) (batchWhy l n cs out) (applyRefused t out) (plainRefused p out) _ _
+      (batch-refusal n cs out)
       (λ z. (h, refl))
       done
     where
-      done : firstOf (plainReasons n xs out) ≡ 0
+      done : firstOf (batchWhy l n cs out) ≡ 0
           → Matched (Agrees l)
-          (applyStep (record { result = 0; tables = tablesOf (batchGraph (graphOf n t) (updatesIn xs)); answers = onto (answers (graphOf n t) (updatesIn xs)) out }))
-          (record { outcome = record { result = 0; answers = onto (answers g (updatesIn xs)) out }; after = record { graph = batchGraph g (updatesIn xs) } })
+          (applyStep st (record { result = 0; tables = tablesOf (batchGraph (graphOf n t) (updatesIn cs)); answers = onto (answers (graphOf n t) (updatesIn cs)) out }))
+          (record { outcome = record { result = 0; answers = onto (answers g (updatesIn cs)) out }; after = record { graph = batchGraph g (updatesIn cs); places = xs } })
       done ok =
-          let w = or-none (wrongSize n l) _ (first-none _ 11 _ refl ok .0) .0 in
-          let q : graphOf n t ≡ g = ap (λ (k : ℕ). graphOf k t) (same-n n w) ∙ graph-t in
-          let k = proper-batch (updatesIn xs) g (h .tables .proper) in (
+          let w = or-none (wrongSize n (l .tables)) _ (first-none _ 11 _ refl ok .0) .0 in
+          let q : graphOf n t ≡ g = graph-n n (by-tables n w) in
+          let k = proper-batch (updatesIn cs) g (h .tables .proper) in (
             record {
               tables = record {
-                tables = ap (λ (d : Graph). tablesOf (batchGraph d (updatesIn xs))) q;
+                tables = ap (λ (d : Graph). tablesOf (batchGraph d (updatesIn cs))) q;
                 proper = k .0;
                 fits = h .tables .fits ∙ ap lengthsFor (sym (k .1));
               };
+              store = rw (k .1) (h .store);
             },
-            ap (λ (d : Graph). record { result = 0; answers = onto (answers d (updatesIn xs)) out }) q,
+            ap (λ (d : Graph). record { result = 0; answers = onto (answers d (updatesIn cs)) out }) q,
           )
 
-pub call-told : (l : Lengths) (s : State) (p : Plain) (c : Call) → Agrees l s p → Matched (Agrees l) (callStep s c) (plainStep l p c)
+  keep-refusal : (n : ℕ) (name : List ℕ) → firstOf (keepReasons n (s .tables) (s .store) name) ≡ firstOf (keepWhy l (p .places) n name)
+  unfolding keepReasons firstOf
+  keep-refusal n name = rw (room-t, room-s) (step (decide (wrongSize n (l .tables))))
+    where
+      step : (wrongSize n (l .tables) ≡ true) ⊎ (wrongSize n (l .tables) ≡ false)
+          → firstOf ((wrongSize n (l .tables) || wrongName n (l .store) name, 11) ∷ (not (holds n t) || not (isStore n st), 12) ∷ (isKept name (placesIn n st), 22) ∷ (isFull (placesIn n st), 23) ∷ [])
+          ≡ firstOf (keepWhy l xs n name)
+      step (inl w) = rw w
+      step (inr w) = let e = by-tables n w in rw (holds-n n e, store-n n e, places-n n e)
+
+  keep-told : (n : ℕ) (name : List ℕ) → Told (keep n name)
+  unfolding callStep plainStep keepCall
+  keep-told n name =
+      judged-related (λ o x. Matched (Agrees l) (storeStep t o) x)
+      (keepReasons n t st name) (keepWhy l xs n name) (storeRefused st) (plainRefused p []) _ _
+      (keep-refusal n name)
+      (λ z. (h, refl))
+      done
+    where
+      done : firstOf (keepWhy l xs n name) ≡ 0
+          → Matched (Agrees l) (storeStep t (record { result = 0; store = storeOf n (keeping name (graphOf n t) (placesIn n st)) })) (record { outcome = number 0; after = record { graph = g; places = keeping name g xs } })
+      done ok =
+          let a = first-none _ 11 _ refl ok in
+          let w = or-none (wrongSize n (l .tables)) _ (a .0) in
+          let b = first-none (isKept name xs) 22 _ refl (a .1) in
+          let e = by-tables n (w .0) in (
+            record {
+              tables = h .tables;
+              store = record {
+                words = ap (λ (m : ℕ). storeOf m (keeping name (graphOf n t) (placesIn n st))) e ∙ ap₂ (λ (d : Graph) (ys : List Place). storeOf (g .nodeCount) (keeping name d ys)) (graph-n n e) (places-n n e);
+                sound = sound-keeping name g (g .nodeCount) xs (right-name n (l .store) name (w .1) .1) (h .tables .proper) refl (b .0) (h .store .sound);
+                fits = h .store .fits;
+              };
+            },
+            refl,
+          )
+
+  restore-refusal : (n : ℕ) (name : List ℕ) → firstOf (restoreReasons n (s .tables) (s .store) name) ≡ firstOf (restoreWhy l (p .places) n name)
+  unfolding restoreReasons firstOf
+  restore-refusal n name = rw (room-t, room-s) (step (decide (wrongSize n (l .tables))))
+    where
+      step : (wrongSize n (l .tables) ≡ true) ⊎ (wrongSize n (l .tables) ≡ false)
+          → firstOf ((wrongSize n (l .tables) || wrongName n (l .store) name, 11) ∷ (not (isStore n st), 12) ∷ (not (isKept name (placesIn n st)), 21) ∷ [])
+          ≡ firstOf (restoreWhy l xs n name)
+      step (inl w) = rw w
+      step (inr w) = let e = by-tables n w in rw (store-n n e, places-n n e)
+
+  restore-told : (n : ℕ) (name : List ℕ) → Told (restore n name)
+  unfolding callStep plainStep restoreCall
+  restore-told n name =
+      judged-related (λ o x. Matched (Agrees l) (fillStep st o) x)
+      (restoreReasons n t st name) (restoreWhy l xs n name) (fillRefused t) (plainRefused p []) _ _
+      (restore-refusal n name)
+      (λ z. (h, refl))
+      done
+    where
+      done : firstOf (restoreWhy l xs n name) ≡ 0
+          → Matched (Agrees l) (fillStep st (record { result = 0; tables = tablesOf (keptGraph name (placesIn n st)) })) (record { outcome = number 0; after = record { graph = keptGraph name xs; places = xs } })
+      done ok =
+          let a = first-none _ 11 _ refl ok in
+          let w = or-none (wrongSize n (l .tables)) _ (a .0) in
+          let b = first-none (not (isKept name xs)) 21 _ refl (a .1) in
+          let k = kept-proper (g .nodeCount) name xs (h .store .sound .fit) (not-false _ (b .0)) in (
+            record {
+              tables = record {
+                tables = ap (λ (ys : List Place). tablesOf (keptGraph name ys)) (places-n n (by-tables n (w .0)));
+                proper = k .0;
+                fits = h .tables .fits ∙ ap lengthsFor (sym (k .1));
+              };
+              store = rw (k .1) (h .store);
+            },
+            refl,
+          )
+
+  drop-refusal : (n : ℕ) (name : List ℕ) → firstOf (dropReasons n (s .store) name) ≡ firstOf (dropWhy l (p .places) n name)
+  unfolding dropReasons firstOf
+  drop-refusal n name = rw room-s (step (decide (wrongName n (l .store) name)))
+    where
+      step : (wrongName n (l .store) name ≡ true) ⊎ (wrongName n (l .store) name ≡ false)
+          → firstOf ((wrongName n (l .store) name, 11) ∷ (not (isStore n st), 12) ∷ (not (isKept name (placesIn n st)), 21) ∷ [])
+          ≡ firstOf (dropWhy l xs n name)
+      step (inl w) = rw w
+      step (inr w) = let e = by-store n (right-name n (l .store) name w .0) in rw (store-n n e, places-n n e)
+
+  drop-told : (n : ℕ) (name : List ℕ) → Told (drop n name)
+  unfolding callStep plainStep dropCall
+  drop-told n name =
+      judged-related (λ o x. Matched (Agrees l) (storeStep t o) x)
+      (dropReasons n st name) (dropWhy l xs n name) (storeRefused st) (plainRefused p []) _ _
+      (drop-refusal n name)
+      (λ z. (h, refl))
+      done
+    where
+      done : firstOf (dropWhy l xs n name) ≡ 0
+          → Matched (Agrees l) (storeStep t (record { result = 0; store = storeOf n (dropping name (placesIn n st)) })) (record { outcome = number 0; after = record { graph = g; places = dropping name xs } })
+      done ok =
+          let e = by-store n (right-name n (l .store) name (first-none _ 11 _ refl ok .0) .0) in (
+            record {
+              tables = h .tables;
+              store = record {
+                words = ap₂ (λ (m : ℕ) (ys : List Place). storeOf m (dropping name ys)) e (places-n n e);
+                sound = sound-dropping name (g .nodeCount) xs (h .store .sound);
+                fits = h .store .fits;
+              };
+            },
+            refl,
+          )
+
+pub call-told : (l : Room) (s : State) (p : Plain) (c : Call) → Agrees l s p → Matched (Agrees l) (callStep s c) (plainStep l p c)
 call-told l s p (opening n) h = opening-told l s p h n
-call-told l s p (batch n xs out) h = batch-told l s p h n xs out
+call-told l s p (batch n cs out) h = batch-told l s p h n cs out
+call-told l s p (keep n name) h = keep-told l s p h n name
+call-told l s p (restore n name) h = restore-told l s p h n name
+call-told l s p (drop n name) h = drop-told l s p h n name
 
 -- the first call, an opening that is done
-first-told : (s : State) (p : Plain) (n : ℕ) → callStep s (opening n) .outcome .result ≡ 0 → Matched (Agrees (lengths (s .tables))) (callStep s (opening n)) (plainStep (lengths (s .tables)) p (opening n))
+opened-none : (s : State) (n : ℕ) → callStep s (opening n) .outcome .result ≡ 0 → firstOf (openWhy (roomOf s) n) ≡ 0
+unfolding callStep openCall openReasons
+opened-none s n ok = sym (judged-result (λ (o : Opened). o .result) (openWhy (roomOf s) n) (openRefused (s .tables) (s .store)) (record { result = 0; tables = tablesOf (emptyGraph n); store = storeOf n noStates }) (λ r. refl) refl) ∙ ok
+
+first-told : (s : State) (p : Plain) (n : ℕ) → callStep s (opening n) .outcome .result ≡ 0 → Matched (Agrees (roomOf s)) (callStep s (opening n)) (plainStep (roomOf s) p (opening n))
 unfolding callStep plainStep openCall openReasons
 first-told s p n ok =
-    let l : Lengths = lengths (s .tables) in
-    let rs : Reasons = (wrongSize n l, 11) ∷ [] in
-    let z : firstOf rs ≡ 0 = sym (judged-result (λ (o : Opened). o .result) rs (openRefused (s .tables)) (record { result = 0; tables = tablesOf (emptyGraph n) }) (λ r. refl) refl) ∙ ok in
-    judged-related (λ o x. Matched (Agrees l) (openStep o) x)
-    rs rs (openRefused (s .tables)) (plainRefused p []) _ _ refl
-    (λ d. absurd (d z))
-    (λ d. (record { tables = opening-kept n l d }, refl))
+    judged-related (λ o x. Matched (Agrees (roomOf s)) (openStep o) x)
+    (openWhy (roomOf s) n) (openWhy (roomOf s) n) (openRefused (s .tables) (s .store)) (plainRefused p []) _ _ refl
+    (λ d. absurd (d (opened-none s n ok)))
+    (λ d. (opening-agrees n (roomOf s) d, refl))
+
+-- its n is right for the tables
+pub opened-size : (s : State) (n : ℕ) → callStep s (opening n) .outcome .result ≡ 0 → wrongSize n (lengths (s .tables)) ≡ false
+unfolding callStep openCall openReasons
+opened-size s n ok = or-none (wrongSize n (lengths (s .tables))) _ (first-none _ 11 [] refl (opened-none s n ok) .0) .0
+
+-- calls one after the other
+pub run-told : (l : Room) (cs : List Call) (s : State) (p : Plain) → Agrees l s p → Matched (Agrees l) (run callStep s cs) (run (plainStep l) p cs)
+run-told l = run-matched (Agrees l) callStep (plainStep l) (λ x p c. call-told l x p c)
 
 -- a whole history
-pub history-told : (s : State) (n : ℕ) (cs : List Call) → callStep s (opening n) .outcome .result ≡ 0 → Matched (Agrees (lengths (s .tables))) (history s n cs) (plain s n cs)
+pub history-told : (s : State) (n : ℕ) (cs : List Call) → callStep s (opening n) .outcome .result ≡ 0 → Matched (Agrees (roomOf s)) (history s n cs) (plain s n cs)
 unfolding run
 history-told s n cs ok =
-    let l : Lengths = lengths (s .tables) in
     let k = first-told s unopened n ok in
-    let m = run-matched (Agrees l) callStep (plainStep l) (λ x p c. call-told l x p c) cs (callStep s (opening n) .after) (plainStep l unopened (opening n) .after) (k .0) in
+    let m = run-told (roomOf s) cs (callStep s (opening n) .after) (plainStep (roomOf s) unopened (opening n) .after) (k .0) in
     (m .0, ap₂ _∷_ (k .1) (m .1))
+
+-- what is kept under a name stays there through calls that spare it
+module _ (l : Room) (t : List ℕ) (g : Graph) where
+  abbrev Stays : Stepped Plain Outcome → Type 0
+  Stays x = Under t g (x .after .places)
+
+  stay : (p : Plain) (c : Call) → spares t c ≡ true → Under t g (p .places) → Stays (plainStep l p c)
+  unfolding plainStep
+  stay p (opening n) z u = differ z refl
+  stay p (batch n cs out) z u = judged-keeps Stays (batchWhy l n cs out) (plainRefused p out) _ u (λ ok. u)
+  stay p (keep n name) z u = judged-keeps Stays (keepWhy l (p .places) n name) (plainRefused p []) _ u (λ ok. keeping-other name (p .graph) t g (p .places) (first-none (isKept name (p .places)) 22 _ refl (first-none _ 11 _ refl ok .1) .0) u)
+  stay p (restore n name) z u = judged-keeps Stays (restoreWhy l (p .places) n name) (plainRefused p []) _ u (λ ok. u)
+  stay p (drop n name) z u = judged-keeps Stays (dropWhy l (p .places) n name) (plainRefused p []) _ u (λ ok. dropping-other name t g (not-true _ z) (p .places) u)
+
+  pub stays : (cs : List Call) (p : Plain) → spare t cs ≡ true → Under t g (p .places) → Under t g (run (plainStep l) p cs .after .places)
+  unfolding run spare
+  stays [] p z u = u
+  stays (c ∷ cs) p z u = stays cs (plainStep l p c .after) (and-snd (spares t c) _ z) (stay p c (and-fst (spares t c) _ z) u)
+
+-- a return, in a history for n
+module _ (n : ℕ) (l : Room) (w : wrongSize n (l .tables) ≡ false) (a : State) (p : Plain) (h : Agrees l a p) (name : List ℕ) (cs : List Call) (z : spare name cs ≡ true) where
+  places-told : (b : State) (q : Plain) → Agrees l b q → placesIn n (b .store) ≡ q .places
+  places-told b q k = places-n l b q k n (by-tables l b q k n w)
+
+  pub name-stays : isKept name (placesIn n (a .store)) ≡ true
+      → (isKept name (placesIn n (run callStep a cs .after .store)) ≡ true)
+      × (keptGraph name (placesIn n (run callStep a cs .after .store)) ≡ keptGraph name (placesIn n (a .store)))
+  name-stays k =
+      let e = places-told a p h in
+      let f = places-told _ _ (run-told l cs a p h .0) in
+      let u = stays l name (keptGraph name (p .places)) cs p z (record { name = ap (isKept name) (sym e) ∙ k; graph = refl }) in
+      (ap (isKept name) f ∙ u .name, ap (keptGraph name) f ∙ u .graph ∙ sym (ap (keptGraph name) e))
+
+  module _ (ok : callStep a (keep n name) .outcome .result ≡ 0) where
+    abbrev done : Stepped Plain Outcome
+    done = record { outcome = number 0; after = record { graph = p .graph; places = keeping name (p .graph) (p .places) } }
+
+    k : Matched (Agrees l) (callStep a (keep n name)) (plainStep l p (keep n name))
+    k = keep-told l a p h n name
+
+    none : firstOf (keepWhy l (p .places) n name) ≡ 0
+    unfolding plainStep
+    none = sym (judged-result (λ (x : Stepped Plain Outcome). x .outcome .result) (keepWhy l (p .places) n name) (plainRefused p []) done (λ r. refl) refl) ∙ sym (ap (λ (o : Outcome). o .result) (k .1)) ∙ ok
+
+    right : wrongName n (l .store) name ≡ false
+    right = or-none (wrongSize n (l .tables)) _ (first-none _ 11 _ refl none .0) .1
+
+    kept-plain : plainStep l p (keep n name) ≡ done
+    unfolding plainStep
+    kept-plain = judged-done (keepWhy l (p .places) n name) (plainRefused p []) done none
+
+    under : Under name (p .graph) (plainStep l p (keep n name) .after .places)
+    under =
+        let b = first-none (isKept name (p .places)) 22 _ refl (first-none _ 11 _ refl none .1) in
+        rw kept-plain (keeping-new name (p .graph) (p .places) (b .0) (first-none (isFull (p .places)) 23 _ refl (b .1) .0))
+
+    abbrev b : State
+    b = run callStep (callStep a (keep n name) .after) cs .after
+
+    abbrev q : Plain
+    q = run (plainStep l) (plainStep l p (keep n name) .after) cs .after
+
+    m : Agrees l b q
+    m = run-told l cs (callStep a (keep n name) .after) (plainStep l p (keep n name) .after) (k .0) .0
+
+    u : Under name (p .graph) (q .places)
+    u = stays l name (p .graph) cs (plainStep l p (keep n name) .after) z under
+
+    back-plain : plainStep l q (restore n name) ≡ record { outcome = number 0; after = record { graph = keptGraph name (q .places); places = q .places } }
+    unfolding plainStep firstOf
+    back-plain = judged-done (restoreWhy l (q .places) n name) (plainRefused q []) (record { outcome = number 0; after = record { graph = keptGraph name (q .places); places = q .places } }) (rw (w, right, u .name))
+
+    r : Matched (Agrees l) (callStep b (restore n name)) (plainStep l q (restore n name))
+    r = restore-told l b q m n name
+
+    told : callStep b (restore n name) .outcome ≡ number 0
+    told = r .1 ∙ ap (λ (x : Stepped Plain Outcome). x .outcome) back-plain
+
+    tables : callStep b (restore n name) .after .tables ≡ a .tables
+    tables = r .0 .tables .tables ∙ ap (λ (x : Stepped Plain Outcome). tablesOf (x .after .graph)) back-plain ∙ ap tablesOf (u .graph) ∙ sym (h .tables .tables)
+
+    pub returned : callStep b (restore n name) ≡ record { outcome = number 0; after = record { tables = a .tables; store = b .store } }
+    unfolding callStep
+    returned = λ i. record { outcome = told i; after = record { tables = tables i; store = b .store } }

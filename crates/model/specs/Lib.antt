@@ -3,6 +3,7 @@ pub mod Graph
 pub mod Grouping
 pub mod Summary
 pub mod Tables
+pub mod Store
 pub mod Refusals
 pub mod Steps
 pub mod Updates
@@ -25,6 +26,7 @@ pub mod SummaryLaws
 pub mod GroupDistanceLaws
 pub mod FewestLaws
 pub mod TableLaws
+pub mod StoreLaws
 pub mod ReleaseLaws
 pub mod BoundLaws
 pub mod UpdateLaws

@@ -1,5 +1,5 @@
 -- What is judged: the first reason that holds decides, and two that are judged alike are related if each case is.
-use mathlib.Core.Path.{_≡_, refl, sym, _∙_}
+use mathlib.Core.Path.{_≡_, refl, sym, ap, _∙_}
 use mathlib.Core.Bool.{Bool, true, false}
 use mathlib.Core.List.{[], _∷_, map}
 use mathlib.Core.Logic.{_⊎_, inl, inr}
@@ -30,6 +30,13 @@ module _ {A : Type 0} (rs : Reasons) (refused : ℕ → A) (done : A) where
   pub judged-refused : (firstOf rs ≡ 0 → ⊥) → judged rs refused done ≡ refused (firstOf rs)
   judged-refused h = rw (ne-eqb (firstOf rs) 0 h)
 
+-- a call that is refused by r, or done
+pub call-refused : {A : Type 0} (rs : Reasons) (refused : ℕ → A) (done : A) (r : ℕ) → firstOf rs ≡ r → (r ≡ 0 → ⊥) → refused r ≡ judged rs refused done
+call-refused rs refused done r e d = ap refused (sym e) ∙ sym (judged-refused rs refused done (λ z. d (sym e ∙ z)))
+
+pub call-done : {A : Type 0} (rs : Reasons) (refused : ℕ → A) (done : A) → firstOf rs ≡ 0 → done ≡ judged rs refused done
+call-done rs refused done e = sym (judged-done rs refused done e)
+
 -- two that are judged for the same first reason
 pub judged-related : {A B : Type 0} (R : A → B → Type 0) (rs qs : Reasons) (refused : ℕ → A) (refused′ : ℕ → B) (done : A) (done′ : B) → firstOf rs ≡ firstOf qs
     → ((firstOf qs ≡ 0 → ⊥) → R (refused (firstOf qs)) (refused′ (firstOf qs))) → (firstOf qs ≡ 0 → R done done′) → R (judged rs refused done) (judged qs refused′ done′)
@@ -39,6 +46,10 @@ judged-related R rs qs refused refused′ done done′ e refuses ok = rw e (step
     step (inl t) = rw t (ok (eqb-true (firstOf qs) 0 t))
     step (inr t) = rw t (refuses (eqb-false (firstOf qs) 0 t))
 
+-- what holds of both cases
+pub judged-keeps : {A : Type 0} (P : A → Type 0) (rs : Reasons) (refused : ℕ → A) (done : A) → P (refused (firstOf rs)) → (firstOf rs ≡ 0 → P done) → P (judged rs refused done)
+judged-keeps P rs refused done k d = judged-related (λ x y. P x) rs rs refused refused done done refl (λ z. k) d
+
 -- the number of what is judged
 pub judged-result : {A : Type 0} (result : A → ℕ) (rs : Reasons) (refused : ℕ → A) (done : A) → ((r : ℕ) → result (refused r) ≡ r) → result done ≡ 0 → result (judged rs refused done) ≡ firstOf rs
-judged-result result rs refused done k d = judged-related (λ x y. result x ≡ firstOf rs) rs rs refused refused done done refl (λ z. k (firstOf rs)) (λ z. d ∙ sym z)
+judged-result result rs refused done k d = judged-keeps (λ x. result x ≡ firstOf rs) rs refused done (k (firstOf rs)) (λ z. d ∙ sym z)

@@ -13,7 +13,7 @@ use borrow.Author.Tests.{eqb-true, eq-eqb, ne-eqb, ltb-true, ltb-false, not-true
 use Rattle.model.specs.Lists.{_∈_, all, concat, filter, from, nodes, sameList}
 use Rattle.model.specs.Graph.{Graph, Proper, View, maxNodes, whole}
 use Rattle.model.specs.Grouping.{algorithm1, closedKey, group, leaders, least, openKey, similar}
-use Rattle.model.specs.Tables.{Tables, bitAt, edgeBit, edgesOf, graphOf, groupIn, groupsIn, holds, keyPair, keysOf, nodeNumber, nodeOf, nodesOf, rowOf, simple, tablesOf, word}
+use Rattle.model.specs.Tables.{Tables, bitAt, edgeBit, edgesIn, edgesOf, graphOf, groupIn, groupsIn, holds, keyPair, keysOf, markedGraph, nodeNumber, nodeOf, nodesOf, rowOf, simple, tablesOf, word}
 use Rattle.model.specs.TestLaws.{and-fst, and-snd, and-true, beq-eq, decide, eq-beq, iff-eq}
 use Rattle.model.specs.ListLaws.{Ascending, all-elim, all-intro, filter-cong, length-from, nodes-ascending, nodes-in, nodes-out, same-eq, same-refl}
 use Rattle.model.specs.TwinLaws.{Simple}
@@ -81,10 +81,10 @@ pub length-nodes : (n : ℕ) → length (nodes n) ≡ n
 unfolding nodes
 length-nodes n = length-from 0 n
 
-getD-map-at : (f : ℕ → ℕ) (l : List ℕ) (i : ℕ) → i < length l → getD (map f l) i 0 ≡ f (getD l i 0)
-getD-map-at f [] i h = absurd (omega arith)
-getD-map-at f (x ∷ xs) zero h = refl
-getD-map-at f (x ∷ xs) (suc i) h = getD-map-at f xs i (omega arith)
+pub getD-map-at : {A : Type 0} (f : ℕ → A) (d : A) (l : List ℕ) (i : ℕ) → i < length l → getD (map f l) i d ≡ f (getD l i 0)
+getD-map-at f d [] i h = absurd (omega arith)
+getD-map-at f d (x ∷ xs) zero h = refl
+getD-map-at f d (x ∷ xs) (suc i) h = getD-map-at f d xs i (omega arith)
 
 pub length-row : (b : Graph) (p : ℕ) → length (rowOf b p) ≡ 8
 unfolding rowOf nodes from
@@ -92,7 +92,7 @@ length-row b p = refl
 
 pub row-at : (b : Graph) (p w : ℕ) → w < 8 → getD (rowOf b p) w 0 ≡ word 64 (λ i. b .edge p (64 * w + i))
 unfolding rowOf
-row-at b p w h = getD-map-at (λ w. word 64 (λ i. b .edge p (64 * w + i))) (nodes 8) w (rw length-nodes h) ∙ ap (λ (w : ℕ). word 64 (λ i. b .edge p (64 * w + i))) (getD-nodes 8 w h)
+row-at b p w h = getD-map-at (λ w. word 64 (λ i. b .edge p (64 * w + i))) 0 (nodes 8) w (rw length-nodes h) ∙ ap (λ (w : ℕ). word 64 (λ i. b .edge p (64 * w + i))) (getD-nodes 8 w h)
 
 pub edge-bit : (b : Graph) (p q : ℕ) → p < b .nodeCount → q < 512 → edgeBit (edgesOf b) p q ≡ b .edge p q
 unfolding edgeBit edgesOf
@@ -130,17 +130,25 @@ module _ (b : Graph) (h : Proper b) where
       step (inl x) (inr y) = rw (x, y) (outside (λ t. omega (arith, h .inside q p (h .symmetric q p ∙ t), ltb-false q (b .nodeCount) y)))
       step (inr x) y = rw x (outside (λ t. omega (arith, h .inside p q t, ltb-false p (b .nodeCount) x)))
 
-  back-hidden : (p : ℕ) → (ltb p (b .nodeCount) && eqb (nodeNumber (nodesOf b) p 3) 1) ≡ b .hidden p
-  back-hidden p = step (decide (ltb p (b .nodeCount))) (decide (b .hidden p))
+  back-hidden : (mark : ℕ → ℕ) → ((p : ℕ) → p < b .nodeCount → mark p ≡ cond (b .hidden p) 1 0) → (p : ℕ) → (ltb p (b .nodeCount) && eqb (mark p) 1) ≡ b .hidden p
+  back-hidden mark told p = step (decide (ltb p (b .nodeCount))) (decide (b .hidden p))
     where
-      step : (ltb p (b .nodeCount) ≡ true) ⊎ (ltb p (b .nodeCount) ≡ false) → (b .hidden p ≡ true) ⊎ (b .hidden p ≡ false) → (ltb p (b .nodeCount) && eqb (nodeNumber (nodesOf b) p 3) 1) ≡ b .hidden p
-      step (inl x) y = rw (x, mark-at b p (ltb-true p (b .nodeCount) x)) (mark-test (b .hidden p))
+      step : (ltb p (b .nodeCount) ≡ true) ⊎ (ltb p (b .nodeCount) ≡ false) → (b .hidden p ≡ true) ⊎ (b .hidden p ≡ false) → (ltb p (b .nodeCount) && eqb (mark p) 1) ≡ b .hidden p
+      step (inl x) y = rw (x, told p (ltb-true p (b .nodeCount) x)) (mark-test (b .hidden p))
       step (inr x) (inl y) = absurd (omega (arith, h .held p y, ltb-false p (b .nodeCount) x))
       step (inr x) (inr y) = rw (x, y)
 
+  pub edges-in : edgesIn (b .nodeCount) (edgesOf b) ≡ b .edge
+  unfolding edgesIn
+  edges-in = fun-ext (λ p. fun-ext (back-edge p))
+
   pub read-back : graphOf (b .nodeCount) (tablesOf b) ≡ b
   unfolding graphOf tablesOf
-  read-back = λ i. record { nodeCount = b .nodeCount; edge = fun-ext (λ p. fun-ext (back-edge p)) i; hidden = fun-ext back-hidden i }
+  read-back = λ i. record { nodeCount = b .nodeCount; edge = edges-in i; hidden = fun-ext (back-hidden (λ p. nodeNumber (nodesOf b) p 3) (mark-at b)) i }
+
+  pub marked-back : (marks : List ℕ) → ((p : ℕ) → p < b .nodeCount → getD marks p 0 ≡ cond (b .hidden p) 1 0) → markedGraph (b .nodeCount) (edgesOf b) marks ≡ b
+  unfolding markedGraph
+  marked-back marks told = λ i. record { nodeCount = b .nodeCount; edge = edges-in i; hidden = fun-ext (back-hidden (λ p. getD marks p 0) told) i }
 
 pub length-edges : (b : Graph) → length (edgesOf b) ≡ 8 * b .nodeCount
 unfolding edgesOf
@@ -205,7 +213,7 @@ module _ (n : ℕ) (t : Tables) (h : holds n t ≡ true) where
       λ i. record { edges = e i; nodes = d i; keys = k i }
 
   pub held-proper : n ≤ maxNodes → Proper (graphOf n t)
-  unfolding holds
+  unfolding holds edgesIn
   held-proper small = simple-proper (graphOf n t) (and-fst (simple (graphOf n t)) _ h) (unfold graphOf in small) ends held
     where
       ends : (p q : ℕ) → graphOf n t .edge p q ≡ true → (p < graphOf n t .nodeCount) × (q < graphOf n t .nodeCount)

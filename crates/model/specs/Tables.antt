@@ -1,5 +1,5 @@
 -- Document 01, "Lent tables": the three tables of a graph, the graph read off tables, and when tables hold a graph.
-use mathlib.Core.Bool.{Bool, not, _&&_, cond, Bool·beq}
+use mathlib.Core.Bool.{Bool, false, not, _&&_, cond, Bool·beq}
 use mathlib.Core.List.{List, [], _∷_, map}
 use Prim.Native.Nat.{ℕ, suc, zero, _+_, _*_, _/_, _%_, _^_}
 use lib.Dec.{eqb, ltb}
@@ -62,13 +62,23 @@ edgeBit t p q = bitAt (getD t (rowWords * p + q / 64) 0) (q % 64)
 unfoldable pub nodeNumber : List ℕ → ℕ → ℕ → ℕ
 nodeNumber t p k = getD t (nodeNumbers * p + k) 0
 
+-- the edges among n nodes that an edge table tells, and the graph that they make with some nodes hidden
+unfoldable pub edgesIn : ℕ → List ℕ → ℕ → ℕ → Bool
+edgesIn n edges p q = ltb p n && (ltb q n && edgeBit edges p q)
+
+abbrev pub graphWith : ℕ → List ℕ → (ℕ → Bool) → Graph
+graphWith n edges hidden = record { nodeCount = n; edge = edgesIn n edges; hidden = hidden }
+
+-- nobody hidden; hidden by a list of marks (1: hidden)
+abbrev pub graphIn : ℕ → List ℕ → Graph
+graphIn n edges = graphWith n edges (λ p. false)
+
+unfoldable pub markedGraph : ℕ → List ℕ → List ℕ → Graph
+markedGraph n edges marks = graphWith n edges (λ p. ltb p n && eqb (getD marks p 0) 1)
+
 -- the graph of n nodes that tables are read as: by edge bits and marks
 unfoldable pub graphOf : ℕ → Tables → Graph
-graphOf n t = record {
-  nodeCount = n;
-  edge = λ p q. ltb p n && (ltb q n && edgeBit (t .edges) p q);
-  hidden = λ p. ltb p n && eqb (nodeNumber (t .nodes) p 3) 1;
-}
+graphOf n t = graphWith n (t .edges) (λ p. ltb p n && eqb (nodeNumber (t .nodes) p 3) 1)
 
 -- edges are symmetric, and no node has one to itself
 unfoldable pub simple : Graph → Bool

@@ -39,8 +39,3 @@ pub record KeysFilled (i : ℕ) (t after : List ℕ) : Type 0 where
   pub size : length after ≡ length t
   pub opened : (p : ℕ) → p < i → getD after (2 * p) 0 ≡ 0
   pub closed : (p : ℕ) → p < i → getD after (2 * p + 1) 0 ≡ cube p
-
--- the first i words are cleared
-pub record Cleared (i : ℕ) (t after : List ℕ) : Type 0 where
-  pub size : length after ≡ length t
-  pub none : (j : ℕ) → j < i → getD after j 0 ≡ 0

@@ -9,7 +9,7 @@ use native.Mathlib.Nat.{zero-mul}
 use lib.Pow.{pow-pos}
 use native.Mathlib.Decide.{ℕ-discrete}
 use lib.Dec.{eqb, ltb}
-use lib.ListN.{length, getD, set, length-set, List·getD-eq-default}
+use lib.ListN.{length, getD, set, length-replicate, length-set, replicate}
 use lib.Seq.{getD-set-same, getD-set-other, ext-getD}
 use borrow.Author.Tests.{eqb-true, eqb-false, eq-eqb, ne-eqb, ltb-true, ltb-false, lt-ltb, le-ltb}
 use Rattle.model.specs.Lists.{nodes}
@@ -20,13 +20,14 @@ use Rattle.model.specs.TestLaws.{decide}
 use Rattle.model.specs.TwinLaws.{similar-N, falseTwins-by}
 use Rattle.model.specs.UpdateLaws.{proper-empty}
 use Rattle.model.specs.TableLaws.{length-keys}
+use Rattle.buffers.specs.FilledLaws.{getD-zeros}
 use Rattle.rows.specs.BitLaws.{bit-zero}
 use Rattle.rows.specs.Rows.{lent, Words}
 use Rattle.rows.specs.EdgeLaws.{edges-by-bits}
 use Rattle.rows.specs.KeyLaws.{cube-le, keys-at, no-cubes}
 use Rattle.rings.specs.Ring.{up, Best, Table, Of}
 use Rattle.rings.specs.NodesLaws.{is-nodes}
-use Rattle.opening.specs.Open.{ringNext, ringPrev, NodePut, NodesFilled, KeysFilled, Cleared}
+use Rattle.opening.specs.Open.{ringNext, ringPrev, NodePut, NodesFilled, KeysFilled}
 
 -- four stores at node p
 module _ (t : List ℕ) (p x y : ℕ) (fits : nodeNumbers * p + nodeNumbers ≤ length t) where
@@ -81,16 +82,6 @@ filled-more {n} {i} {x} {y} {t} {t₁} {t₂} a ex ey b = record {
     one k p hk f at old h (yes d) = rw d at
     one k p hk f at old h (no d) = b .off p k d hk ∙ old (omega arith)
 
-pub cleared-none : (t : List ℕ) → Cleared 0 t t
-cleared-none t = record { size = refl; none = λ j h. absurd (omega arith) }
-
-pub cleared-more : {i : ℕ} {t t₁ : List ℕ} → Cleared i t t₁ → i < length t → Cleared (i + 1) t (set t₁ i 0)
-cleared-more {i} {t} {t₁} a l = record { size = length-set t₁ i 0 ∙ a .size; none = λ j h. one j h (ℕ-discrete j i) }
-  where
-    one : (j : ℕ) → j < i + 1 → Dec (j ≡ i) → getD (set t₁ i 0) j 0 ≡ 0
-    one j h (yes d) = rw d (getD-set-same t₁ i 0 0 (omega (arith, a .size)))
-    one j h (no d) = getD-set-other t₁ i j 0 0 d ∙ a .none j (omega arith)
-
 pub keys-none : (t : List ℕ) → KeysFilled 0 t t
 keys-none t = record { size = refl; opened = λ p h. absurd (omega arith); closed = λ p h. absurd (omega arith) }
 
@@ -135,9 +126,6 @@ prev-inner n p h = rw (ne-eqb p 0 h)
 -- at the end of the loops
 pub filled-all : {n i : ℕ} {t t₁ : List ℕ} → NodesFilled n i t t₁ → n ≤ i → NodesFilled n n t t₁
 filled-all a h = record { size = a .size; least = λ p l. a .least p (omega arith); next = λ p l. a .next p (omega arith); prev = λ p l. a .prev p (omega arith); mark = λ p l. a .mark p (omega arith) }
-
-pub cleared-all : {n i : ℕ} {t t₁ : List ℕ} → Cleared i t t₁ → n ≤ i → Cleared n t t₁
-cleared-all a h = record { size = a .size; none = λ j l. a .none j (omega arith) }
 
 pub keys-all : {n i : ℕ} {t t₁ : List ℕ} → KeysFilled i t t₁ → n ≤ i → KeysFilled n t t₁
 keys-all a h = record { size = a .size; opened = λ p l. a .opened p (omega arith); closed = λ p l. a .closed p (omega arith) }
@@ -229,22 +217,18 @@ module _ (n : ℕ) (small : n ≤ maxNodes) where
       at : (i : ℕ) → i < length t₁ → getD t₁ i 0 ≡ getD (keysOf g) i 0
       at i h = half i (i % 2) h refl
 
-  pub edges-opened : {t t₁ : List ℕ} → length t ≡ rowWords * n → Cleared (length t) t t₁ → t₁ ≡ edgesOf (emptyGraph n)
+  pub edges-opened : {k : ℕ} {t₁ : List ℕ} → k ≡ rowWords * n → t₁ ≡ replicate k 0 → t₁ ≡ edgesOf (emptyGraph n)
   unfolding emptyGraph edgeBit
-  edges-opened {t} {t₁} l a = edges-by-bits g t₁ (a .size ∙ l) words (λ p q hp hq. ap (λ (x : ℕ). bitAt x (q % 64)) (word (rowWords * p + q / 64)) ∙ bit-zero (q % 64))
+  edges-opened {k} {t₁} l a = edges-by-bits g t₁ (ap length a ∙ length-replicate k 0 ∙ l) words (λ p q hp hq. ap (λ (x : ℕ). bitAt x (q % 64)) (word (rowWords * p + q / 64)) ∙ bit-zero (q % 64))
     where
       word : (i : ℕ) → getD t₁ i 0 ≡ 0
-      word i = side (decide (ltb i (length t)))
-        where
-          side : (ltb i (length t) ≡ true) ⊎ (ltb i (length t) ≡ false) → getD t₁ i 0 ≡ 0
-          side (inl x) = a .none i (ltb-true i (length t) x)
-          side (inr x) = List·getD-eq-default t₁ 0 {n = i} (omega (arith, a .size, ltb-false i (length t) x))
+      word i = ap (λ (s : List ℕ). getD s i 0) a ∙ getD-zeros k i
 
       words : Words t₁
       words i = rw (word i) (pow-pos 64)
 
   -- the three tables of an opening
-  pub tables-opened : {es es₁ ns ns₁ ks ks₁ : List ℕ} → length es ≡ rowWords * n → length ns ≡ nodeNumbers * n → length ks ≡ 2 * n
-      → Cleared (length es) es es₁ → NodesFilled n n ns ns₁ → KeysFilled n ks ks₁ → lent es₁ ns₁ ks₁ ≡ tablesOf (emptyGraph n)
+  pub tables-opened : {k : ℕ} {es₁ ns ns₁ ks ks₁ : List ℕ} → k ≡ rowWords * n → length ns ≡ nodeNumbers * n → length ks ≡ 2 * n
+      → es₁ ≡ replicate k 0 → NodesFilled n n ns ns₁ → KeysFilled n ks ks₁ → lent es₁ ns₁ ks₁ ≡ tablesOf (emptyGraph n)
   unfolding tablesOf
   tables-opened le ln lk a b c = λ i. record { edges = edges-opened le a i; nodes = nodes-opened ln b i; keys = keys-opened lk c i }

@@ -6,16 +6,8 @@ ghost use Rattle.model.specs.Graph.{emptyGraph, maxNodes, nodeNumbers};
 ghost use Rattle.model.specs.Tables.{tablesOf};
 ghost use Rattle.rows.specs.Rows.{lent};
 ghost use Rattle.tables.specs.Lent.{Sized};
-ghost use Rattle.opening.specs.Open.{Cleared, KeysFilled, NodePut, NodesFilled, ringNext, ringPrev};
+ghost use Rattle.opening.specs.Open.{KeysFilled, NodePut, NodesFilled, ringNext, ringPrev};
 use rows::Graph;
-
-fn clear_edges(edges: &mut [u64])
-    ensures { λ _. ⌜ Cleared (length (now (edges .entry))) (now (edges .entry)) (now (edges .exit)) ⌝ }
-{
-    for i in 0..edges.len() {
-        edges[i] = 0;
-    }
-}
 
 // The node after p in the ring of all nodes, and the one before it.
 fn ring_next(n: usize, p: usize) -> u16
@@ -78,7 +70,7 @@ pub fn fill(graph: Graph, edges: &mut [u64], nodes: &mut [u16], keys: &mut [u32]
     ensures { λ _. ⌜ lent (now (edges .exit)) (now (nodes .exit)) (now (keys .exit)) ≡ tablesOf (emptyGraph (graph .n)) ⌝ }
 {
     let n = graph.n;
-    clear_edges(edges);
+    buffers::clear_words(edges);
     fill_nodes(nodes, n);
     fill_keys(keys, n);
 }

@@ -8,6 +8,7 @@ use Rattle.model.specs.Calls.{onto}
 use Rattle.model.specs.Graph.{Graph, emptyGraph, maxNodes, maxUpdates}
 use Rattle.model.specs.Program.{maxBytes}
 use Rattle.model.specs.Release.{release}
+use Rattle.model.specs.Store.{storeWords}
 use Rattle.model.specs.Tables.{Tables}
 use Rattle.model.specs.Updates.{answers, batchGraph, updateNumbers, updatesIn}
 use Rattle.tables.specs.Lent.{Sized}
@@ -22,10 +23,11 @@ pub record WithinLimits (n : ℕ) (xs : List ℕ) : Type 0 where
   pub whole : length xs % updateNumbers ≡ 0
   pub few : length xs ≤ updateNumbers * maxUpdates
 
--- and the tables, the answer buffer and the release buffer are long enough
-pub record Lent (n : ℕ) (t : Tables) (xs : List ℕ) (out : List ℤ) (file : List ℕ) : Type 0 where
+-- and the tables, the store, the answer buffer and the release buffer are long enough
+pub record Lent (n : ℕ) (t : Tables) (s xs : List ℕ) (out : List ℤ) (file : List ℕ) : Type 0 where
   pub small : WithinLimits n xs
   pub sized : Sized n t
+  pub storeRoom : length s ≡ storeWords n
   pub answerRoom : maxUpdates ≤ length out
   pub fileRoom : maxBytes ≤ length file
 

@@ -18,6 +18,10 @@ pub const INPUT_BYTES: usize = text::INPUT_BYTES + 1;
 // The release buffer, which holds every release that 4,096 changes can lead to.
 const FILE_BYTES: usize = 65536;
 
+// The words of a store for the most nodes.
+const STORE_WORDS: usize = 1
+    + places::PLACES * (places::STATE + (Graph::ROW_WORDS + 1) * Graph::NODES);
+
 // No output is longer.
 pub const OUTPUT_BYTES: usize = 131072;
 
@@ -35,14 +39,15 @@ fn release_after(
     edges: &mut [u64],
     nodes: &mut [u16],
     keys: &mut [u32],
+    store: &mut [u64],
     batch: &[u16],
     answers: &mut [i16],
     file: &mut [u8],
 ) -> usize
-    requires { ⌜ Lent n (lent (now edges) (now nodes) (now keys)) (now batch) (now answers) (now file) ⌝ }
+    requires { ⌜ Lent n (lent (now edges) (now nodes) (now keys)) (now store) (now batch) (now answers) (now file) ⌝ }
     ensures { λ r. ⌜ Done n (now (batch .entry)) (now (answers .entry)) (now (answers .exit)) (now (file .entry)) (now (file .exit)) r ⌝ }
 {
-    index::open(n, edges, nodes, keys);
+    index::open(n, edges, nodes, keys, store);
     index::apply(n, edges, nodes, keys, batch, answers);
     let written = release::release(n, edges, nodes, keys, file);
     written.bytes as usize
@@ -57,16 +62,19 @@ fn print_accepted(n: usize, batch: &[u16], out: &mut [u8]) -> usize
     let mut edges = [0u64; Graph::NODES * Graph::ROW_WORDS];
     let mut nodes = [0u16; Graph::NODES * Graph::NODE_NUMBERS];
     let mut keys = [0u32; Graph::NODES * 2];
+    let mut store = [0u64; STORE_WORDS];
     let mut answers = [0i16; Graph::UPDATES];
     let mut file = [0u8; FILE_BYTES];
     let words = Graph::ROW_WORDS * n;
     let numbers = Graph::NODE_NUMBERS * n;
     let sums = 2 * n;
+    let kept = places::words(n);
     let bytes = release_after(
         n,
         &mut edges[..words],
         &mut nodes[..numbers],
         &mut keys[..sums],
+        &mut store[..kept],
         batch,
         &mut answers,
         &mut file,

@@ -1,12 +1,10 @@
--- Tables filled from a graph held by its groups, and marks moved between a node table and lists of their own.
+-- Tables filled from a graph held by its groups.
 use mathlib.Core.Path.{_≡_}
 use mathlib.Core.Bool.{cond}
 use mathlib.Core.List.{List}
-use Prim.Native.Nat.{ℕ, _<_}
+use Prim.Native.Nat.{ℕ}
 use lib.Dec.{eqb}
-use lib.ListN.{length, getD}
-use Rattle.model.specs.Tables.{edgesOf, keysOf, nodeNumber}
-use Rattle.search.specs.Search.{graphIn}
+use Rattle.model.specs.Tables.{edgesOf, graphIn, keysOf}
 use Rattle.keys.specs.KeySums.{LeastTold}
 use Rattle.rows.specs.Rows.{noNode}
 use Rattle.compressed.specs.Compressed.{unfolded}
@@ -17,16 +15,6 @@ use Rattle.judging.specs.Judging.{Exact}
 -- the mark of a node by its first member: a node of no group is hidden
 unfoldable pub markFor : ℕ → ℕ
 markFor first = cond (eqb first noNode) 1 0
-
--- the first i marks are put into the node table
-pub record MarksPut (i : ℕ) (least t after : List ℕ) : Type 0 where
-  pub size : length after ≡ length t
-  pub marks : (p : ℕ) → p < i → nodeNumber after p 3 ≡ markFor (getD least p 0)
-
--- the first i marks are taken from the node table
-pub record MarksTaken (i : ℕ) (nodes t after : List ℕ) : Type 0 where
-  pub size : length after ≡ length t
-  pub marks : (p : ℕ) → p < i → getD after p 0 ≡ nodeNumber nodes p 3
 
 -- the edge table of a graph held by its groups, with their sums of cubes
 pub record SumsFilled (n : ℕ) (first kinds sums edges : List ℕ) : Type 0 where

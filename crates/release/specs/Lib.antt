@@ -1,5 +1,4 @@
 pub mod Fill
-pub mod FillLaws
 pub mod Release
 pub mod TableLaws
 pub mod ReleaseLaws

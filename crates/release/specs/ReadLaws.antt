@@ -15,9 +15,9 @@ use Rattle.model.specs.Release.{isVisible, visible}
 use Rattle.model.specs.Reading.{decode, isRelease}
 use Rattle.model.specs.Queries.{leaderIn, neighbours}
 use Rattle.model.specs.Distance.{distance}
-use Rattle.model.specs.Calls.{openRefused, readReasons, readCall, fileDistanceReasons, fileDistanceCall, fileNeighboursReasons, fileNeighboursCall}
+use Rattle.model.specs.Calls.{fillRefused, readReasons, readCall, fileDistanceReasons, fileDistanceCall, fileNeighboursReasons, fileNeighboursCall}
 use Rattle.model.specs.TestLaws.{and-fst, and-snd}
-use Rattle.model.specs.RefusalLaws.{first-none}
+use Rattle.model.specs.RefusalLaws.{call-refused, first-none}
 use Rattle.reader.specs.declared.Decoded.{Decoded}
 use Rattle.reader.specs.declared.Decoded.the-variants as answer
 use Rattle.rows.specs.Rows.{noNode}
@@ -26,8 +26,7 @@ use Rattle.compressed.specs.PlacedLaws.{placed-visible}
 use Rattle.unfolding.specs.Unfolding.{NeighbourRow}
 use Rattle.queries.specs.Query.{Reaches, leaderAt, listed, rowNodes, rowTold}
 use Rattle.queries.specs.QueryLaws.{row-reached, row-told}
-use Rattle.index.specs.Index.{opened}
-use Rattle.index.specs.IndexLaws.{call-refused}
+use Rattle.tables.specs.Lent.{filled}
 use Rattle.reader.specs.Decoding.{isFew}
 use Rattle.sums.specs.Sums.{Cubed}
 use Rattle.sums.specs.Joined.{JoinedSummed}
@@ -50,7 +49,7 @@ module _ {s first kinds joined sums : List ℕ} {r : Decoded} (j : Judged s firs
 
 -- read
 module _ (n : ℕ) (t : Tables) (s : List ℕ) (f : Bool) (e : f ≡ not (wrongSize n (lengths t))) where
-  pub read-size : f ≡ false → opened 11 t ≡ readCall n t s
+  pub read-size : f ≡ false → filled 11 t ≡ readCall n t s
   unfolding readCall readReasons firstOf
   read-size z = rw (not-false (wrongSize n (lengths t)) (sym e ∙ z))
 
@@ -59,26 +58,26 @@ module _ (n : ℕ) (t : Tables) (s : List ℕ) (f : Bool) (e : f ≡ not (wrongS
     right = not-true (wrongSize n (lengths t)) (sym e ∙ fits)
 
     -- refused by the number of its case
-    read-refused : (k : ℕ) → readNumber n r ≡ k → k ≢ 0 → opened k t ≡ readCall n t s
+    read-refused : (k : ℕ) → readNumber n r ≡ k → k ≢ 0 → filled k t ≡ readCall n t s
     unfolding readCall
-    read-refused k z d = call-refused (readReasons n t s) (openRefused t) _ k (number ∙ sym (j .read n) ∙ z) d
+    read-refused k z d = call-refused (readReasons n t s) (fillRefused t) _ k (number ∙ sym (j .read n) ∙ z) d
       where
         number : firstOf (readReasons n t s) ≡ firstOf ((not (isRelease s), 19) ∷ (not (eqb (decode s .nodeCount) n), 20) ∷ [])
         number = unfold readReasons firstOf in rw right
 
-    pub read-none : r ≡ answer.NoRelease → opened 19 t ≡ readCall n t s
+    pub read-none : r ≡ answer.NoRelease → filled 19 t ≡ readCall n t s
     read-none z = read-refused 19 (ap (readNumber n) z ∙ unfold readNumber in refl) (omega arith)
 
     -- the number of nodes that the file is for
     count : (m : ℕ) → r ≡ answer.Graph m → decode s .nodeCount ≡ m
     count m z = sym (ap (λ (g : Graph). g .nodeCount) (j .graph m z)) ∙ unfold unfolded in refl
 
-    pub read-other : (m : ℕ) → r ≡ answer.Graph m → m ≢ n → opened 20 t ≡ readCall n t s
+    pub read-other : (m : ℕ) → r ≡ answer.Graph m → m ≢ n → filled 20 t ≡ readCall n t s
     read-other m z d = read-refused 20 (ap (readNumber n) z ∙ unfold readNumber in rw (ne-eqb m n d)) (omega arith)
 
-    pub read-done : (m : ℕ) → r ≡ answer.Graph m → m ≡ n → {t₁ : Tables} → t₁ ≡ tablesOf (unfolded n first kinds joined) → opened 0 t₁ ≡ readCall n t s
+    pub read-done : (m : ℕ) → r ≡ answer.Graph m → m ≡ n → {t₁ : Tables} → t₁ ≡ tablesOf (unfolded n first kinds joined) → filled 0 t₁ ≡ readCall n t s
     unfolding readCall readReasons firstOf
-    read-done m z d w = rw (right, passed j m z, eq-eqb (decode s .nodeCount) n (count m z ∙ d)) (ap (opened 0) (w ∙ ap tablesOf (ap (λ (k : ℕ). unfolded k first kinds joined) (sym d) ∙ j .graph m z)))
+    read-done m z d w = rw (right, passed j m z, eq-eqb (decode s .nodeCount) n (count m z ∙ d)) (ap (filled 0) (w ∙ ap tablesOf (ap (λ (k : ℕ). unfolded k first kinds joined) (sym d) ∙ j .graph m z)))
 
 -- whether a node is in a group, as it is looked up
 module _ (n : ℕ) (first : List ℕ) (p : ℕ) where

@@ -10,22 +10,21 @@ use lib.ListN.{length, getD, take}
 use lib.Seq.{length-take-le}
 use borrow.Author.Tests.{ltb-true, lt-ltb}
 use Rattle.model.specs.Graph.{Graph, rowWords}
-use Rattle.model.specs.Tables.{Tables, graphOf, edgeBit, nodeNumber}
+use Rattle.model.specs.Tables.{Tables, graphOf, edgeBit, nodeNumber, edgesIn, markedGraph}
 use Rattle.model.specs.Refusals.{Reasons, firstOf}
 use Rattle.model.specs.Release.{isVisible, release, visible, visibleEdge}
 use Rattle.model.specs.Calls.{released, releaseReasons, releaseRefused, releaseCall}
 use Rattle.model.specs.TestLaws.{decide}
+use Rattle.buffers.specs.Filled.{Filled}
 use Rattle.tables.specs.Lent.{tableReasons, Held}
-use Rattle.index.specs.IndexLaws.{call-refused, call-done}
 use Rattle.tables.specs.LentLaws.{table-refused, table-rest, held-sized}
-use Rattle.search.specs.Search.{edgesIn}
-use Rattle.masking.specs.Masking.{Drawn, markedGraph}
+use Rattle.masking.specs.Masking.{Drawn}
 use Rattle.layout.specs.File.{Partition, writtenFile}
 use Rattle.layout.specs.Truth.{Truth}
 use Rattle.layout.specs.TruthLaws.{truth-partition, written-is}
 use Rattle.model.specs.ReadBackLaws.{visible-inside}
+use Rattle.model.specs.RefusalLaws.{call-done, call-refused}
 use Rattle.release.specs.Release.{told, Marks}
-use Rattle.release.specs.Fill.{MarksTaken}
 
 -- the graph of edges and marks is that of the tables
 pub marks-graph : (n : ℕ) (t : Tables) (hidden : List ℕ) → Marks n (t .nodes) hidden → markedGraph n (t .edges) hidden ≡ graphOf n t
@@ -84,16 +83,16 @@ truth-whole n {edges} hidden {lst} {masked} l t = record {
         inside p q x y = unfold markedGraph edgesIn in rw (lt-ltb p n (below p x), lt-ltb q n (below q y))
 
 -- tables that hold a graph, with their marks apart
-pub drawn-held : {n : ℕ} {t : Tables} {hidden₀ hidden : List ℕ} → Held n t → n ≤ length hidden₀ → MarksTaken n (t .nodes) hidden₀ hidden → Drawn n (t .edges) hidden
+pub drawn-held : {n : ℕ} {t : Tables} {hidden₀ hidden : List ℕ} → Held n t → n ≤ length hidden₀ → Filled (λ p. nodeNumber (t .nodes) p 3) n hidden₀ hidden → Drawn n (t .edges) hidden
 drawn-held {n} {t} {hidden₀} {hidden} h l m =
     let s = held-sized h in
     record { small = s .small; proper = rw (same-graph m) (h .proper); size = s .edges; marked = omega (arith, m .size) }
   where
-    same-graph : MarksTaken n (t .nodes) hidden₀ hidden → markedGraph n (t .edges) hidden ≡ graphOf n t
-    same-graph m = marks-graph n t hidden (record { same = m .marks })
+    same-graph : Filled (λ p. nodeNumber (t .nodes) p 3) n hidden₀ hidden → markedGraph n (t .edges) hidden ≡ graphOf n t
+    same-graph m = marks-graph n t hidden (record { same = m .numbers })
 
-pub taken-graph : (n : ℕ) (t : Tables) {hidden₀ hidden : List ℕ} → MarksTaken n (t .nodes) hidden₀ hidden → markedGraph n (t .edges) hidden ≡ graphOf n t
-taken-graph n t {hidden₀} {hidden} m = marks-graph n t hidden (record { same = m .marks })
+pub taken-graph : (n : ℕ) (t : Tables) {hidden₀ hidden : List ℕ} → Filled (λ p. nodeNumber (t .nodes) p 3) n hidden₀ hidden → markedGraph n (t .edges) hidden ≡ graphOf n t
+taken-graph n t {hidden₀} {hidden} m = marks-graph n t hidden (record { same = m .numbers })
 
 -- the file that is written from such least members
 pub written-told : (g : Graph) (n : ℕ) (lst edges out : List ℕ) → n ≡ g .nodeCount → Truth g lst edges → writtenFile n lst edges out ≡ told g out
@@ -111,7 +110,7 @@ module _ (n : ℕ) (edges hidden : List ℕ) {lst : List ℕ} (w : Truth (marked
   pub visible-parts : Partition n lst edges
   visible-parts = truth-parts (markedGraph n edges hidden) n lst edges same-size w
 
-  pub visible-told : (t : Tables) {hidden₀ : List ℕ} → t .edges ≡ edges → MarksTaken n (t .nodes) hidden₀ hidden → (out : List ℕ) → writtenFile n lst edges out ≡ told (graphOf n t) out
+  pub visible-told : (t : Tables) {hidden₀ : List ℕ} → t .edges ≡ edges → Filled (λ p. nodeNumber (t .nodes) p 3) n hidden₀ hidden → (out : List ℕ) → writtenFile n lst edges out ≡ told (graphOf n t) out
   visible-told t e m out = written-told (markedGraph n edges hidden) n lst edges out same-size w ∙ ap (λ (g : Graph). told g out) (ap (λ (x : List ℕ). markedGraph n x hidden) (sym e) ∙ taken-graph n t m)
 
 -- a prefix that is lent has its length

@@ -4,17 +4,16 @@ ghost use mathlib.Core.Bool.{true};
 ghost use lib.ListN.{length};
 ghost use Prim.Native.Nat.{_*_, _≤_};
 ghost use Rattle.model.specs.Graph.{rowWords};
-ghost use Rattle.model.specs.Tables.{graphOf};
+ghost use Rattle.model.specs.Tables.{graphOf, markedGraph};
 ghost use Rattle.model.specs.Calls.{fileDistanceCall, fileNeighboursCall, readCall, releaseCall};
 ghost use Rattle.rows.specs.Rows.{lent};
-ghost use Rattle.masking.specs.Masking.{Drawn, markedGraph};
+ghost use Rattle.masking.specs.Masking.{Drawn};
 ghost use Rattle.layout.specs.Truth.{Truth};
 ghost use Rattle.writer.specs.Written.{releasedBy};
 ghost use Rattle.compressed.specs.Compressed.{placed, smallNodes};
 ghost use Rattle.reader.specs.Decoding.{BlankRows, nodesIn};
 ghost use Rattle.queries.specs.Query.{listed};
-ghost use Rattle.index.specs.Index.{opened};
-ghost use Rattle.tables.specs.Lent.{Held};
+ghost use Rattle.tables.specs.Lent.{Held, filled};
 ghost use Rattle.release.specs.Release.{measured, told};
 use compressed::SINGLE;
 use compressed::SMALL;
@@ -107,7 +106,7 @@ fn read_with(
     joined: &mut [u64],
 ) -> u16
     requires { ⌜ BlankRows (now file) (now joined) ⌝ }
-    ensures { λ r. ⌜ opened r (lent (now (edges .exit)) (now (nodes .exit)) (now (keys .exit))) ≡ readCall n (lent (now (edges .entry)) (now (nodes .entry)) (now (keys .entry))) (now (file .entry)) ⌝ }
+    ensures { λ r. ⌜ filled r (lent (now (edges .exit)) (now (nodes .exit)) (now (keys .exit))) ≡ readCall n (lent (now (edges .entry)) (now (nodes .entry)) (now (keys .entry))) (now (file .entry)) ⌝ }
 {
     if !tables::right_size(n, edges, nodes, keys) {
         return 11;
@@ -139,7 +138,7 @@ fn read_with(
 
 // A release read back into tables: hidden nodes are those missing, without edges. 0, or 11, 19, 20.
 pub fn read(n: usize, edges: &mut [u64], nodes: &mut [u16], keys: &mut [u32], file: &[u8]) -> u16
-    ensures { λ r. ⌜ opened r (lent (now (edges .exit)) (now (nodes .exit)) (now (keys .exit))) ≡ readCall n (lent (now (edges .entry)) (now (nodes .entry)) (now (keys .entry))) (now (file .entry)) ⌝ }
+    ensures { λ r. ⌜ filled r (lent (now (edges .exit)) (now (nodes .exit)) (now (keys .exit))) ≡ readCall n (lent (now (edges .entry)) (now (nodes .entry)) (now (keys .entry))) (now (file .entry)) ⌝ }
 {
     if is_small(file) {
         let mut joined = [0u64; SMALL * Graph::ROW_WORDS];

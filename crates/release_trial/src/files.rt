@@ -1,5 +1,6 @@
 // The file that the calls are made on: the first bytes of a buffer. Each function gives back how many they are then.
 use trial::say;
+use trial::script::small_byte;
 use trial::script::within;
 
 // The bytes of an open file.
@@ -29,10 +30,6 @@ pub fn load(line: &[u8], file: &mut [u8]) -> usize {
     }
     let end = line.len() - 1;
     load_named(&line[5..end], file)
-}
-
-fn small_byte(x: u64) -> u8 {
-    if x < 256 { x as u8 } else { 255 }
 }
 
 // A byte after the last.

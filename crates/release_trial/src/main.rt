@@ -20,7 +20,7 @@ fn change(command: u8, text: &[u8], line: &[u64; 7], file: &mut [u8], length: us
 }
 
 // Lines that echo, set sizes or change the file.
-fn prepare(command: u8, text: &[u8], line: &[u64; 7], set: &mut [u64; 5], file: &mut [u8]) {
+fn prepare(command: u8, text: &[u8], line: &[u64; 7], set: &mut [u64; 7], file: &mut [u8]) {
     script::echo(command, text);
     sizes::execute(command, line, set);
     let length = within(set[sizes::OWN], file.len());
@@ -63,7 +63,7 @@ fn on_tables(
 fn lend(
     command: u8,
     line: &[u64; 7],
-    set: &[u64; 5],
+    set: &[u64; 7],
     edges: &mut [u64],
     nodes: &mut [u16],
     keys: &mut [u32],
@@ -87,7 +87,7 @@ fn lend(
 // One line.
 fn execute(
     text: &[u8],
-    set: &mut [u64; 5],
+    set: &mut [u64; 7],
     edges: &mut [u64],
     nodes: &mut [u16],
     keys: &mut [u32],
@@ -105,7 +105,7 @@ fn execute(
 // Every line of the script.
 fn run(
     text: &[u8],
-    set: &mut [u64; 5],
+    set: &mut [u64; 7],
     edges: &mut [u64],
     nodes: &mut [u16],
     keys: &mut [u32],
@@ -123,7 +123,7 @@ fn run(
 fn main() {
     let mut text = io::large_buffer();
     let n = io::read_full(0, &mut text);
-    let mut set = [0u64; 5];
+    let mut set = [0u64; 7];
     let mut edges = [7u64; 4104];
     let mut nodes = [7u16; 2052];
     let mut keys = [7u32; 1026];

@@ -138,6 +138,11 @@ pub record Rings (i : ℕ) (lst t : List ℕ) : Type 0 where
   pub least : (p : ℕ) → p < i → nodeNumber t p 0 ≡ getD lst p 0
   pub follows : (p : ℕ) → p < i → Follows i t p
 
+-- the first i marks are those that mark tells
+pub record MarksPut (mark : ℕ → ℕ) (i : ℕ) (t t′ : List ℕ) : Type 0 where
+  pub size : length t′ ≡ length t
+  pub marks : (p : ℕ) → p < i → nodeNumber t′ p 3 ≡ mark p
+
 -- the marks stay
 pub record MarksKept (t t′ : List ℕ) : Type 0 where
   pub marks : (p : ℕ) → nodeNumber t′ p 3 ≡ nodeNumber t p 3

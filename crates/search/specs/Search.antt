@@ -4,22 +4,11 @@ use mathlib.Core.Bool.{Bool, true, false, not, cond, _&&_, _||_}
 use mathlib.Core.List.{List}
 use Prim.Native.Nat.{ℕ, zero, suc, _+_, _*_, _/_, _%_, _^_, _≤_, _<_}
 use lib.Bits.{bitXor}
-use lib.Dec.{eqb, ltb}
+use lib.Dec.{eqb}
 use lib.ListN.{getD, take, drop}
-use Rattle.model.specs.Graph.{Graph, maxNodes, rowWords, whole}
+use Rattle.model.specs.Graph.{maxNodes, rowWords, whole}
 use Rattle.model.specs.Grouping.{similar}
-use Rattle.model.specs.Tables.{edgeBit, edgesOf, keysOf, nodeNumber}
-
--- the edges among n nodes that an edge table tells, and the graph that they make with some nodes hidden
-unfoldable pub edgesIn : ℕ → List ℕ → ℕ → ℕ → Bool
-edgesIn n edges p q = ltb p n && (ltb q n && edgeBit edges p q)
-
-abbrev pub graphWith : ℕ → List ℕ → (ℕ → Bool) → Graph
-graphWith n edges hidden = record { nodeCount = n; edge = edgesIn n edges; hidden = hidden }
-
--- the same with nobody hidden
-abbrev pub graphIn : ℕ → List ℕ → Graph
-graphIn n edges = graphWith n edges (λ p. false)
+use Rattle.model.specs.Tables.{edgesIn, edgesOf, graphIn, keysOf, nodeNumber}
 
 -- an edge table without a bit for a number n or above
 pub record Within (n : ℕ) (edges : List ℕ) : Type 0 where

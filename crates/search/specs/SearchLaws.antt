@@ -12,11 +12,11 @@ use lib.Seq.{getD-drop, getD-take}
 use borrow.Author.Tests.{eqb-true, eqb-false, eq-eqb, ltb-false, ltb-true, ne-eqb, not-false, not-true}
 use Rattle.model.specs.Graph.{Graph, Proper, View, whole}
 use Rattle.model.specs.Grouping.{falseTwins, similar, trueTwins}
-use Rattle.model.specs.Tables.{edgeBit, edgesOf, graphOf, keyPair, keysOf, nodeNumber, rowOf, tablesOf}
+use Rattle.model.specs.Tables.{edgeBit, edgesIn, edgesOf, graphIn, keyPair, keysOf, nodeNumber, rowOf}
 use Rattle.model.specs.TestLaws.{and-fst, and-snd, and-true, decide, differ, iff-eq, or-left, or-none, or-right}
 use Rattle.model.specs.TwinLaws.{similar-N, similar-N+, similar-cases}
-use Rattle.model.specs.TableLaws.{edge-bit, length-edges, length-keys, read-back}
-use Rattle.search.specs.Search.{Passed, Ready, Skipped, Within, edgesIn, firstFrom, graphIn, joins, keyAgrees, keysAgree, mayJoin, meets, ownBit, ownBits, rowIn, tried}
+use Rattle.model.specs.TableLaws.{edges-in, edge-bit, length-edges, length-keys}
+use Rattle.search.specs.Search.{Passed, Ready, Skipped, Within, firstFrom, joins, keyAgrees, keysAgree, mayJoin, meets, ownBit, ownBits, rowIn, tried}
 use Rattle.search.specs.TwinRowLaws.{false-key, false-meet, keys-apart, meet-false, meet-true, true-key, true-meet}
 
 -- the first that passes
@@ -72,6 +72,13 @@ module _ (P : ℕ → Bool) where
   pub skip-one : (from m q : ℕ) → Skipped P from m q → q < m → P q ≡ false → Skipped P from m (q + 1)
   skip-one from m q s l e = (omega arith, omega arith, pass-one from q (s .2) e)
 
+  -- and how it ends
+  pub skip-found : (from m r : ℕ) → Skipped P from m r → r < m → P r ≡ true → r ≡ firstFrom P from (m - from)
+  skip-found from m r s l hit = found-from P (m - from) from r (s .0) (omega arith) (s .2) hit
+
+  pub skip-all : (from m r : ℕ) → Skipped P from m r → m ≤ r → r ≡ firstFrom P from (m - from)
+  skip-all from m r s l = omega (arith, none-from P (m - from) from (λ j a b. s .2 j a (omega arith)))
+
 pub block-more : (keys : List ℕ) (u from q : ℕ) (agree a b : Bool) → (agree ≡ false → Passed (keysAgree keys u) from q) → a ≡ keyAgrees keys 0 u q → b ≡ keyAgrees keys 1 u q
     → ((agree || a) || b) ≡ false → Passed (keysAgree keys u) from (q + 1)
 unfolding keysAgree
@@ -109,7 +116,7 @@ module _ (c : Bool) (u q : ℕ) (row other : List ℕ) where
   pub meets-differ : (i own : ℕ) → i < 8 → own ≡ ownBits c u q i → (bitXor (getD row i 0) (getD other i 0) ≡ own → ⊥) → meets c u q row other 8 ≡ false
   meets-differ i own l e d = meets-not 8 i l (λ h. d (h ∙ sym e))
 
-row-word : (edges : List ℕ) (p k : ℕ) → k < 8 → getD (rowIn edges p) k 0 ≡ getD edges (8 * p + k) 0
+pub row-word : (edges : List ℕ) (p k : ℕ) → k < 8 → getD (rowIn edges p) k 0 ≡ getD edges (8 * p + k) 0
 row-word edges p k l = getD-take 8 (drop (8 * p) edges) k 0 l ∙ getD-drop (8 * p) edges k 0
 
 -- two rows of the table, word by word
@@ -210,11 +217,6 @@ module _ {n : ℕ} {edges : List ℕ} (h : Within n edges) where
 pub row-length : (edges : List ℕ) (p : ℕ) → 8 * p + 8 ≤ length edges → length (take (8 * p + 8 - 8 * p) (drop (8 * p) edges)) ≡ 8
 row-length edges p h = simp (length-take, length-drop) (omega arith)
 
--- tables of a graph are ready, and their edges are its edges
-pub edges-in : (g : Graph) → Proper g → edgesIn (g .nodeCount) (edgesOf g) ≡ g .edge
-unfolding edgesIn graphOf tablesOf
-edges-in g h = ap (λ (x : Graph). x .edge) (read-back g h)
-
 -- edges and keys do not tell who is hidden
 abbrev unhidden : ℕ → (ℕ → ℕ → Bool) → Graph
 unhidden n f = record { nodeCount = n; edge = f; hidden = λ p. false }
@@ -227,6 +229,7 @@ keys-unhidden : (g : Graph) → keysOf g ≡ keysOf (unhidden (g .nodeCount) (g 
 unfolding keysOf keyPair
 keys-unhidden g = refl
 
+-- tables of a graph are ready
 pub ready : (g : Graph) → Proper g → Ready (g .nodeCount) (edgesOf g) (keysOf g)
 ready g h = record {
   small = h .small;

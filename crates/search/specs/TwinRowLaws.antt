@@ -14,12 +14,12 @@ use borrow.Author.Tests.{eqb-true, eqb-false, eq-eqb, ne-eqb, le-ltb, ltb-true, 
 use Rattle.model.specs.Lists.{filter, nodes}
 use Rattle.model.specs.Graph.{View, whole}
 use Rattle.model.specs.Grouping.{closed, cube, falseTwins, sumCubes, trueTwins}
-use Rattle.model.specs.Tables.{bitAt, word}
+use Rattle.model.specs.Tables.{bitAt, word, edgesIn, graphIn}
 use Rattle.model.specs.TestLaws.{decide, differ, iff-eq, or-right}
 use Rattle.model.specs.ListLaws.{nodes-ascending, nodes-in, nodes-out}
 use Rattle.model.specs.TwinLaws.{falseTwins-at, falseTwins-by, trueTwins-at, trueTwins-by}
 use Rattle.model.specs.TableLaws.{bitAt-word}
-use Rattle.search.specs.Search.{Ready, edgesIn, graphIn, keyAgrees, ownBit, ownBits}
+use Rattle.search.specs.Search.{Ready, keyAgrees, ownBit, ownBits}
 use Rattle.rows.specs.BitLaws.{bit-pow, bit-xor, bit-zero, word-bits, word-cong}
 use Rattle.rows.specs.EdgeLaws.{edges-at, edges-words}
 use Rattle.rows.specs.KeyLaws.{cube-le, cubes-cong, cubes-set, keys-at}

@@ -1,12 +1,13 @@
 -- What calls ask of the tables that they are lent.
 use mathlib.Core.Path.{_≡_}
-use mathlib.Core.Bool.{not}
+use mathlib.Core.Bool.{Bool, not}
 use mathlib.Core.List.{_∷_}
 use Prim.Native.Nat.{ℕ, _*_, _≤_}
 use lib.ListN.{length}
 use Rattle.model.specs.Graph.{Proper, maxNodes, rowWords, nodeNumbers}
 use Rattle.model.specs.Tables.{Tables, graphOf, holds, tablesOf}
 use Rattle.model.specs.Refusals.{Reasons, lengths, wrongSize}
+use Rattle.model.specs.Calls.{Filled}
 
 -- n and the lengths are right
 pub record Sized (n : ℕ) (t : Tables) : Type 0 where
@@ -20,6 +21,13 @@ pub record Held (n : ℕ) (t : Tables) : Type 0 where
   pub same : t ≡ tablesOf (graphOf n t)
   pub proper : Proper (graphOf n t)
 
--- the reasons of every call on tables that hold a graph, before its own
+-- the reasons of every call on lent memory, before its own: wrong lengths, and memory that holds nothing
+abbrev pub lentReasons : Bool → Bool → Reasons → Reasons
+lentReasons size none rs = (size, 11) ∷ (none, 12) ∷ rs
+
 abbrev pub tableReasons : ℕ → Tables → Reasons → Reasons
-tableReasons n t rs = (wrongSize n (lengths t), 11) ∷ (not (holds n t), 12) ∷ rs
+tableReasons n t rs = lentReasons (wrongSize n (lengths t)) (not (holds n t)) rs
+
+-- what a call that fills tables returned and left, as the model's record of it
+abbrev pub filled : ℕ → Tables → Filled
+filled r t = record { result = r; tables = t }

@@ -11,7 +11,7 @@ use Rattle.model.specs.Refusals.{Lengths, Reasons, firstOf, lengths, wrongSize}
 use Rattle.model.specs.TableLaws.{held-proper, held-tables, length-edges, length-keys, length-nodes-of}
 use Rattle.model.specs.HistoryLaws.{right-size}
 use Rattle.model.specs.RefusalLaws.{first-none}
-use Rattle.tables.specs.Lent.{Held, Sized, tableReasons}
+use Rattle.tables.specs.Lent.{Held, Sized, lentReasons, tableReasons}
 
 -- the sizes that are then right
 pub sized : (n : ℕ) (t : Tables) (f : Bool) → f ≡ not (wrongSize n (lengths t)) → f ≡ true → Sized n t
@@ -23,40 +23,51 @@ sized n t f e h =
 pub at-n : (m n : ℕ) (l : Lengths) (f : Bool) → m ≡ n → f ≡ not (wrongSize m l) → f ≡ not (wrongSize n l)
 at-n m n l f e h = rw e at h
 
--- 11 and 12
+-- the rest of a call's reasons
+module _ (a b : Bool) (r : ℕ) (e : r ≡ firstOf (lentReasons a b [])) where
+  pub lent-refused : (rs : Reasons) → r ≢ 0 → firstOf (lentReasons a b rs) ≡ r
+  unfolding firstOf
+  lent-refused rs d = step a refl b refl ∙ sym e
+    where
+      step : (x : Bool) → a ≡ x → (y : Bool) → b ≡ y → firstOf (lentReasons a b rs) ≡ firstOf (lentReasons a b [])
+      step true p y q = rw p
+      step false p true q = rw (p, q)
+      step false p false q = absurd (d (e ∙ rw (p, q)))
+
+  module _ (done : r ≡ 0) where
+    pub lent-passed : (a ≡ false) × (b ≡ false)
+    lent-passed = let x = first-none a 11 ((b, 12) ∷ []) refl (sym e ∙ done) in (x .0, first-none b 12 [] refl (x .1) .0)
+
+    pub lent-rest : (rs : Reasons) → firstOf (lentReasons a b rs) ≡ firstOf rs
+    unfolding firstOf
+    lent-rest rs = rw (lent-passed .0, lent-passed .1)
+
+-- 11 and 12, where lengths are wrong and where nothing is held
+pub size-wrong : (wrong none : Bool) (f : Bool) → f ≡ not wrong → f ≡ false → 11 ≡ firstOf (lentReasons wrong none [])
+unfolding firstOf
+size-wrong wrong none f e h = rw (not-false wrong (sym e ∙ h))
+
+module _ (wrong holds : Bool) where
+  pub none-held : (f b : Bool) → f ≡ not wrong → f ≡ true → b ≡ holds → b ≡ false → 12 ≡ firstOf (lentReasons wrong (not holds) [])
+  unfolding firstOf
+  none-held f b e h d k = rw (not-true wrong (sym e ∙ h), sym d ∙ k)
+
+  pub all-held : (f b : Bool) → f ≡ not wrong → f ≡ true → b ≡ holds → b ≡ true → 0 ≡ firstOf (lentReasons wrong (not holds) [])
+  unfolding firstOf
+  all-held f b e h d k = rw (not-true wrong (sym e ∙ h), sym d ∙ k)
+
+-- on tables
 module _ (n : ℕ) (t : Tables) where
-  pub size-wrong : (f : Bool) → f ≡ not (wrongSize n (lengths t)) → f ≡ false → 11 ≡ firstOf (tableReasons n t [])
-  unfolding firstOf
-  size-wrong f e h = rw (not-false (wrongSize n (lengths t)) (sym e ∙ h))
-
-  pub none-held : (f b : Bool) → f ≡ not (wrongSize n (lengths t)) → f ≡ true → b ≡ holds n t → b ≡ false → 12 ≡ firstOf (tableReasons n t [])
-  unfolding firstOf
-  none-held f b e h d k = rw (not-true (wrongSize n (lengths t)) (sym e ∙ h), sym d ∙ k)
-
-  pub graph-held : (f b : Bool) → f ≡ not (wrongSize n (lengths t)) → f ≡ true → b ≡ holds n t → b ≡ true → 0 ≡ firstOf (tableReasons n t [])
-  unfolding firstOf
-  graph-held f b e h d k = rw (not-true (wrongSize n (lengths t)) (sym e ∙ h), sym d ∙ k)
-
-  -- the rest of a call's reasons
   module _ (r : ℕ) (e : r ≡ firstOf (tableReasons n t [])) where
     pub table-refused : (rs : Reasons) → r ≢ 0 → firstOf (tableReasons n t rs) ≡ r
-    unfolding firstOf
-    table-refused rs d = step (wrongSize n (lengths t)) refl (holds n t) refl ∙ sym e
-      where
-        step : (a : Bool) → wrongSize n (lengths t) ≡ a → (b : Bool) → holds n t ≡ b → firstOf (tableReasons n t rs) ≡ firstOf (tableReasons n t [])
-        step true x b y = rw x
-        step false x false y = rw (x, y)
-        step false x true y = absurd (d (e ∙ rw (x, y)))
+    table-refused = lent-refused (wrongSize n (lengths t)) (not (holds n t)) r e
 
     module _ (done : r ≡ 0) where
       facts : (wrongSize n (lengths t) ≡ false) × (holds n t ≡ true)
-      facts =
-          let x = first-none (wrongSize n (lengths t)) 11 ((not (holds n t), 12) ∷ []) refl (sym e ∙ done) in
-          (x .0, not-false _ (first-none (not (holds n t)) 12 [] refl (x .1) .0))
+      facts = let x = lent-passed (wrongSize n (lengths t)) (not (holds n t)) r e done in (x .0, not-false _ (x .1))
 
       pub table-rest : (rs : Reasons) → firstOf (tableReasons n t rs) ≡ firstOf rs
-      unfolding firstOf
-      table-rest rs = rw (facts .0, facts .1)
+      table-rest = lent-rest (wrongSize n (lengths t)) (not (holds n t)) r e done
 
       pub table-sized : Sized n t
       table-sized = sized n t true (sym (ap not (facts .0))) refl

@@ -19,10 +19,11 @@ pub fn code_of(x: i16) -> u64 {
     x as u64
 }
 
-fn fold_edges(h: u64, edges: &[u64]) -> u64 {
+// The low half of each word first.
+pub fn fold_words(h: u64, words: &[u64]) -> u64 {
     let mut d = h;
-    for i in 0..edges.len() {
-        let w = edges[i];
+    for i in 0..words.len() {
+        let w = words[i];
         d = fold(fold(d, w % 4294967296), w / 4294967296);
     }
     d
@@ -72,7 +73,7 @@ pub fn wide_key(x: u32) -> u64 {
     x as u64
 }
 
-// The three tables: edges (low half of each word first), nodes, keys.
+// The three tables: edges, nodes, keys.
 pub fn fold_tables(h: u64, edges: &[u64], nodes: &[u16], keys: &[u32]) -> u64 {
-    fold_keys(fold_numbers(fold_edges(h, edges), nodes), keys)
+    fold_keys(fold_numbers(fold_words(h, edges), nodes), keys)
 }

@@ -29,6 +29,14 @@ fn put_key(keys: &mut [u32], i: u64, x: u64) {
     }
 }
 
+// One word of a store.
+pub fn put_word(store: &mut [u64], i: u64, x: u64) {
+    let at = within(i, store.len());
+    if at < store.len() {
+        store[at] = x;
+    }
+}
+
 // Lines that change the tables behind the index's back.
 pub fn execute(
     command: u8,

@@ -3,6 +3,7 @@ use crate::digest::code_of;
 use crate::digest::fold_answers;
 use crate::digest::fold_numbers;
 use crate::digest::fold_tables;
+use crate::digest::fold_words;
 use crate::digest::wide;
 
 pub fn word(text: &[u8]) {
@@ -33,9 +34,21 @@ pub fn yes_or_no(yes: bool) {
     word(b" no");
 }
 
+fn tables_digest(edges: &[u64], nodes: &[u16], keys: &[u32]) {
+    field(b" tables", fold_tables(0, edges, nodes, keys));
+}
+
 // The digest of the tables, which ends a line.
 pub fn tables(edges: &[u64], nodes: &[u16], keys: &[u32]) {
-    field(b" tables", fold_tables(0, edges, nodes, keys));
+    tables_digest(edges, nodes, keys);
+    feed();
+}
+
+// What a call on tables and a store returned, and their digests.
+pub fn stored(text: &[u8], result: u16, edges: &[u64], nodes: &[u16], keys: &[u32], store: &[u64]) {
+    field(text, wide(result));
+    tables_digest(edges, nodes, keys);
+    field(b" store", fold_words(0, store));
     feed();
 }
 

@@ -84,3 +84,8 @@ pub fn within(x: u64, most: usize) -> usize
 pub fn small(x: u64) -> u16 {
     if x < 65536 { x as u16 } else { 65535 }
 }
+
+// x, or 255 where it is more.
+pub fn small_byte(x: u64) -> u8 {
+    if x < 256 { x as u8 } else { 255 }
+}

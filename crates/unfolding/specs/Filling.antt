@@ -12,11 +12,6 @@ use Rattle.rows.specs.Rows.{leads}
 use Rattle.drawing.specs.Drawing.{rowTo}
 use Rattle.compressed.specs.Compressed.{clique, single}
 
--- the first i words are copied
-pub record Copied (i : ℕ) (from t after : List ℕ) : Type 0 where
-  pub size : length after ≡ length t
-  pub words : (j : ℕ) → j < i → getD after j 0 ≡ getD from j 0
-
 -- the bits for which a key is k, and those for which it is k or more
 unfoldable pub onlyAt : (ℕ → ℕ → ℕ) → (ℕ → ℕ → Bool) → ℕ → ℕ → ℕ → Bool
 onlyAt key f k a b = eqb (key a b) k && f a b

@@ -8,8 +8,7 @@ use native.Mathlib.Omega.{arith}
 use lib.Bits.{bitAnd}
 use lib.Count.{trailingZeros}
 use lib.Dec.{eqb, ltb}
-use lib.ListN.{drop, getD, length, length-set, replicate, set, take}
-use lib.Seq.{getD-set-same, getD-set-other}
+use lib.ListN.{drop, getD, length, replicate, take}
 use borrow.Author.Tests.{eqb-false, eqb-true, eq-eqb, le-ltb, lt-ltb, ltb-false, ltb-true, ne-eqb}
 use Rattle.model.specs.Tables.{bitAt, edgeBit}
 use Rattle.model.specs.TestLaws.{and-fst, and-one, and-snd, decide, differ}
@@ -21,7 +20,6 @@ use Rattle.drawing.specs.DrawingLaws.{added-as, added-none, added-then, adding-
 use Rattle.compressed.specs.Compressed.{Compressed, placed}
 use Rattle.compressed.specs.PlacedLaws.{placed-in}
 use Rattle.unfolding.specs.Filling.{
-  Copied,
   Room,
   RowRoom,
   column,
@@ -39,22 +37,6 @@ use Rattle.unfolding.specs.Filling.{
   restFrom,
   wordOf,
 }
-
--- words copied one after the other
-pub copied-none : (from t : List ℕ) → Copied 0 from t t
-copied-none from t = record { size = refl; words = λ j h. absurd (omega arith) }
-
-pub copied-more : {i x : ℕ} {from t t₁ : List ℕ} → Copied i from t t₁ → i < length t → x ≡ getD from i 0 → Copied (i + 1) from t (set t₁ i x)
-copied-more {i} {x} {from} {t} {t₁} a l e = record { size = length-set t₁ i x ∙ a .size; words = λ j h. one j h (decide (eqb j i)) }
-  where
-    one : (j : ℕ) → j < i + 1 → (eqb j i ≡ true) ⊎ (eqb j i ≡ false) → getD (set t₁ i x) j 0 ≡ getD from j 0
-    one j h (inl s) = rw (eqb-true j i s) (getD-set-same t₁ i x 0 (omega (arith, a .size)) ∙ e)
-    one j h (inr s) =
-        let d : j ≡ i → ⊥ = eqb-false j i s in
-        getD-set-other t₁ i j x 0 d ∙ a .words j (omega arith)
-
-pub copied-all : {n i : ℕ} {from t t₁ : List ℕ} → Copied i from t t₁ → n ≤ i → Copied n from t t₁
-copied-all a h = record { size = a .size; words = λ j l. a .words j (omega arith) }
 
 -- bits matter for the numbers of nodes only
 added-in : {f g : ℕ → ℕ → Bool} {t after : List ℕ} → ((a b : ℕ) → b < 512 → f a b ≡ g a b) → Added f t after → Added g t after

@@ -6,8 +6,8 @@ use mathlib.Core.Logic.{_⊎_, inl, inr}
 use Prim.Native.Nat.{ℕ, _+_, _*_, _/_, _%_, _≤_, _<_}
 use native.Mathlib.Omega.{arith}
 use lib.Dec.{eqb, ltb}
-use lib.ListN.{getD, length, length-set, set}
-use lib.Seq.{getD-set-same, getD-set-other}
+use lib.ListN.{getD, length, length-set, set, take}
+use lib.Seq.{getD-set-same, getD-set-other, getD-take, length-take-le}
 use borrow.Author.Tests.{eqb-false, eqb-true, eq-eqb, le-ltb, lt-ltb, ltb-false, ltb-true, ne-eqb}
 use Rattle.model.specs.Tables.{bitAt, edgeBit, edgesOf}
 use Rattle.model.specs.TestLaws.{decide, differ}
@@ -17,7 +17,7 @@ use Rattle.rows.specs.Rows.{Flipped, Words, leads}
 use Rattle.drawing.specs.Drawing.{Added}
 use Rattle.compressed.specs.Compressed.{Compressed, placed, unfolded, unfoldedEdge}
 use Rattle.compressed.specs.PlacedLaws.{placed-in}
-use Rattle.unfolding.specs.Filling.{Copied, FirstsLead, Followed, Following, RowCopied, drawnBit, followBit, isFollower, reaches}
+use Rattle.unfolding.specs.Filling.{FirstsLead, Followed, Following, RowCopied, drawnBit, followBit, isFollower, reaches}
 
 -- a row copied word by word
 pub row-copied-none : (l p : ℕ) (t : List ℕ) → RowCopied 0 l p t t
@@ -270,10 +270,10 @@ module _ {n : ℕ} {least kinds joined : List ℕ} (c : Compressed n least kinds
         step (inl f) (inl y) (inr u) (inr v) = rw (f, y, u, v, ne-eqb l b (λ e. eqb-false b l u (sym e)), ne-eqb p b (λ e. eqb-false b p v (sym e))) (own-none (eqb (getD kinds l 0) 2))
 
   -- copied, drawn and followed, the table is that of the graph
-  module _ {k : ℕ} {t copied drawn after : List ℕ} (size : length t ≡ 8 * n) (all : k ≡ length t) (x : Copied k joined t copied) (y : Added (drawnBit n least kinds joined) copied drawn) (z : Following least kinds n drawn after) where
+  module _ {k : ℕ} {copied drawn after : List ℕ} (size : k ≡ 8 * n) (x : copied ≡ take k joined) (y : Added (drawnBit n least kinds joined) copied drawn) (z : Following least kinds n drawn after) where
     copied-bit : (a b : ℕ) → a < n → b < 512 → edgeBit copied a b ≡ edgeBit joined a b
     unfolding edgeBit
-    copied-bit a b ha hb = ap (λ (v : ℕ). bitAt v (b % 64)) (x .words (8 * a + b / 64) (omega arith))
+    copied-bit a b ha hb = ap (λ (v : ℕ). bitAt v (b % 64)) (ap (λ (s : List ℕ). getD s (8 * a + b / 64) 0) x ∙ getD-take k joined (8 * a + b / 64) 0 (omega arith))
 
     first-bit : (a b : ℕ) → a < n → b < 512 → a ≤ getD least a 0 → edgeBit drawn a b ≡ (placed n least a && (placed n least b && unfoldedEdge least kinds joined a b))
     first-bit a b ha hb self = y .bits a b hb ∙ ap (λ (v : Bool). v || drawnBit n least kinds joined a b) (copied-bit a b ha hb) ∙ first-row a b ha hb self
@@ -292,4 +292,4 @@ module _ {n : ℕ} {least kinds joined : List ℕ} (c : Compressed n least kinds
 
     pub filled : Words after → after ≡ edgesOf (unfolded n least kinds joined)
     unfolding unfolded
-    filled words = edges-by-bits (unfolded n least kinds joined) after (z .size ∙ y .size ∙ x .size ∙ size) words each-bit
+    filled words = edges-by-bits (unfolded n least kinds joined) after (z .size ∙ y .size ∙ ap length x ∙ length-take-le k joined (omega (arith, c .rows)) ∙ size) words each-bit

@@ -7,7 +7,6 @@ ghost use Rattle.model.specs.Tables.{edgesOf};
 ghost use Rattle.compressed.specs.Compressed.{Compressed, unfolded};
 ghost use Rattle.drawing.specs.Drawing.{Added};
 ghost use Rattle.unfolding.specs.Filling.{
-  Copied,
   Followed,
   Following,
   FirstsLead,
@@ -26,15 +25,6 @@ use compressed::CLIQUE;
 use compressed::SINGLE;
 use compressed::SMALL;
 use rows::Graph;
-
-fn copy_words(from: &[u64], to: &mut [u64])
-    requires { ⌜ length (now to) ≤ length (now from) ⌝ }
-    ensures { λ _. ⌜ Copied (length (now (to .entry))) (now (from .entry)) (now (to .entry)) (now (to .exit)) ⌝ }
-{
-    for i in 0..to.len() {
-        to[i] = from[i];
-    }
-}
 
 // Node p put into the row of its first member, if that is another node.
 fn put_other(least: &[u16], p: usize, members: &mut [u64])
@@ -187,7 +177,7 @@ pub fn fill_edges(least: &[u16], kinds: &[u16], joined: &[u64], n: usize, edges:
     requires { ⌜ Compressed n (now least) (now kinds) (now joined) × (length (now edges) ≡ rowWords * n) ⌝ }
     ensures { λ _. ⌜ now (edges .exit) ≡ edgesOf (unfolded n (now (least .entry)) (now (kinds .entry)) (now (joined .entry))) ⌝ }
 {
-    copy_words(joined, edges);
+    buffers::copy_words(joined, edges);
     draw_groups(least, kinds, joined, n, edges);
     follow_all(least, kinds, n, edges);
 }

@@ -12,7 +12,7 @@ use lib.ListN.{length, getD, set, length-set}
 use lib.Seq.{getD-set-same, getD-set-other, ext-getD}
 use borrow.Author.Tests.{eqb-true, eqb-false, eq-eqb, ne-eqb, ltb-true, lt-ltb, le-ltb, not-false}
 use Rattle.model.specs.Graph.{Graph, Proper, nodeNumbers, whole}
-use Rattle.model.specs.Tables.{Tables, tablesOf, graphOf, edgeBit, nodeNumber, nodesOf, nodeOf, edgesOf, rowOf, keysOf, keyPair, groupIn}
+use Rattle.model.specs.Tables.{Tables, tablesOf, graphOf, edgeBit, nodeNumber, nodesOf, nodeOf, edgesIn, edgesOf, rowOf, keysOf, keyPair, groupIn}
 use Rattle.model.specs.Refusals.{firstOf}
 use Rattle.model.specs.Updates.{Update, onEdge, updateReasons, refusal, updated, answer, groupCount, update, wanted}
 use Rattle.model.specs.Grouping.{algorithm1}
@@ -83,7 +83,7 @@ refusal-other g k u v a b d e = step (decide (ltb 0 k)) (decide (ltb k 5))
 
 -- what the code looks at: a bit of the edge table, a mark of the node table
 edge-told : (n : ℕ) (t : Tables) (u v : ℕ) (insert : Bool) → edgeRefusal n u v insert (edgeBit (t .edges) u v) ≡ edgeRefusal n u v insert (graphOf n t .edge u v)
-unfolding edgeRefusal graphOf
+unfolding edgeRefusal graphOf edgesIn
 edge-told n t u v insert = step (ltb u n) (ltb v n)
   where
     e : Bool

@@ -1,8 +1,10 @@
 -- The invariants: the bits passed are mirrored and their cubes add up to sum; the others are ahead.
+use mathlib.Core.Path.{sym}
 use Prim.Native.Nat.{_+_, _*_, _-_, _≤_}
 use native.Mathlib.Omega.{arith}
 use lib.ListN.{getD}
-use Rattle.checks.specs.StepLaws.{Walking, walk-done, walk-fails, walk-less, walk-next, walk-on, walk-place, walk-start}
+use Rattle.edges.specs.EdgesLaws.{Walking, walk-fails, walk-less, walk-mirrored, walk-next, walk-on, walk-place, walk-start, walk-sum}
+use Rattle.checks.specs.DenseLaws.{key-told}
 use Rattle.checks.proofs.row_holds.Statement.{statement}
 use Rattle.checks.proofs.row_holds.Tie as tie
 
@@ -54,7 +56,7 @@ returns : tie.Need-returns Inv-loop2 μ-loop2 Inv-loop μ-loop
 returns c =
     let d = c .before .before in
     let turn = d .before in
-    walk-fails (turn .before .loop2 .inv) (turn .loop2-test .taken) (d .lowest .ensures) _ (omega arith) (c .before .is-mirrored .ensures) (c .if1 .taken) _
+    rw (sym (walk-fails (turn .before .loop2 .inv) (turn .loop2-test .taken) (d .lowest .ensures) _ (omega arith) (c .before .is-mirrored .ensures) (c .if1 .taken)))
 
 cube-of-requires : tie.Need-cube-of-requires Inv-loop2 μ-loop2 Inv-loop μ-loop
 cube-of-requires c κs =
@@ -96,7 +98,9 @@ keys-agree-requires : tie.Need-keys-agree-requires Inv-loop2 μ-loop2 Inv-loop �
 keys-agree-requires c κs = omega arith
 
 returns-2 : tie.Need-returns-2 Inv-loop2 μ-loop2 Inv-loop μ-loop
-returns-2 c = walk-done (c .before .before .loop .inv .1) (omega arith) _ _ (c .keys-agree .ensures) (omega arith)
+returns-2 c =
+    let h = c .before .before .loop .inv .1 in
+    rw (sym (walk-mirrored h (omega arith))) (key-told _ _ _ _ (walk-sum h (omega arith) (omega arith)) (c .keys-agree .ensures))
 
 pub row-holds-spec : {M : Type 1} → statement M
 row-holds-spec =

@@ -4,7 +4,8 @@ use mathlib.Core.Bool.{true, _&&_}
 use Prim.Native.Nat.{ℕ, _-_, _≤_, _<_}
 use native.Mathlib.Omega.{arith}
 use borrow.Author.Count.{below-more, below-none}
-use Rattle.checks.specs.Checks.{keysHold, rowHolds, rowsHold}
+use Rattle.edges.specs.Edges.{rowHolds}
+use Rattle.checks.specs.Checks.{keysHold, rowsHold}
 use Rattle.buffers.specs.AllLaws.{all-fail, all-pass, failed, passed}
 use Rattle.checks.proofs.sparse_rows_hold.Statement.{statement}
 use Rattle.checks.proofs.sparse_rows_hold.Tie as tie

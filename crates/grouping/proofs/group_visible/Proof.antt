@@ -3,11 +3,11 @@ use mathlib.Core.Bool.{true, false}
 use mathlib.Core.Path.{sym, _∙_}
 use Prim.Native.Nat.{_-_, _≤_}
 use native.Mathlib.Omega.{arith}
+use Rattle.model.specs.Tables.{markedGraph}
 use Rattle.grouping.specs.HashLaws.{slot-lt}
 use Rattle.grouping.specs.Chains.{Sought}
 use Rattle.search.specs.SearchLaws.{within-length}
 use Rattle.grouping.specs.LeastLaws.{Telling, least-fits, sought-more, sought-none, telling-done, telling-more, telling-none}
-use Rattle.masking.specs.Masking.{markedGraph}
 use Rattle.grouping.proofs.group_visible.Statement.{statement}
 use Rattle.grouping.proofs.group_visible.Tie as tie
 

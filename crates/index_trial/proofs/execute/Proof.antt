@@ -1,3 +1,4 @@
+-- `index_trial::execute` meets its contract.
 use mathlib.Core.Path.{sym}
 use lib.Seq.{length-take-le}
 use borrow.Author.Needs.{needs}
@@ -26,7 +27,7 @@ slice-reshare-prefix-lend : tie.Need-slice-reshare-prefix-lend
 slice-reshare-prefix-lend c = search needs
 
 slice-aggregate-lend : tie.Need-slice-aggregate-lend
-slice-aggregate-lend c = sym (length-take-le _ _ (c .before .before .before .before .before .before .within .ensures))
+slice-aggregate-lend c = sym (length-take-le _ _ (c .before .before .before .before .before .before .before .within .ensures))
 
 lend-requires : tie.Need-lend-requires
 lend-requires c κs = search needs
@@ -48,6 +49,9 @@ same-length-3 c = search needs
 
 same-length-4 : tie.Need-same-length-4
 same-length-4 c = search needs
+
+same-length-5 : tie.Need-same-length-5
+same-length-5 c = search needs
 
 returns : tie.Need-returns
 returns c = search needs
@@ -71,4 +75,5 @@ execute-spec =
     same-length-2
     same-length-3
     same-length-4
+    same-length-5
     returns)

@@ -1,3 +1,4 @@
+-- `index_trial::run` meets its contract.
 use mathlib.Core.Path.{_≡_}
 use Prim.Native.Nat.{_-_}
 use native.Mathlib.Omega.{arith}
@@ -7,10 +8,10 @@ use Rattle.index_trial.proofs.run.Statement.{statement}
 use Rattle.index_trial.proofs.run.Tie as tie
 
 abbrev Inv-loop : tie.InvT-loop
-Inv-loop text set₀ edges₀ nodes₀ keys₀ batch₀ at₀ set edges nodes keys batch at = (length edges ≡ length edges₀) × (length nodes ≡ length nodes₀) × (length keys ≡ length keys₀) × (length batch ≡ length batch₀)
+Inv-loop text set₀ edges₀ nodes₀ keys₀ store₀ batch₀ at₀ set edges nodes keys store batch at = (length edges ≡ length edges₀) × (length nodes ≡ length nodes₀) × (length keys ≡ length keys₀) × (length store ≡ length store₀) × (length batch ≡ length batch₀)
 
 abbrev μ-loop : tie.MeasureT-loop
-μ-loop text set₀ edges₀ nodes₀ keys₀ batch₀ at₀ set edges nodes keys batch at = length text - at
+μ-loop text set₀ edges₀ nodes₀ keys₀ store₀ batch₀ at₀ set edges nodes keys store batch at = length text - at
 
 loop-holds : tie.Need-loop-holds Inv-loop μ-loop
 loop-holds c = search needs
@@ -48,6 +49,9 @@ same-length-3 c = search needs
 same-length-4 : tie.Need-same-length-4 Inv-loop μ-loop
 same-length-4 c = search needs
 
+same-length-5 : tie.Need-same-length-5 Inv-loop μ-loop
+same-length-5 c = search needs
+
 returns : tie.Need-returns Inv-loop μ-loop
 returns c = search needs
 
@@ -69,4 +73,5 @@ run-spec =
     same-length-2
     same-length-3
     same-length-4
+    same-length-5
     returns)

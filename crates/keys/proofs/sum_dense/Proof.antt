@@ -2,7 +2,7 @@
 use mathlib.Core.Path.{refl, sym}
 use Prim.Native.Nat.{_-_, _≤_}
 use native.Mathlib.Omega.{arith}
-use Rattle.search.specs.Search.{graphIn}
+use Rattle.model.specs.Tables.{graphIn}
 use Rattle.keys.specs.KeySums.{Summed}
 use Rattle.keys.specs.KeySumLaws.{summed-all, summed-here, summed-more, summed-none}
 use Rattle.keys.proofs.sum_dense.Statement.{statement}

@@ -1,7 +1,7 @@
 -- The invariant: the keys of the nodes below p are summed.
 use Prim.Native.Nat.{_-_, _≤_}
 use native.Mathlib.Omega.{arith}
-use Rattle.search.specs.Search.{graphIn}
+use Rattle.model.specs.Tables.{graphIn}
 use Rattle.search.specs.SearchLaws.{within-inside, within-length}
 use Rattle.keys.specs.KeySums.{Summed}
 use Rattle.keys.specs.KeySumLaws.{summed-all, summed-more, summed-none}

@@ -31,12 +31,15 @@ same-length-4 c = search needs
 same-length-5 : tie.Need-same-length-5
 same-length-5 c = search needs
 
+same-length-6 : tie.Need-same-length-6
+same-length-6 c = search needs
+
 returns : tie.Need-returns
 returns c =
     let r = c .before .before .before in
     let a = r .before .before .before .before .before .before .before .before .before .before .before .before in
-    let o = a .before .before .before .before .before .before .before .before .before .before .before in
-    done (o .before .before .before .before .before .before .before .before .before .pre) (o .«open» .ensures) (a .apply .ensures) (r .release .ensures)
+    let o = a .before .before .before .before .before .before .before .before .before .before .before .before .before in
+    done (o .before .before .before .before .before .before .before .before .before .before .before .pre) (o .«open» .ensures) (a .apply .ensures) (r .release .ensures)
 
 pub release-after-spec : {M : Type 1} → statement M
 release-after-spec =
@@ -51,4 +54,5 @@ release-after-spec =
     same-length-3
     same-length-4
     same-length-5
+    same-length-6
     returns)

@@ -1,5 +1,5 @@
 use borrow.Author.Tests.{not-true, not-false}
-use Rattle.tables.specs.LentLaws.{size-wrong, none-held, graph-held, sized}
+use Rattle.tables.specs.LentLaws.{size-wrong, none-held, all-held, sized}
 use borrow.Author.Needs.{needs}
 use Rattle.tables.proofs.refusal.Statement.{statement}
 use Rattle.tables.proofs.refusal.Tie as tie
@@ -21,7 +21,7 @@ returns-2 : tie.Need-returns-2
 returns-2 c = none-held _ _ _ _ (c .before .before .before .right-size .ensures) (not-false _ (c .before .before .if1 .left)) (c .before .hold .ensures) (not-true _ (c .if2 .taken))
 
 returns-3 : tie.Need-returns-3
-returns-3 c = graph-held _ _ _ _ (c .before .before .before .right-size .ensures) (not-false _ (c .before .before .if1 .left)) (c .before .hold .ensures) (not-false _ (c .if2 .left))
+returns-3 c = all-held _ _ _ _ (c .before .before .before .right-size .ensures) (not-false _ (c .before .before .if1 .left)) (c .before .hold .ensures) (not-false _ (c .if2 .left))
 
 pub refusal-spec : {M : Type 1} → statement M
 refusal-spec =

@@ -1,8 +1,9 @@
 -- By the leader's keys, or by a walk.
 use native.Mathlib.Omega.{arith}
 use borrow.Author.Needs.{needs}
+use Rattle.edges.specs.EdgesLaws.{row-inside, symmetric-rows}
 use Rattle.checks.specs.HoldLaws.{twin-low}
-use Rattle.checks.specs.DenseLaws.{key-by-leader, row-inside}
+use Rattle.checks.specs.DenseLaws.{key-by-leader}
 use Rattle.checks.proofs.dense.walked_key.Statement.{statement}
 use Rattle.checks.proofs.dense.walked_key.Tie as tie
 
@@ -32,7 +33,7 @@ returns c =
 sum-row-requires : tie.Need-sum-row-requires
 sum-row-requires c κs =
     let pre = c .before .before .before .before .before .pre in
-    (pre .0 .0, pre .0 .1, pre .0 .4, row-inside _ _ (pre .0 .0) (pre .0 .1) (pre .1 .0) (pre .1 .1) _ (pre .0 .4))
+    (pre .0 .0, pre .0 .1, pre .0 .4, row-inside _ _ (symmetric-rows _ _ (pre .0 .0) (pre .0 .1) (pre .1 .0) (pre .1 .1)) _ (pre .0 .4))
 
 returns-2 : tie.Need-returns-2
 returns-2 c = c .sum-row .ensures

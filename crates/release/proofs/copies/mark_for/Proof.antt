@@ -1,5 +1,5 @@
 -- `release::copies::mark_for` meets its contract.
-use Rattle.release.specs.FillLaws.{mark-none, mark-some}
+use Rattle.release.specs.TableLaws.{mark-none, mark-some}
 use Rattle.release.proofs.copies.mark_for.Statement.{statement}
 use Rattle.release.proofs.copies.mark_for.Tie as tie
 

@@ -2,13 +2,15 @@
 use Prim.Native.Nat.{_-_, _≤_}
 use native.Mathlib.Omega.{arith}
 use borrow.Author.Needs.{needs}
-use Rattle.release.specs.Fill.{MarksPut}
-use Rattle.release.specs.FillLaws.{put-all, put-more, put-none}
+use lib.ListN.{getD}
+use Rattle.rings.specs.Steps.{MarksPut}
+use Rattle.rings.specs.MarkLaws.{put-all, put-more, put-none}
+use Rattle.release.specs.Fill.{markFor}
 use Rattle.release.proofs.copies.put_marks.Statement.{statement}
 use Rattle.release.proofs.copies.put_marks.Tie as tie
 
 abbrev Inv-loop : tie.InvT-loop
-Inv-loop least n nodes₀ p₀ nodes p = MarksPut p least nodes₀ nodes × (p ≤ n)
+Inv-loop least n nodes₀ p₀ nodes p = MarksPut (λ q. markFor (getD least q 0)) p nodes₀ nodes × (p ≤ n)
 
 abbrev μ-loop : tie.MeasureT-loop
 μ-loop least n nodes₀ p₀ nodes p = n - p

@@ -21,7 +21,7 @@ build-requires : tie.Need-build-requires
 build-requires c κs =
     let x = c .before .before .before .before .before .before .before .before .before .before .before .before .before .before .before .before .before .before .before .before .before .before .before .before .before .before .before .pre .0 in
     let m = c .before .before .before .before .before .before .before .before .before .before .before .before .put-marks .ensures in
-    (x .0 .compressed .small, m .size ∙ x .1 .nodes, filled-leading _ (x .0) (c .before .before .before .before .before .before .before .before .before .before .before .before .before .before .before .before .before .fill-edges .ensures) _ (x .1 .nodes) m (c .before .before .before .before .before .before .fill-keys .ensures .least))
+    (x .0 .compressed .small, m .size ∙ x .1 .nodes, filled-leading _ (x .0) (c .before .before .before .before .before .before .before .before .before .before .before .before .before .before .before .before .before .fill-edges .ensures) (x .1 .nodes) m (c .before .before .before .before .before .before .fill-keys .ensures .least))
 
 same-length : tie.Need-same-length
 same-length c = search needs
@@ -39,7 +39,7 @@ returns : tie.Need-returns
 returns c =
     let x = c .before .before .before .before .before .before .before .before .before .before .before .before .before .before .before .before .before .before .before .before .before .before .before .before .before .before .before .before .before .before .pre .0 in
     let k = c .before .before .before .before .before .before .before .before .before .fill-keys .ensures in
-    filled-tables _ (x .0) (c .before .before .before .before .before .before .before .before .before .before .before .before .before .before .before .before .before .before .before .before .fill-edges .ensures) _ (x .1 .nodes) (c .before .before .before .before .before .before .before .before .before .before .before .before .before .before .before .put-marks .ensures) (k .keys-of) (k .least) (c .before .before .build .ensures)
+    filled-tables _ (x .0) (c .before .before .before .before .before .before .before .before .before .before .before .before .before .before .before .before .before .before .before .before .fill-edges .ensures) (x .1 .nodes) (c .before .before .before .before .before .before .before .before .before .before .before .before .before .before .before .put-marks .ensures) (k .least) (k .keys-of) (c .before .before .build .ensures)
 
 pub fill-spec : {M : Type 1} → statement M
 fill-spec =

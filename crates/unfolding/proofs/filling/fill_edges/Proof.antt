@@ -1,5 +1,4 @@
 -- `unfolding::filling::fill_edges` meets its contract.
-use mathlib.Core.Path.{refl}
 use native.Mathlib.Omega.{arith}
 use borrow.Author.Needs.{needs}
 use Rattle.unfolding.specs.FollowLaws.{filled, led}
@@ -18,7 +17,7 @@ follow-all-requires c κs =
     let e = d .before .before .before .before in
     let pre = e .before .before .before .before .before .before .pre in
     let n = pre .0 .small in
-    (led (pre .0), n, omega (arith, pre .0 .nodes), omega (arith, pre .0 .groups), omega (arith, d .draw-groups .ensures .size, e .copy-words .ensures .size, pre .1))
+    (led (pre .0), n, omega (arith, pre .0 .nodes), omega (arith, pre .0 .groups), omega (arith, d .draw-groups .ensures .size, pre .1))
 
 same-length : tie.Need-same-length
 same-length c = search needs
@@ -29,7 +28,7 @@ returns c =
     let d = f .before .before .before .before in
     let e = d .before .before .before .before in
     let pre = e .before .before .before .before .before .before .pre in
-    filled (pre .0) (pre .1) refl (e .copy-words .ensures) (d .draw-groups .ensures) (f .follow-all .ensures) (λ i. c .slice-known4 .given i .fits)
+    filled (pre .0) (pre .1) (e .copy-words .ensures) (d .draw-groups .ensures) (f .follow-all .ensures) (λ i. c .slice-known4 .given i .fits)
 
 pub fill-edges-spec : {M : Type 1} → statement M
 fill-edges-spec =

@@ -1,0 +1,4 @@
+pub mod Places
+pub mod NameLaws
+pub mod StepLaws
+pub mod PlacesLaws

@@ -1,0 +1,4 @@
+pub mod Judging
+pub mod JudgeLaws
+pub mod Stored
+pub mod StoredLaws
