@@ -5,10 +5,12 @@
  *   nodes  4 * n numbers: for each node the least member of its group, the next greater (the greatest is followed by the least),
  *          the previous one, and the mark, 1 for a hidden node
  *   keys   2 * n numbers: for each node the open and the closed key
+ * and, to keep up to eight states of that graph under names of 16 bytes, on
+ *   store  TEGMULOS_STORE_WORDS(n) words, laid out as docs/STORE.md says; an opening makes it a store without states
  *
- * A call returns 0 if it was done, or the number of its refusal. A refused call leaves every table and buffer as it was, and sets
- * every number that it hands back to 0. Buffers may be longer than needed: what lies beyond is left as it was. A pointer to a table
- * or a buffer of length 0 must still be aligned and not NULL; tables and buffers must not overlap.
+ * A call returns 0 if it was done, or the number of its refusal. A refused call leaves every table, store and buffer as it was, and
+ * sets every number that it hands back to 0. Buffers may be longer than needed: what lies beyond is left as it was. A pointer to a
+ * table or a buffer of length 0 must still be aligned and not NULL; tables, stores and buffers must not overlap.
  */
 #ifndef TEGMULOS_H
 #define TEGMULOS_H
@@ -25,8 +27,13 @@ enum {
     TEGMULOS_UPDATES = 4096,     /* updates of a batch */
     TEGMULOS_ROW_WORDS = 8,      /* words of a row */
     TEGMULOS_NODE_NUMBERS = 4,   /* numbers of a node */
+    TEGMULOS_STATES = 8,         /* states of a store */
+    TEGMULOS_NAME_BYTES = 16,    /* bytes of a name */
     TEGMULOS_FILE_BYTES = 787978 /* no release is longer */
 };
+
+/* Words of a store for n nodes. */
+#define TEGMULOS_STORE_WORDS(n) (1 + TEGMULOS_STATES * (3 + (TEGMULOS_ROW_WORDS + 1) * (n)))
 
 /* The kinds of an update. */
 enum { TEGMULOS_INSERT = 1, TEGMULOS_DELETE = 2, TEGMULOS_HIDE = 3, TEGMULOS_REVEAL = 4 };
@@ -37,8 +44,8 @@ enum { TEGMULOS_SINGLETON = 0, TEGMULOS_INDEPENDENT = 1, TEGMULOS_CLIQUE = 2 };
 /* Results and answers. */
 enum {
     TEGMULOS_DONE = 0,
-    TEGMULOS_WRONG_SIZE = 11,    /* n over 512, a table of the wrong length, or a batch not in threes or too long */
-    TEGMULOS_NO_GRAPH = 12,      /* the tables hold no graph */
+    TEGMULOS_WRONG_SIZE = 11,    /* n over 512, a table, store or name of the wrong length, or a batch not in threes or too long */
+    TEGMULOS_NO_GRAPH = 12,      /* the tables hold no graph, or the words are no store for n nodes */
     TEGMULOS_NO_KIND = 13,       /* an update of no kind from 1 to 4 */
     TEGMULOS_NO_NODE = 14,       /* a node n or above; asked of a file, also a hidden one */
     TEGMULOS_SAME_NODE = 15,     /* one node where two are asked; a second number that is not 0 in a hide or reveal */
@@ -46,12 +53,27 @@ enum {
     TEGMULOS_NOT_THERE = 17,     /* the edge is not there; the node is visible */
     TEGMULOS_SHORT_BUFFER = 18,  /* a buffer shorter than needed */
     TEGMULOS_NO_RELEASE = 19,    /* the bytes are no graph's release */
-    TEGMULOS_OTHER_SIZE = 20     /* a release, but for another n */
+    TEGMULOS_OTHER_SIZE = 20,    /* a release, but for another n */
+    TEGMULOS_NOT_KEPT = 21,      /* no state has the name */
+    TEGMULOS_ALREADY_KEPT = 22,  /* a state has the name */
+    TEGMULOS_FULL = 23           /* eight states are kept */
 };
 
-/* A graph of n nodes without edges, none hidden. 0, or 11. */
+/* A graph of n nodes without edges, none hidden, and a store without states. 0, or 11. */
 uint16_t tegmulos_open(size_t n, uint64_t *edges, size_t edges_len, uint16_t *nodes, size_t nodes_len, uint32_t *keys,
-                       size_t keys_len);
+                       size_t keys_len, uint64_t *store, size_t store_len);
+
+/* The graph kept under a name, in the lowest free place of the store. 0, or 11, 12, 22, 23. */
+uint16_t tegmulos_keep(size_t n, const uint64_t *edges, size_t edges_len, const uint16_t *nodes, size_t nodes_len,
+                       const uint32_t *keys, size_t keys_len, uint64_t *store, size_t store_len, const uint8_t *name,
+                       size_t name_len);
+
+/* The graph that is kept under a name, in the tables again; what they hold before is not looked at. 0, or 11, 12, 21. */
+uint16_t tegmulos_restore(size_t n, uint64_t *edges, size_t edges_len, uint16_t *nodes, size_t nodes_len, uint32_t *keys,
+                          size_t keys_len, const uint64_t *store, size_t store_len, const uint8_t *name, size_t name_len);
+
+/* The name is struck, and its place cleared. 0, or 11, 12, 21. */
+uint16_t tegmulos_drop(size_t n, uint64_t *store, size_t store_len, const uint8_t *name, size_t name_len);
 
 /* A batch of updates, three numbers each: kind, u, v (v is 0 to hide or reveal). Each writes one answer: the number of its refusal,
  * or how many groups more there are, from -2 to 2. 0, or 11, 12, 18. */

@@ -1,8 +1,9 @@
 //! Random and mutated inputs for every call, the library against the calls in Rust: no crash and no disagreement.
 
 use crate::calls::{self, Counts, Member};
-use crate::graphs::{self, Random, Shape, Tables};
+use crate::graphs::{self, Lent, Random, Shape, Tables};
 use crate::lent;
+use std::collections::BTreeMap;
 use std::time::{Duration, Instant};
 
 const SHAPES: [Shape; 4] = [Shape::Sparse, Shape::Dense, Shape::Twins, Shape::Threshold];
@@ -22,6 +23,15 @@ struct Tally {
     other_size: u64,
     file_queries: u64,
     distances: u64,
+    histories: u64,
+    openings: u64,
+    keeps: u64,
+    restores: u64,
+    drops: u64,
+    damaged_stores: u64,
+    refused_stores: u64,
+    /// How often openings, keeps, restores and drops gave each number.
+    results: BTreeMap<u16, u64>,
 }
 
 /// Mostly small sizes, where accidents are likely, and now and then the largest.
@@ -81,24 +91,165 @@ fn ask(t: &Tables, random: &mut Random, tally: &mut Tally) -> u16 {
     result
 }
 
-/// An opening, now and then of tables that are too long or too short.
-fn open(n: usize, random: &mut Random) {
-    let mut a = Tables::filled(n, 7);
-    match random.below(6) {
-        0 => a.edges.truncate(random.below(8 * n + 1)),
-        1 => a.nodes.push(7),
-        2 => a.keys.push(7),
-        3 => a.n = n + random.below(600),
-        _ => {}
-    }
-    let mut b = a.clone();
-    let x = calls::open(a.n, &mut a.edges, &mut a.nodes, &mut a.keys);
-    let y = lent::open(b.n, &mut b.edges, &mut b.nodes, &mut b.keys);
-    assert_eq!((x, &a), (y, &b));
+/// The library's call on tables and a store, and the other's on a copy.
+fn same(x: &mut Lent, first: impl Fn(&mut Lent) -> u16, second: impl Fn(&mut Lent) -> u16, tally: &mut Tally) -> u16 {
+    let mut y = x.clone();
+    let (a, b) = (first(x), second(&mut y));
+    assert!(a == b && *x == y, "{a} {b} {x:?} {y:?}");
+    *tally.results.entry(a).or_default() += 1;
+    a
 }
 
-/// One number of the tables changed, and all queries and a batch asked of what is there then.
-fn damage(t: &Tables, random: &mut Random, tally: &mut Tally) {
+fn open(x: &mut Lent, tally: &mut Tally) {
+    tally.openings += 1;
+    let first = |x: &mut Lent| calls::open(x.t.n, &mut x.t.edges, &mut x.t.nodes, &mut x.t.keys, &mut x.store);
+    let second = |x: &mut Lent| lent::open(x.t.n, &mut x.t.edges, &mut x.t.nodes, &mut x.t.keys, &mut x.store);
+    same(x, first, second, tally);
+}
+
+fn keep(x: &mut Lent, name: &[u8], tally: &mut Tally) -> u16 {
+    tally.keeps += 1;
+    let first = |x: &mut Lent| calls::keep(x.t.n, &x.t.edges, &x.t.nodes, &x.t.keys, &mut x.store, name);
+    let second = |x: &mut Lent| lent::keep(x.t.n, &x.t.edges, &x.t.nodes, &x.t.keys, &mut x.store, name);
+    same(x, first, second, tally)
+}
+
+fn restore(x: &mut Lent, name: &[u8], tally: &mut Tally) -> u16 {
+    tally.restores += 1;
+    let first = |x: &mut Lent| calls::restore(x.t.n, &mut x.t.edges, &mut x.t.nodes, &mut x.t.keys, &x.store, name);
+    let second = |x: &mut Lent| lent::restore(x.t.n, &mut x.t.edges, &mut x.t.nodes, &mut x.t.keys, &x.store, name);
+    same(x, first, second, tally)
+}
+
+fn drop(x: &mut Lent, name: &[u8], tally: &mut Tally) -> u16 {
+    tally.drops += 1;
+    let first = |x: &mut Lent| calls::drop(x.t.n, &mut x.store, name);
+    let second = |x: &mut Lent| lent::drop(x.t.n, &mut x.store, name);
+    same(x, first, second, tally)
+}
+
+/// One of ten names, some of which agree in the first word; now and then too long or too short.
+fn name(random: &mut Random) -> Vec<u8> {
+    let mut name = graphs::name([0, 1, 2, 3, 10, 11, 12, 13, 20, 21][random.below(10)]).to_vec();
+    match random.below(60) {
+        0 => name.truncate(random.below(16)),
+        1 => name.push(0),
+        _ => {}
+    }
+    name
+}
+
+/// A keep, a restore or a drop.
+fn named(x: &mut Lent, random: &mut Random, tally: &mut Tally) -> u16 {
+    let name = name(random);
+    match random.below(10) {
+        0..=5 => keep(x, &name, tally),
+        6..=8 => restore(x, &name, tally),
+        _ => drop(x, &name, tally),
+    }
+}
+
+/// Mostly another n, or another length of a table or of the store.
+fn misfit(x: &Lent, random: &mut Random) -> Lent {
+    let mut x = x.clone();
+    match random.below(8) {
+        0 => x.t.edges.truncate(random.below(8 * x.t.n + 1)),
+        1 => x.t.nodes.push(7),
+        2 => x.t.keys.push(7),
+        3 => x.t.n += random.below(600),
+        4 => x.t.n = random.next() as usize,
+        5 => x.store.push(0),
+        6 => x.store.truncate(random.below(x.store.len())),
+        _ => {}
+    }
+    x
+}
+
+/// A bit of a state, changed in one row or in both.
+fn flip(place: &mut [u64], p: usize, q: usize, both: bool) {
+    place[3 + 8 * p + q / 64] ^= 1 << (q % 64);
+    if both {
+        place[3 + 8 * q + p / 64] ^= 1 << (p % 64);
+    }
+}
+
+/// One thing in a place of a store changed, by chance to one that may stand there.
+fn damage_place(n: usize, place: &mut [u64], random: &mut Random) {
+    let word = random.below(place.len());
+    match random.below(9) {
+        0 => place[word] = random.next(),
+        1 => place[word] ^= 1 << random.below(64),
+        2 => place[word] |= 1,
+        3 => place[0] = random.below(3) as u64,
+        4 => place.fill(0),
+        5 if n > 0 => place[3 + 8 * n + random.below(n)] = random.below(3) as u64,
+        6 if n > 0 => flip(place, random.below(n), random.below(512), false),
+        7 if n > 0 => flip(place, random.below(n), random.below(n), true),
+        8 if n > 0 => {
+            let p = random.below(n);
+            flip(place, p, p, false);
+        }
+        _ => {}
+    }
+}
+
+fn damage_store(x: &mut Lent, random: &mut Random) {
+    let (i, j) = (random.below(8), random.below(8));
+    let other = x.place(j).to_vec();
+    match random.below(12) {
+        0 => x.store[0] = random.below(x.t.n + 3) as u64,
+        1 => x.place(i)[1..3].copy_from_slice(&other[1..3]),
+        2 => x.place(i)[2] = other[2],
+        3 => x.place(i).copy_from_slice(&other),
+        _ => {}
+    }
+    for _ in 0..random.below(3) {
+        damage_place(x.t.n, x.place(random.below(8)), random);
+    }
+}
+
+/// One history of openings, batches, keeps, restores and drops, with copies of what is lent damaged in between.
+fn history(t: &Tables, random: &mut Random, tally: &mut Tally) {
+    let mut x = Lent::filled(t.n, [7, 0][random.below(2)]);
+    if random.below(10) > 0 {
+        open(&mut x, tally);
+    }
+    if random.below(2) == 0 {
+        x.t = t.clone();
+    }
+    tally.histories += 1;
+    for _ in 0..if t.n > 100 { 15 } else { 60 } {
+        match random.below(24) {
+            0 => open(&mut misfit(&x, random), tally),
+            1 if random.below(8) == 0 => open(&mut x, tally),
+            2..=5 => apply(&mut x.t, random, tally),
+            6 => {
+                named(&mut misfit(&x, random), random, tally);
+            }
+            7 => {
+                let whole = x.t.clone();
+                x.t = damaged(&whole, random);
+                named(&mut x, random, tally);
+                if restore(&mut x, &name(random), tally) != 0 {
+                    x.t = whole;
+                }
+            }
+            8 | 9 => {
+                let mut bad = x.clone();
+                damage_store(&mut bad, random);
+                let result = named(&mut bad, random, tally);
+                tally.damaged_stores += 1;
+                tally.refused_stores += u64::from(result == 12);
+            }
+            _ => {
+                named(&mut x, random, tally);
+            }
+        }
+    }
+}
+
+/// Some numbers of the tables changed.
+fn damaged(t: &Tables, random: &mut Random) -> Tables {
     let mut bad = t.clone();
     for _ in 0..1 + random.below(3) {
         match random.below(5) {
@@ -120,6 +271,12 @@ fn damage(t: &Tables, random: &mut Random, tally: &mut Tally) {
             _ => {}
         }
     }
+    bad
+}
+
+/// All queries, a batch and a release asked of damaged tables.
+fn damage(t: &Tables, random: &mut Random, tally: &mut Tally) {
+    let mut bad = damaged(t, random);
     let result = ask(&bad, random, tally);
     apply(&mut bad, random, tally);
     release(&bad, random, tally);
@@ -249,7 +406,7 @@ pub fn run(seed: u64, seconds: u64) {
         let shape = SHAPES[random.below(4)];
         let hide = 1 + random.below(n + 4);
         let mut t = graphs::build(n, &graphs::edges(shape, n, &mut random), hide);
-        open(n, &mut random);
+        history(&t, &mut random, &mut tally);
         tally.graphs += 1;
         let turns = if n > 100 { 5 } else { 25 };
         for _ in 0..turns {

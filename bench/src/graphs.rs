@@ -1,6 +1,7 @@
 //! Graphs and batches to measure on, from a seed.
 
 use crate::calls;
+use crate::lent;
 
 /// The tables of a graph.
 #[derive(Clone, PartialEq, Eq, Debug)]
@@ -14,6 +15,25 @@ pub struct Tables {
 impl Tables {
     pub fn filled(n: usize, x: u16) -> Tables {
         Tables { n, edges: vec![u64::from(x); 8 * n], nodes: vec![x; 4 * n], keys: vec![u32::from(x); 2 * n] }
+    }
+}
+
+/// Tables and a store.
+#[derive(Clone, PartialEq, Eq, Debug)]
+pub struct Lent {
+    pub t: Tables,
+    pub store: Vec<u64>,
+}
+
+impl Lent {
+    pub fn filled(n: usize, x: u16) -> Lent {
+        Lent { t: Tables::filled(n, x), store: vec![u64::from(x); lent::store_words(n)] }
+    }
+
+    /// The words of a place of the store.
+    pub fn place(&mut self, i: usize) -> &mut [u64] {
+        let words = self.store.len() / 8;
+        &mut self.store[1 + i * words..][..words]
     }
 }
 
@@ -64,10 +84,15 @@ pub fn edges(shape: Shape, n: usize, random: &mut Random) -> Vec<(u16, u16)> {
     list
 }
 
+/// A name for each number: k and k + 10 agree in the first word.
+pub fn name(k: usize) -> [u8; 16] {
+    std::array::from_fn(|j| if j < 8 { k % 10 } else { k / 10 } as u8)
+}
+
 /// The library's tables of a graph, one node in `hide` hidden.
 pub fn build(n: usize, edges: &[(u16, u16)], hide: usize) -> Tables {
-    let mut t = Tables::filled(n, 7);
-    assert_eq!(calls::open(n, &mut t.edges, &mut t.nodes, &mut t.keys), 0);
+    let Lent { mut t, mut store } = Lent::filled(n, 7);
+    assert_eq!(calls::open(n, &mut t.edges, &mut t.nodes, &mut t.keys, &mut store), 0);
     let mut batch: Vec<u16> = edges.iter().flat_map(|&(u, v)| [1, u, v]).collect();
     for p in (0..n).step_by(hide) {
         batch.extend([3, p as u16, 0]);

@@ -305,10 +305,12 @@ fn refusal(n: usize, e: &[u64], v: &[u16], k: &[u32]) -> u16 {
     }
 }
 
-pub fn open(n: usize, e: &mut [u64], v: &mut [u16], k: &mut [u32]) -> u16 {
-    if !sized(n, e, v, k) {
+pub fn open(n: usize, e: &mut [u64], v: &mut [u16], k: &mut [u32], store: &mut [u64]) -> u16 {
+    if !sized(n, e, v, k) || store.len() != store_words(n) {
         return 11;
     }
+    store.fill(0);
+    store[0] = n as u64 + 1;
     e.fill(0);
     for p in 0..n {
         v[4 * p] = 0;
@@ -1289,7 +1291,7 @@ pub fn read(n: usize, e: &mut [u64], v: &mut [u16], k: &mut [u32], file: &[u8]) 
     }
     put_rows(&parts, e.as_chunks_mut().0);
     put_keys(&parts, k.as_chunks_mut().0);
-    put_rings(&parts, &marks, v.as_chunks_mut().0);
+    put_rings(|p| parts.firsts[usize::from(parts.group[p]) % NODES], |p| marks[p], v.as_chunks_mut().0);
     0
 }
 
@@ -1314,16 +1316,215 @@ fn put_keys(parts: &Parts, k: &mut [[u32; 2]]) {
 }
 
 /// Each node is put after the members of its group so far.
-fn put_rings(parts: &Parts, marks: &[u16; NODES], v: &mut [[u16; 4]]) {
+fn put_rings(least: impl Fn(usize) -> u16, mark: impl Fn(usize) -> u16, v: &mut [[u16; 4]]) {
     for p in 0..v.len().min(NODES) {
-        let l = parts.firsts[usize::from(parts.group[p]) % NODES];
+        let l = least(p);
         if usize::from(l) == p {
-            v[p] = [l, l, l, marks[p]];
+            v[p] = [l, l, l, mark(p)];
         } else {
             let last = v[usize::from(l)][2];
-            v[p] = [l, l, last, marks[p]];
+            v[p] = [l, l, last, mark(p)];
             v[usize::from(last)][1] = p as u16;
             v[usize::from(l)][2] = p as u16;
         }
     }
+}
+
+const STATES: usize = 8;
+const NAME: usize = 16;
+
+fn place_words(n: usize) -> usize {
+    3 + 9 * n
+}
+
+pub fn store_words(n: usize) -> usize {
+    1 + STATES * place_words(n)
+}
+
+/// A place of a store: 0 or 1, the two words of the name, the rows, the marks.
+struct Place<'a> {
+    used: u64,
+    name: &'a [u64],
+    rows: &'a [Row],
+    marks: &'a [u64],
+}
+
+fn place(words: &[u64], n: usize) -> Place<'_> {
+    let (head, state) = words.split_at(3);
+    let (edges, marks) = state.split_at(8 * n);
+    Place { used: head[0], name: &head[1..], rows: edges.as_chunks().0, marks }
+}
+
+fn places(store: &[u64], n: usize) -> impl Iterator<Item = Place<'_>> + Clone {
+    store[1..].chunks_exact(place_words(n)).map(move |words| place(words, n))
+}
+
+/// Few edges: whether each goes both ways, and is none of a node with itself or a number beyond all nodes.
+fn walk_simple(rows: &[Row]) -> bool {
+    rows.iter().enumerate().all(|(p, r)| {
+        let mine = bit(p);
+        r.iter().enumerate().all(|(w, &x)| {
+            let mut x = x;
+            while x != 0 {
+                let q = 64 * w + x.trailing_zeros() as usize;
+                if q >= rows.len() || q == p || rows[q][p / 64 % 8] & mine == 0 {
+                    return false;
+                }
+                x &= x - 1;
+            }
+            true
+        })
+    })
+}
+
+fn simple(rows: &[Row]) -> bool {
+    if rows.len() > 64 && seem_sparse(rows) {
+        walk_simple(rows)
+    } else {
+        rows_fit(rows) && symmetric(rows)
+    }
+}
+
+fn zero(words: &[u64]) -> bool {
+    words.iter().fold(0, |d, x| d | x) == 0
+}
+
+fn state_holds(place: &Place) -> bool {
+    place.used == 1 && place.marks.iter().fold(0, |d, x| d | x) <= 1 && simple(place.rows)
+}
+
+fn names_differ(store: &[u64], n: usize) -> bool {
+    let mut names = [[0; 2]; STATES];
+    let mut count = 0;
+    for place in places(store, n).filter(|place| place.used != 0) {
+        names[count] = [place.name[0], place.name[1]];
+        count += 1;
+    }
+    (0..count).all(|i| !names[..i].contains(&names[i]))
+}
+
+/// Whether the words are a store for n nodes.
+fn store_holds(store: &[u64], n: usize) -> bool {
+    store[0] == n as u64 + 1
+        && names_differ(store, n)
+        && store[1..].chunks_exact(place_words(n)).all(|words| if words[0] == 0 { zero(words) } else { state_holds(&place(words, n)) })
+}
+
+/// The two words of a name, and its place, if it is kept; or the number that refuses the call for its store or its name.
+fn named(n: usize, store: &[u64], name: &[u8]) -> Result<([u64; 2], Option<usize>), u16> {
+    if n > NODES || store.len() != store_words(n) || name.len() != NAME {
+        return Err(11);
+    }
+    if !store_holds(store, n) {
+        return Err(12);
+    }
+    let name = [0, 8].map(|at| u64::from_le_bytes(name[at..at + 8].try_into().unwrap()));
+    Ok((name, places(store, n).position(|place| place.used == 1 && place.name == name)))
+}
+
+/// The words of a place.
+fn words_at(store: &mut [u64], n: usize, i: usize) -> &mut [u64] {
+    &mut store[1 + i * place_words(n)..][..place_words(n)]
+}
+
+pub fn keep(n: usize, e: &[u64], v: &[u16], k: &[u32], store: &mut [u64], name: &[u8]) -> u16 {
+    if !sized(n, e, v, k) {
+        return 11;
+    }
+    let (name, at) = match named(n, store, name) {
+        Ok(found) => found,
+        Err(result) => return result,
+    };
+    if !holds(e, v, k, n) {
+        return 12;
+    }
+    if at.is_some() {
+        return 22;
+    }
+    let Some(i) = places(store, n).position(|place| place.used == 0) else {
+        return 23;
+    };
+    let words = words_at(store, n, i);
+    words[0] = 1;
+    words[1..3].copy_from_slice(&name);
+    words[3..3 + 8 * n].copy_from_slice(e);
+    for (x, node) in words[3 + 8 * n..].iter_mut().zip(v.as_chunks::<4>().0) {
+        *x = u64::from(node[3]);
+    }
+    0
+}
+
+pub fn drop(n: usize, store: &mut [u64], name: &[u8]) -> u16 {
+    match named(n, store, name) {
+        Err(result) => result,
+        Ok((_, None)) => 21,
+        Ok((_, Some(i))) => {
+            words_at(store, n, i).fill(0);
+            0
+        }
+    }
+}
+
+pub fn restore(n: usize, e: &mut [u64], v: &mut [u16], k: &mut [u32], store: &[u64], name: &[u8]) -> u16 {
+    if !sized(n, e, v, k) {
+        return 11;
+    }
+    let i = match named(n, store, name) {
+        Err(result) => return result,
+        Ok((_, None)) => return 21,
+        Ok((_, Some(i))) => i,
+    };
+    let Some(place) = places(store, n).nth(i) else {
+        return 21;
+    };
+    e.copy_from_slice(place.rows.as_flattened());
+    let keys = k.as_chunks_mut().0;
+    sum_keys(place.rows, keys);
+    let mut leaders = [0; NODES];
+    lead(place.rows, keys, &mut leaders);
+    put_rings(|p| leaders[p], |p| place.marks[p] as u16, v.as_chunks_mut().0);
+    0
+}
+
+/// Both keys of each row.
+fn sum_keys(rows: &[Row], keys: &mut [[u32; 2]]) {
+    let mut sums = [0u32; NODES];
+    if rows.len() > 64 && seem_sparse(rows) {
+        for (r, sum) in rows.iter().zip(&mut sums) {
+            each_bit(r, |q| *sum = sum.wrapping_add(cube(q)));
+        }
+    } else {
+        sum_rows(rows, rows.len().div_ceil(64), &mut sums);
+    }
+    for (p, (two, &open)) in keys.iter_mut().zip(&sums).enumerate() {
+        *two = [open, open.wrapping_add(cube(p))];
+    }
+}
+
+/// The least member of each node's group: leaders are chained by their keys.
+fn lead(rows: &[Row], keys: &[[u32; 2]], leaders: &mut [u16; NODES]) {
+    let mut slots = Slots { open: [NONE; 1024], closed: [NONE; 1024], open_next: [NONE; NODES], closed_next: [NONE; NODES] };
+    let slot = |key: u32| (key.wrapping_mul(0x9E37_79B1) >> 22) as usize;
+    for (p, (r, &[open, closed])) in rows.iter().zip(keys).enumerate() {
+        let (h, c) = (slot(open), slot(closed));
+        let open_twin = |q: usize| keys[q][0] == open && equal(&rows[q], r);
+        let closed_twin = |q: usize| keys[q][1] == closed && closed_twins(&rows[q], q, r, p);
+        let found = among(slots.open[h], &slots.open_next, open_twin).or_else(|| among(slots.closed[c], &slots.closed_next, closed_twin));
+        leaders[p] = found.unwrap_or(p as u16);
+        if found.is_none() {
+            slots.open_next[p] = slots.open[h];
+            slots.closed_next[p] = slots.closed[c];
+            slots.open[h] = p as u16;
+            slots.closed[c] = p as u16;
+        }
+    }
+}
+
+/// The first twin in a chain.
+fn among(first: u16, next: &[u16; NODES], twin: impl Fn(usize) -> bool) -> Option<u16> {
+    let mut q = first;
+    while q != NONE && !twin(usize::from(q)) {
+        q = next[usize::from(q)];
+    }
+    (q != NONE).then_some(q)
 }

@@ -10,7 +10,7 @@ mod program;
 
 use buckets::Buckets;
 use calls::Counts;
-use graphs::{Random, Shape, Tables};
+use graphs::{Lent, Random, Shape, Tables};
 use std::hint::black_box;
 use std::time::Instant;
 
@@ -38,6 +38,25 @@ fn medians(mut first: impl FnMut(), mut second: impl FnMut()) -> (f64, f64) {
     a.sort_by(f64::total_cmp);
     b.sort_by(f64::total_cmp);
     (a[ROUNDS / 2], b[ROUNDS / 2])
+}
+
+/// The medians for two calls on the same memory, which is put as it was after each call, outside the time.
+fn medians_undone<T>(x: &mut T, first: impl Fn(&mut T), second: impl Fn(&mut T), undo: impl Fn(&mut T)) -> (f64, f64) {
+    let mut time = |call: &dyn Fn(&mut T)| {
+        let start = Instant::now();
+        call(x);
+        let nanoseconds = start.elapsed().as_nanos() as f64;
+        undo(x);
+        nanoseconds
+    };
+    let (mut a, mut b) = (Vec::new(), Vec::new());
+    for _ in 0..ROUNDS {
+        a.extend((0..ROUNDS).map(|_| time(&first)));
+        b.extend((0..ROUNDS).map(|_| time(&second)));
+    }
+    a.sort_by(f64::total_cmp);
+    b.sort_by(f64::total_cmp);
+    (a[a.len() / 2], b[b.len() / 2])
 }
 
 /// A line of the table: microseconds, each time divided by how often the thing was done.
@@ -146,6 +165,40 @@ fn files(t: &Tables, name: &str) {
     line(t, name, "the same, against a file query", times, 1.0);
 }
 
+/// A call's line, after its library's and its other form were found to do the same; what is lent as the call leaves it.
+fn on_lent(x: &Lent, name: &str, what: &str, first: impl Fn(&mut Lent), second: impl Fn(&mut Lent), undo: impl Fn(&mut Lent)) -> Lent {
+    let (mut a, mut b, mut both) = (x.clone(), x.clone(), x.clone());
+    first(&mut a);
+    second(&mut b);
+    assert_eq!(a, b);
+    line(&x.t, name, what, medians_undone(&mut both, first, second, undo), 1.0);
+    assert_eq!(&both, x);
+    a
+}
+
+/// The last of so many states kept, restored and dropped. A keep is undone by zeros in its place, a drop by the words that it had; a
+/// restore goes into the tables that are there, and has nothing to undo.
+fn states(t: &Tables, name: &str, states: usize, which: &str) {
+    let under = graphs::name(10 * states);
+    let (n, last) = (t.n, states - 1);
+    let mut x = Lent::filled(n, 7);
+    assert_eq!(lent::open(n, &mut x.t.edges, &mut x.t.nodes, &mut x.t.keys, &mut x.store), 0);
+    x.t = t.clone();
+    for k in 1..states {
+        assert_eq!(lent::keep(n, &t.edges, &t.nodes, &t.keys, &mut x.store, &graphs::name(10 * k)), 0);
+    }
+    let first = |x: &mut Lent| assert_eq!(calls::keep(n, &x.t.edges, &x.t.nodes, &x.t.keys, &mut x.store, &under), 0);
+    let second = |x: &mut Lent| assert_eq!(lent::keep(n, &x.t.edges, &x.t.nodes, &x.t.keys, &mut x.store, &under), 0);
+    let mut x = on_lent(&x, name, &format!("keep {which}"), first, second, |x| x.place(last).fill(0));
+    let first = |x: &mut Lent| assert_eq!(calls::restore(n, &mut x.t.edges, &mut x.t.nodes, &mut x.t.keys, &x.store, &under), 0);
+    let second = |x: &mut Lent| assert_eq!(lent::restore(n, &mut x.t.edges, &mut x.t.nodes, &mut x.t.keys, &x.store, &under), 0);
+    assert_eq!(on_lent(&x, name, &format!("restore {which}"), first, second, |_| ()).t, *t);
+    let state = x.place(last).to_vec();
+    let first = |x: &mut Lent| assert_eq!(calls::drop(n, &mut x.store, &under), 0);
+    let second = |x: &mut Lent| assert_eq!(lent::drop(n, &mut x.store, &under), 0);
+    on_lent(&x, name, &format!("drop {which}"), first, second, |x| x.place(last).copy_from_slice(&state));
+}
+
 fn measure() {
     println!("| n | graph | call | library, µs | other, µs | ratio |");
     println!("|---|---|---|---|---|---|");
@@ -156,6 +209,10 @@ fn measure() {
             updates(&t, name, &mut random);
             queries(&t, name);
             files(&t, name);
+            if n == 512 && shape != Shape::Twins {
+                states(&t, name, 1, "one state");
+                states(&t, name, 8, "the eighth state");
+            }
         }
     }
 }

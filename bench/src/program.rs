@@ -70,7 +70,7 @@ fn expected(input: &[u8]) -> String {
         Err(k) => return format!("input refused at line {k}\n"),
     };
     let mut t = Tables::filled(n, 7);
-    lent::open(n, &mut t.edges, &mut t.nodes, &mut t.keys);
+    lent::open(n, &mut t.edges, &mut t.nodes, &mut t.keys, &mut vec![7; lent::store_words(n)]);
     let mut answers = vec![0; batch.len() / 3];
     lent::apply(n, &mut t.edges, &mut t.nodes, &mut t.keys, &batch, &mut answers);
     let (mut file, mut counts) = (vec![0; 65536], Counts::default());

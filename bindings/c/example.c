@@ -1,13 +1,15 @@
-/* Each of 0 1 2 tied to each of 3 4 5; 3 is hidden; the visible part is released, read back and asked. */
+/* Each of 0 1 2 tied to each of 3 4 5; 3 is hidden; the visible part is released, read back and asked; a state is kept and restored. */
 #include <stdio.h>
 
 #include "tegmulos.h"
 
-enum { N = 6, UPDATES = 10 };
+enum { N = 6, UPDATES = 10, STORE = TEGMULOS_STORE_WORDS(N), NAME = TEGMULOS_NAME_BYTES };
 
 static uint64_t edges[8 * N];
 static uint16_t nodes[4 * N];
 static uint32_t keys[2 * N];
+static uint64_t store[STORE];
+static const uint8_t name[NAME] = "first reading";
 
 /* The nine edges, and one node hidden. */
 static const uint16_t batch[3 * UPDATES] = {
@@ -28,7 +30,7 @@ int main(void) {
     uint16_t out[2 * N], count, m, g, least, kind, size, yes, distance;
     uint32_t s, bytes;
 
-    printf("open: %u\n", tegmulos_open(N, edges, 8 * N, nodes, 4 * N, keys, 2 * N));
+    printf("open: %u\n", tegmulos_open(N, edges, 8 * N, nodes, 4 * N, keys, 2 * N, store, STORE));
     printf("apply: %u\n", tegmulos_apply(N, edges, 8 * N, nodes, 4 * N, keys, 2 * N, batch, 3 * UPDATES, answers, UPDATES));
     printf("answers:");
     for (int i = 0; i < UPDATES; i++) {
@@ -47,11 +49,20 @@ int main(void) {
     for (uint32_t i = 0; i < bytes; i++) {
         printf("%02X%c", file[i], i + 1 == bytes ? '\n' : ' ');
     }
+    printf("keep: %u\n", tegmulos_keep(N, edges, 8 * N, nodes, 4 * N, keys, 2 * N, store, STORE, name, NAME));
+    printf("again: %u\n", tegmulos_keep(N, edges, 8 * N, nodes, 4 * N, keys, 2 * N, store, STORE, name, NAME));
     printf("read: %u\n", tegmulos_read(N, edges, 8 * N, nodes, 4 * N, keys, 2 * N, file, bytes));
     tegmulos_file_neighbours(file, bytes, 0, out, 2 * N, &count);
     print_pairs("neighbours of 0 in the file", out, count);
     tegmulos_file_distance(file, bytes, 0, 1, &distance);
     printf("distance of 0 and 1: %u\n", distance);
     printf("of 3, hidden: %u\n", tegmulos_file_neighbours(file, bytes, 3, out, 2 * N, &count));
+    tegmulos_tied(N, edges, 8 * N, nodes, 4 * N, keys, 2 * N, 0, 3, &yes);
+    printf("as read, 0 and 3 tied: %u\n", yes);
+    printf("restore: %u\n", tegmulos_restore(N, edges, 8 * N, nodes, 4 * N, keys, 2 * N, store, STORE, name, NAME));
+    tegmulos_tied(N, edges, 8 * N, nodes, 4 * N, keys, 2 * N, 0, 3, &yes);
+    printf("as kept, 0 and 3 tied: %u\n", yes);
+    printf("drop: %u\n", tegmulos_drop(N, store, STORE, name, NAME));
+    printf("again: %u\n", tegmulos_drop(N, store, STORE, name, NAME));
     return 0;
 }

@@ -2,7 +2,10 @@
 
 mod c {
     extern "C" {
-        pub fn tegmulos_open(n: usize, e: *mut u64, el: usize, v: *mut u16, vl: usize, k: *mut u32, kl: usize) -> u16;
+        pub fn tegmulos_open(n: usize, e: *mut u64, el: usize, v: *mut u16, vl: usize, k: *mut u32, kl: usize, s: *mut u64, sl: usize) -> u16;
+        pub fn tegmulos_keep(n: usize, e: *const u64, el: usize, v: *const u16, vl: usize, k: *const u32, kl: usize, s: *mut u64, sl: usize, name: *const u8, name_len: usize) -> u16;
+        pub fn tegmulos_restore(n: usize, e: *mut u64, el: usize, v: *mut u16, vl: usize, k: *mut u32, kl: usize, s: *const u64, sl: usize, name: *const u8, name_len: usize) -> u16;
+        pub fn tegmulos_drop(n: usize, s: *mut u64, sl: usize, name: *const u8, name_len: usize) -> u16;
         pub fn tegmulos_apply(n: usize, e: *mut u64, el: usize, v: *mut u16, vl: usize, k: *mut u32, kl: usize, b: *const u16, bl: usize, a: *mut i16, al: usize) -> u16;
         pub fn tegmulos_neighbours(n: usize, e: *const u64, el: usize, v: *const u16, vl: usize, k: *const u32, kl: usize, p: u16, o: *mut u16, ol: usize, count: *mut u16) -> u16;
         pub fn tegmulos_tied(n: usize, e: *const u64, el: usize, v: *const u16, vl: usize, k: *const u32, kl: usize, p: u16, q: u16, yes: *mut u16) -> u16;
@@ -31,8 +34,20 @@ pub struct Member {
     pub size: u16,
 }
 
-pub fn open(n: usize, e: &mut [u64], v: &mut [u16], k: &mut [u32]) -> u16 {
-    unsafe { c::tegmulos_open(n, e.as_mut_ptr(), e.len(), v.as_mut_ptr(), v.len(), k.as_mut_ptr(), k.len()) }
+pub fn open(n: usize, e: &mut [u64], v: &mut [u16], k: &mut [u32], store: &mut [u64]) -> u16 {
+    unsafe { c::tegmulos_open(n, e.as_mut_ptr(), e.len(), v.as_mut_ptr(), v.len(), k.as_mut_ptr(), k.len(), store.as_mut_ptr(), store.len()) }
+}
+
+pub fn keep(n: usize, e: &[u64], v: &[u16], k: &[u32], store: &mut [u64], name: &[u8]) -> u16 {
+    unsafe { c::tegmulos_keep(n, e.as_ptr(), e.len(), v.as_ptr(), v.len(), k.as_ptr(), k.len(), store.as_mut_ptr(), store.len(), name.as_ptr(), name.len()) }
+}
+
+pub fn restore(n: usize, e: &mut [u64], v: &mut [u16], k: &mut [u32], store: &[u64], name: &[u8]) -> u16 {
+    unsafe { c::tegmulos_restore(n, e.as_mut_ptr(), e.len(), v.as_mut_ptr(), v.len(), k.as_mut_ptr(), k.len(), store.as_ptr(), store.len(), name.as_ptr(), name.len()) }
+}
+
+pub fn drop(n: usize, store: &mut [u64], name: &[u8]) -> u16 {
+    unsafe { c::tegmulos_drop(n, store.as_mut_ptr(), store.len(), name.as_ptr(), name.len()) }
 }
 
 pub fn apply(n: usize, e: &mut [u64], v: &mut [u16], k: &mut [u32], batch: &[u16], answers: &mut [i16]) -> u16 {

@@ -1,12 +1,15 @@
-//! Each of 0 1 2 tied to each of 3 4 5; 3 is hidden; the visible part is released, read back and asked.
+//! Each of 0 1 2 tied to each of 3 4 5; 3 is hidden; the visible part is released, read back and asked; a state is kept and restored.
 
 #[path = "tegmulos.rs"]
 mod tegmulos;
 
-use tegmulos::{file_distance, file_neighbours, Index, Refusal, Update};
+use tegmulos::{file_distance, file_neighbours, store_words, Index, Name, Refusal, Update};
+
+const FIRST: Name = *b"first reading\0\0\0";
 
 fn main() -> Result<(), Refusal> {
-    let mut index = Index::open(6)?;
+    let (mut index, mut store) = Index::open(6)?;
+    println!("words of the store: {}", store_words(6));
     let mut updates = Vec::new();
     for u in 0..3 {
         for v in 3..6 {
@@ -26,9 +29,19 @@ fn main() -> Result<(), Refusal> {
     println!("released again, the same: {}", read.release()? == release);
     println!("neighbours of 0 in the file: {:?}", file_neighbours(&release.file, 0)?);
     println!("distances of 0 to 1 and 4: {:?} {:?}", file_distance(&release.file, 0, 1)?, file_distance(&release.file, 0, 4)?);
+    index.keep(&mut store, &FIRST)?;
     index.apply(&[Update::Delete(0, 3)])?;
     println!("group of 0 without its edge to the hidden 3: {:?}", index.group(0)?);
     println!("the release, the same: {}", index.release()? == release);
+    if let Err(refusal) = index.keep(&mut store, &FIRST) {
+        println!("kept again: {}", refusal);
+    }
+    index.restore(&store, &FIRST)?;
+    println!("restored, 0 and 3 tied: {}", index.tied(0, 3)?);
+    store.drop_state(&FIRST)?;
+    if let Err(refusal) = index.restore(&store, &FIRST) {
+        println!("dropped, then restored: {}", refusal);
+    }
     if let Err(refusal) = file_neighbours(&release.file, 3) {
         println!("of 3, hidden: {}", refusal);
     }

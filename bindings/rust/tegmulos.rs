@@ -8,20 +8,34 @@ pub mod calls;
 /// At most so many nodes has a graph.
 pub const NODES: usize = 512;
 
-/// A refused call: the number of its reason, 11 to 20.
+/// At most so many states has a store.
+pub const STATES: usize = 8;
+
+/// What a state is kept under.
+pub type Name = [u8; 16];
+
+/// How many words a store for n nodes has.
+pub const fn store_words(n: usize) -> usize {
+    1 + STATES * (3 + 9 * n)
+}
+
+/// A refused call: the number of its reason, 11 to 23.
 #[derive(Clone, Copy, Debug, PartialEq, Eq)]
 pub struct Refusal(pub u16);
 
 impl fmt::Display for Refusal {
     fn fmt(&self, f: &mut fmt::Formatter) -> fmt::Result {
         let reason = match self.0 {
-            11 => "too many nodes, or a batch that is too long",
-            12 => "the tables hold no graph",
+            11 => "too many nodes, a batch that is too long, or a store of another size",
+            12 => "the tables hold no graph, or the words are no store",
             14 => "no such node",
             15 => "one node where two are asked",
             18 => "a buffer is too short",
             19 => "the bytes are no release",
             20 => "a release of another size",
+            21 => "no state has the name",
+            22 => "a state has the name",
+            23 => "eight states are kept",
             _ => "no listed reason",
         };
         write!(f, "{} ({})", self.0, reason)
@@ -104,6 +118,20 @@ pub struct Index {
     keys: Vec<u32>,
 }
 
+/// Up to eight states of a graph, each under a name.
+#[derive(Clone, Debug, PartialEq, Eq)]
+pub struct Store {
+    n: usize,
+    words: Vec<u64>,
+}
+
+impl Store {
+    /// The name struck, and its place cleared.
+    pub fn drop_state(&mut self, name: &Name) -> Result<(), Refusal> {
+        done(calls::drop(self.n, &mut self.words, name), ())
+    }
+}
+
 impl Index {
     /// Tables for n nodes that hold nothing yet; empty ones if n is too large, which the calls then refuse.
     fn unfilled(n: usize) -> Index {
@@ -111,11 +139,22 @@ impl Index {
         Index { n, edges: vec![0; 8 * size], nodes: vec![0; 4 * size], keys: vec![0; 2 * size] }
     }
 
-    /// A graph of n nodes without edges, none hidden.
-    pub fn open(n: usize) -> Result<Index, Refusal> {
+    /// A graph of n nodes without edges, none hidden, and a store for its states.
+    pub fn open(n: usize) -> Result<(Index, Store), Refusal> {
         let mut t = Index::unfilled(n);
-        let result = calls::open(n, &mut t.edges, &mut t.nodes, &mut t.keys);
-        done(result, t)
+        let mut words = vec![0; store_words(n.min(NODES))];
+        let result = calls::open(n, &mut t.edges, &mut t.nodes, &mut t.keys, &mut words);
+        done(result, (t, Store { n, words }))
+    }
+
+    /// The graph as it is, kept under a name.
+    pub fn keep(&self, store: &mut Store, name: &Name) -> Result<(), Refusal> {
+        done(calls::keep(self.n, &self.edges, &self.nodes, &self.keys, &mut store.words, name), ())
+    }
+
+    /// The graph as it was when it was kept under the name.
+    pub fn restore(&mut self, store: &Store, name: &Name) -> Result<(), Refusal> {
+        done(calls::restore(self.n, &mut self.edges, &mut self.nodes, &mut self.keys, &store.words, name), ())
     }
 
     /// The graph of a release, for n nodes: nodes that it lacks are hidden and without edges.
