@@ -10,7 +10,7 @@ use Rattle.model.specs.Lists.{sameList}
 use Rattle.model.specs.Graph.{Graph, emptyGraph}
 use Rattle.model.specs.Tables.{Tables, graphOf, holds}
 use Rattle.model.specs.Store.{Place, dropping, isFull, isKept, keeping, keptGraph, noStates, storeOf, wrongName, wrongStore}
-use Rattle.model.specs.Refusals.{Lengths, judged, lengths, wrongSize}
+use Rattle.model.specs.Refusals.{Lengths, Reasons, judged, lengths, wrongSize}
 use Rattle.model.specs.Steps.{Stepped, run}
 use Rattle.model.specs.Updates.{answers, batchGraph, updateCount, updatesIn, wrongBatch}
 use Rattle.model.specs.Release.{isVisible}
@@ -77,33 +77,41 @@ unopened = record { graph = emptyGraph 0; places = noStates }
 abbrev pub plainRefused : Plain → List ℤ → ℕ → Stepped Plain Outcome
 plainRefused p out r = record { outcome = record { result = r; answers = out }; after = p }
 
--- it is fed the calls' arguments only; of memory and answer buffers it knows the lengths, so 12 never arises
+-- why it refuses a call: of memory and answer buffers it knows the lengths, so 12 never arises
+abbrev pub openWhy : Room → ℕ → Reasons
+openWhy l n = (wrongSize n (l .tables) || wrongStore n (l .store), 11) ∷ []
+
+abbrev pub batchWhy : Room → ℕ → List ℕ → List ℤ → Reasons
+batchWhy l n xs out = (wrongSize n (l .tables) || wrongBatch xs, 11) ∷ (ltb (length out) (updateCount xs), 18) ∷ []
+
+abbrev pub keepWhy : Room → List Place → ℕ → List ℕ → Reasons
+keepWhy l ps n name = (wrongSize n (l .tables) || wrongName n (l .store) name, 11) ∷ (isKept name ps, 22) ∷ (isFull ps, 23) ∷ []
+
+abbrev pub restoreWhy : Room → List Place → ℕ → List ℕ → Reasons
+restoreWhy l ps n name = (wrongSize n (l .tables) || wrongName n (l .store) name, 11) ∷ (not (isKept name ps), 21) ∷ []
+
+abbrev pub dropWhy : Room → List Place → ℕ → List ℕ → Reasons
+dropWhy l ps n name = (wrongName n (l .store) name, 11) ∷ (not (isKept name ps), 21) ∷ []
+
+-- it is fed the calls' arguments only
 unfoldable pub plainStep : Room → Plain → Call → Stepped Plain Outcome
 plainStep l p (opening n) =
-    judged ((wrongSize n (l .tables) || wrongStore n (l .store), 11) ∷ []) (plainRefused p [])
+    judged (openWhy l n) (plainRefused p [])
     (record { outcome = number 0; after = record { graph = emptyGraph n; places = noStates } })
 plainStep l p (batch n xs out) =
-    judged
-    ((wrongSize n (l .tables) || wrongBatch xs, 11) ∷ (ltb (length out) (updateCount xs), 18) ∷ [])
-    (plainRefused p out)
+    judged (batchWhy l n xs out) (plainRefused p out)
     (record {
       outcome = record { result = 0; answers = onto (answers (p .graph) (updatesIn xs)) out };
       after = record { graph = batchGraph (p .graph) (updatesIn xs); places = p .places };
     })
 plainStep l p (keep n name) =
-    judged
-    ((wrongSize n (l .tables) || wrongName n (l .store) name, 11) ∷ (isKept name (p .places), 22) ∷ (isFull (p .places), 23) ∷ [])
-    (plainRefused p [])
+    judged (keepWhy l (p .places) n name) (plainRefused p [])
     (record { outcome = number 0; after = record { graph = p .graph; places = keeping name (p .graph) (p .places) } })
 plainStep l p (restore n name) =
-    judged
-    ((wrongSize n (l .tables) || wrongName n (l .store) name, 11) ∷ (not (isKept name (p .places)), 21) ∷ [])
-    (plainRefused p [])
+    judged (restoreWhy l (p .places) n name) (plainRefused p [])
     (record { outcome = number 0; after = record { graph = keptGraph name (p .places); places = p .places } })
 plainStep l p (drop n name) =
-    judged
-    ((wrongName n (l .store) name, 11) ∷ (not (isKept name (p .places)), 21) ∷ [])
-    (plainRefused p [])
+    judged (dropWhy l (p .places) n name) (plainRefused p [])
     (record { outcome = number 0; after = record { graph = p .graph; places = dropping name (p .places) } })
 
 -- calls that leave what is kept under a name: no opening, and no drop of that name

@@ -12,11 +12,11 @@ use borrow.Author.Tests.{eqb-true, eq-eqb, ltb-false, le-ltb, not-false, not-tru
 use Rattle.model.specs.Graph.{Graph, Proper, emptyGraph, maxNodes, nodeNumbers, rowWords}
 use Rattle.model.specs.Tables.{Tables, graphOf, holds, tablesOf}
 use Rattle.model.specs.Store.{Place, dropping, isFull, isKept, isName, isStore, keeping, keptGraph, noStates, placesIn, storeOf, storeWords, wrongName, wrongStore}
-use Rattle.model.specs.Refusals.{Lengths, Reasons, firstOf, lengths, wrongSize}
+use Rattle.model.specs.Refusals.{Lengths, firstOf, lengths, wrongSize}
 use Rattle.model.specs.Steps.{Stepped, run}
 use Rattle.model.specs.Updates.{answers, batchGraph, updateCount, updatesIn, wrongBatch}
 use Rattle.model.specs.Calls.{Opened, applyCall, applyReasons, applyRefused, dropCall, dropReasons, fillRefused, keepCall, keepReasons, onto, openCall, openReasons, openRefused, restoreCall, restoreReasons, storeRefused}
-use Rattle.model.specs.History.{Call, Outcome, Plain, Room, State, applyStep, batch, callStep, drop, fillStep, history, keep, number, openStep, opening, plain, plainRefused, plainStep, restore, roomOf, spare, spares, storeStep, unopened}
+use Rattle.model.specs.History.{Call, Outcome, Plain, Room, State, applyStep, batch, batchWhy, callStep, drop, dropWhy, fillStep, history, keep, keepWhy, number, openStep, openWhy, opening, plain, plainRefused, plainStep, restore, restoreWhy, roomOf, spare, spares, storeStep, unopened}
 use Rattle.model.specs.TestLaws.{and-fst, and-snd, decide, differ, or-none}
 use Rattle.model.specs.TableLaws.{length-edges, length-keys, length-nodes-of, proper-holds, read-back}
 use Rattle.model.specs.StoreLaws.{Sound, Under, dropping-other, keeping-new, keeping-other, kept-proper, sound-back, sound-dropping, sound-keeping, sound-length, sound-none, sound-store}
@@ -73,22 +73,6 @@ right-name n k name w = let a = or-none (wrongStore n k) _ w in (a .0, not-false
 pub record Agrees (l : Room) (s : State) (p : Plain) : Type 0 where
   pub tables : Kept (l .tables) (p .graph) (s .tables)
   pub store : StoreKept (l .store) (p .graph .nodeCount) (p .places) (s .store)
-
--- why calls are refused, as the plain side knows it
-abbrev openWhy : Room → ℕ → Reasons
-openWhy l n = (wrongSize n (l .tables) || wrongStore n (l .store), 11) ∷ []
-
-abbrev batchWhy : Room → ℕ → List ℕ → List ℤ → Reasons
-batchWhy l n xs out = (wrongSize n (l .tables) || wrongBatch xs, 11) ∷ (ltb (length out) (updateCount xs), 18) ∷ []
-
-abbrev keepWhy : Room → List Place → ℕ → List ℕ → Reasons
-keepWhy l xs n name = (wrongSize n (l .tables) || wrongName n (l .store) name, 11) ∷ (isKept name xs, 22) ∷ (isFull xs, 23) ∷ []
-
-abbrev restoreWhy : Room → List Place → ℕ → List ℕ → Reasons
-restoreWhy l xs n name = (wrongSize n (l .tables) || wrongName n (l .store) name, 11) ∷ (not (isKept name xs), 21) ∷ []
-
-abbrev dropWhy : Room → List Place → ℕ → List ℕ → Reasons
-dropWhy l xs n name = (wrongName n (l .store) name, 11) ∷ (not (isKept name xs), 21) ∷ []
 
 -- what a done opening leaves
 opening-agrees : (n : ℕ) (l : Room) → firstOf (openWhy l n) ≡ 0

@@ -14,8 +14,14 @@ pub const PLACES: usize = 8;
 
 pub const NAME_BYTES: usize = 16;
 
-// Where the state begins in a place.
+// Where the state begins in a place: after the word that tells whether it is used, and the name.
 pub const STATE: usize = 3;
+
+// The words of a node in a state: its row and its mark.
+const NODE_WORDS: usize = Graph::ROW_WORDS + 1;
+
+// The words of a store for the most nodes.
+pub const MOST_WORDS: usize = 1 + PLACES * (STATE + NODE_WORDS * Graph::NODES);
 
 // A name as the two words that a place keeps.
 pub struct Name {
@@ -28,7 +34,7 @@ fn place_words(n: usize) -> usize
     requires { ⌜ n ≤ maxNodes ⌝ }
     ensures { λ r. ⌜ r ≡ placeWords n ⌝ }
 {
-    3 + 9 * n
+    STATE + NODE_WORDS * n
 }
 
 pub fn words(n: usize) -> usize

@@ -18,10 +18,6 @@ pub const INPUT_BYTES: usize = text::INPUT_BYTES + 1;
 // The release buffer, which holds every release that 4,096 changes can lead to.
 const FILE_BYTES: usize = 65536;
 
-// The words of a store for the most nodes.
-const STORE_WORDS: usize = 1
-    + places::PLACES * (places::STATE + (Graph::ROW_WORDS + 1) * Graph::NODES);
-
 // No output is longer.
 pub const OUTPUT_BYTES: usize = 131072;
 
@@ -62,7 +58,7 @@ fn print_accepted(n: usize, batch: &[u16], out: &mut [u8]) -> usize
     let mut edges = [0u64; Graph::NODES * Graph::ROW_WORDS];
     let mut nodes = [0u16; Graph::NODES * Graph::NODE_NUMBERS];
     let mut keys = [0u32; Graph::NODES * 2];
-    let mut store = [0u64; STORE_WORDS];
+    let mut store = [0u64; places::MOST_WORDS];
     let mut answers = [0i16; Graph::UPDATES];
     let mut file = [0u8; FILE_BYTES];
     let words = Graph::ROW_WORDS * n;
