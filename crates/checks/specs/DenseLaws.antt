@@ -15,7 +15,7 @@ use Rattle.rows.specs.Rows.{Words, lent, movedKey}
 use Rattle.search.specs.Search.{Ready, keyAgrees, meets, rowIn}
 use Rattle.search.specs.SearchLaws.{meets-words}
 use Rattle.search.specs.TwinRowLaws.{false-key, meet-false, meet-true, true-key}
-use Rattle.keys.specs.KeySums.{rowCubes, rowKey, twinKey}
+use Rattle.keys.specs.KeySums.{LeadersSummed, rowKey, twinKey, wordsFor}
 use Rattle.keys.specs.FourLaws.{dense-key}
 use Rattle.symmetry.specs.Symmetry.{symmetric}
 use Rattle.edges.specs.Edges.{RowsBelow, loopless, rowHolds}
@@ -48,8 +48,9 @@ module _ (n : ℕ) (edges : List ℕ) (small : n ≤ maxNodes) (size : length ed
     unfolding rowsHold
     keys-pass keys p l k = all-pass _ n n (omega arith) (λ q hq. and-true (mirrored-rows q hq) (k q (omega arith)))
 
-    pub key-by-table : {s x : ℕ} (p : ℕ) → p < n → s ≡ rowCubes edges p 8 → x ≡ s % 2 ^ 32 → x ≡ rowKey n edges p
-    key-by-table p hp es ex = ex ∙ ap (λ (y : ℕ). y % 2 ^ 32) es ∙ dense-key edges p n small hp (row-inside n edges mirrored-rows p hp)
+    pub key-by-table : {sums : List ℕ} (table : List ℕ) (p : ℕ) → p < n → LeadersSummed n 4 table edges (wordsFor n) sums → nodeNumber table p 0 ≡ p → getD sums p 0 ≡ rowKey n edges p
+    unfolding nodeNumber
+    key-by-table table p hp s el = let z : 4 * p + 0 ≡ 4 * p = omega arith in s .sums p hp (rw z at el) ∙ dense-key edges p n small hp (row-inside n edges mirrored-rows p hp)
 
     -- twins, by the keys that the rows tell
     module _ (words : Words edges) where

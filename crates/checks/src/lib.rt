@@ -83,7 +83,7 @@ fn rows_hold(edges: &[u64], nodes: &[u16], keys: &[u32], n: usize) -> bool
     requires { ⌜ (n ≤ maxNodes) × (length (now edges) ≡ rowWords * n) × (length (now nodes) ≡ nodeNumbers * n) × (length (now keys) ≡ 2 * n) × (twinsHold n (now edges) (now nodes) ≡ true) ⌝ }
     ensures { λ r. ⌜ r ≡ rowsHold n (now (edges .entry)) (now (keys .entry)) ⌝ }
 {
-    if edges::is_dense(edges, n) {
+    if keys::is_dense(edges, n) {
         return dense::rows_hold(edges, nodes, keys, n);
     }
     sparse_rows_hold(edges, keys, n)

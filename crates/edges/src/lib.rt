@@ -80,22 +80,12 @@ pub fn hold_by_blocks(edges: &[u64], n: usize) -> bool
     is_loopless(edges, n)
 }
 
-// Whether a walk over all bits would take longer than the way by blocks, told by a sample: of few nodes, every third. Either answer is right.
-pub fn is_dense(edges: &[u64], n: usize) -> bool
-    requires { ⌜ length (now edges) ≤ rowWords * maxNodes ⌝ }
-{
-    if n <= 64 {
-        return keys::bits_among(edges, 24) > 300;
-    }
-    keys::has_many_bits(edges)
-}
-
 // Whether the table is that of a graph of n nodes.
 pub fn hold(edges: &[u64], n: usize) -> bool
     requires { ⌜ (n ≤ maxNodes) × (length (now edges) ≡ rowWords * n) ⌝ }
     ensures { λ r. ⌜ r ≡ edgesHold n (now (edges .entry)) ⌝ }
 {
-    if is_dense(edges, n) {
+    if keys::is_dense(edges, n) {
         return hold_by_blocks(edges, n);
     }
     hold_by_walks(edges, n)

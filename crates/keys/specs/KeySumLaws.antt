@@ -18,15 +18,11 @@ use Rattle.search.specs.Search.{Within}
 use Rattle.search.specs.SearchLaws.{within-inside}
 use Rattle.rows.specs.KeyLaws.{keys-at}
 use Rattle.rows.specs.Rows.{keyOf}
-use Rattle.keys.specs.KeySums.{KeysPut, Summed, rowCubes}
+use Rattle.keys.specs.KeySums.{KeysPut, Summed, rowCubes, wordsFor}
 use Rattle.keys.specs.FourLaws.{dense-key}
 
 pub summed-none : (g : Graph) (t : List ℕ) → Summed g 0 t t
 summed-none g t = record { size = refl; keys = λ p k h l. absurd (omega arith) }
-
--- so they are in the table itself
-pub summed-here : {g : Graph} {i : ℕ} {t after : List ℕ} → Summed g i t after → Summed g i after after
-summed-here a = record { size = refl; keys = a .keys }
 
 pub keys-put : (p sum : ℕ) (t : List ℕ) {y r : ℕ} → y ≡ cube p → r ≡ (sum + y) % 2 ^ 32 → KeysPut p sum t (set (set t (2 * p) sum) (2 * p + 1) r)
 keys-put p sum t e f = record { put = ap (set (set t (2 * p) sum) (2 * p + 1)) (f ∙ ap (λ (z : ℕ). (sum + z) % 2 ^ 32) e) }
@@ -58,8 +54,8 @@ summed-more {g} {i} {x} {t} {t₁} {t₂} a l ex h = record {
         getD-set-other (set t₁ (2 * i) x) (2 * i + 1) (2 * p + k) r 0 (omega arith) ∙ getD-set-other t₁ (2 * i) (2 * p + k) x 0 (omega arith) ∙ a .keys p k (omega arith) m
 
 -- a row summed by a table
-pub row-key : {n : ℕ} {edges : List ℕ} {p s x : ℕ} → Within n edges → p < n → s ≡ rowCubes edges p 8 → x ≡ s % 2 ^ 32 → x ≡ openKey (whole (graphIn n edges)) p
-row-key {n} {edges} {p} h hp e f = f ∙ ap (λ (y : ℕ). y % 2 ^ 32) e ∙ dense-key edges p n (h .small) hp (λ q l t. within-inside h p q hp l t)
+pub row-key : {n : ℕ} {edges : List ℕ} {p x : ℕ} → Within n edges → p < n → x ≡ rowCubes edges p (wordsFor n) % 2 ^ 32 → x ≡ openKey (whole (graphIn n edges)) p
+row-key {n} {edges} {p} h hp e = e ∙ dense-key edges p n (h .small) hp (λ q l t. within-inside h p q hp l t)
 
 pub summed-all : {g : Graph} {i : ℕ} {t t₁ : List ℕ} → Summed g i t t₁ → length t ≡ 2 * g .nodeCount → g .nodeCount ≤ i → t₁ ≡ keysOf g
 summed-all {g} {i} {t} {t₁} a l h = ext-getD 0 t₁ (keysOf g) (a .size ∙ l ∙ sym (length-keys g)) at

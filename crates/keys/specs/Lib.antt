@@ -5,5 +5,6 @@ pub mod WalkLaws
 pub mod SumLaws
 pub mod KeySums
 pub mod FourLaws
+pub mod LeaderLaws
 pub mod KeySumLaws
 pub mod TwinKeyLaws

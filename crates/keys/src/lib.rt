@@ -1,23 +1,23 @@
 // Keys: the cubes of neighbours added up, by a walk over the bits of a row, by a table of sums over eight bits, or told by a twin's.
 ghost use mathlib.Core.Path.{_≡_};
-ghost use Prim.Native.Nat.{_+_, _*_, _/_, _%_, _^_, _≤_, _<_};
-ghost use lib.ListN.{length};
-ghost use Rattle.model.specs.Graph.{Proper, maxNodes, rowWords, whole};
-ghost use Rattle.model.specs.Grouping.{openKey};
+ghost use Prim.Native.Nat.{ℕ, _+_, _*_, _/_, _%_, _^_, _≤_, _<_};
+ghost use lib.ListN.{length, replicate};
+ghost use Rattle.model.specs.Graph.{maxNodes, rowWords};
 ghost use Rattle.model.specs.Tables.{keysOf, graphIn};
 ghost use Rattle.search.specs.Search.{Within};
 ghost use Rattle.keys.specs.KeySums.{
+  AllLead,
   FoursFilled,
   KeysPut,
-  LeastTold,
+  LeadersSummed,
   RowInside,
-  Summed,
   Widened,
+  WordAdded,
   eightCubes,
-  rowCubes,
   rowKey,
   twinKey,
   wordCubes,
+  wordsFor,
 };
 use rows::Graph;
 
@@ -39,115 +39,135 @@ fn chosen_of(v: usize, c: u32, d: u32, e: u32, f: u32) -> u32
     if_odd(v, c) + if_odd(v / 2, d) + if_odd(v / 4, e) + if_odd(v / 8, f)
 }
 
-// The cubes of four nodes from 4 * b on, for each choice among them.
-fn fill_four(sums: &mut [u32], b: usize)
-    requires { ⌜ (b < 128) × FoursFilled (16 * b) (now sums) ⌝ }
-    ensures { λ _. ⌜ FoursFilled (16 * (b + 1)) (now (sums .exit)) ⌝ }
+// The cubes of four nodes of word w, the b-th four of them, for each choice among these.
+fn fill_four(sums: &mut [u32], w: usize, b: usize)
+    requires { ⌜ (w < 8) × (b < 16) × FoursFilled w (16 * b) (now sums) ⌝ }
+    ensures { λ _. ⌜ FoursFilled w (16 * (b + 1)) (now (sums .exit)) ⌝ }
 {
-    let c = rows::cube_of(4 * b);
-    let d = rows::cube_of(4 * b + 1);
-    let e = rows::cube_of(4 * b + 2);
-    let f = rows::cube_of(4 * b + 3);
+    let p = 4 * (16 * w + b);
+    let c = rows::cube_of(p);
+    let d = rows::cube_of(p + 1);
+    let e = rows::cube_of(p + 2);
+    let f = rows::cube_of(p + 3);
     for v in 0..16 {
         sums[16 * b + v] = chosen_of(v, c, d, e, f);
     }
 }
 
-// The sums of the cubes of any of four nodes, for all nodes.
-fn fill_fours(sums: &mut [u32])
-    requires { ⌜ length (now sums) ≡ 2048 ⌝ }
-    ensures { λ _. ⌜ FoursFilled 2048 (now (sums .exit)) ⌝ }
+// The sums of the cubes of any of four nodes, for the nodes of word w.
+fn fill_fours(sums: &mut [u32], w: usize)
+    requires { ⌜ (w < 8) × (length (now sums) ≡ 256) ⌝ }
+    ensures { λ _. ⌜ FoursFilled w 256 (now (sums .exit)) ⌝ }
 {
-    for b in 0..128 {
-        fill_four(sums, b);
+    for b in 0..16 {
+        fill_four(sums, w, b);
     }
 }
 
-// Sixteen sums for the eight nodes from 8 * b on: choice h among the last four of them, and each choice among the first four.
-fn widen_row(fours: &[u32], sums: &mut [u32], b: usize, h: usize)
-    requires { ⌜ (b < 64) × (h < 16) × FoursFilled 2048 (now fours) × Widened (256 * b + 16 * h) (now sums) ⌝ }
-    ensures { λ _. ⌜ Widened (256 * b + 16 * (h + 1)) (now (sums .exit)) ⌝ }
+// Sixteen sums for eight nodes of a word: choice h among the last four of them, and each choice among the first four.
+fn widen_row(fours: &[u32], sums: &mut [u32], w: usize, i: usize, h: usize)
+    requires { ⌜ (w < 8) × (i < 8) × (h < 16) × FoursFilled w 256 (now fours) × Widened w (256 * i + 16 * h) (now sums) ⌝ }
+    ensures { λ _. ⌜ Widened w (256 * i + 16 * (h + 1)) (now (sums .exit)) ⌝ }
 {
-    let x = fours[32 * b + 16 + h];
+    let x = fours[32 * i + 16 + h];
     for l in 0..16 {
-        sums[256 * b + 16 * h + l] = fours[32 * b + l] + x;
+        sums[256 * i + 16 * h + l] = fours[32 * i + l] + x;
     }
 }
 
 // All sums for those nodes, in a loop of its own: the sums of the first four are read once.
-fn widen_rows(fours: &[u32], sums: &mut [u32], b: usize)
-    requires { ⌜ (b < 64) × FoursFilled 2048 (now fours) × Widened (256 * b) (now sums) ⌝ }
-    ensures { λ _. ⌜ Widened (256 * (b + 1)) (now (sums .exit)) ⌝ }
+fn widen_rows(fours: &[u32], sums: &mut [u32], w: usize, i: usize)
+    requires { ⌜ (w < 8) × (i < 8) × FoursFilled w 256 (now fours) × Widened w (256 * i) (now sums) ⌝ }
+    ensures { λ _. ⌜ Widened w (256 * (i + 1)) (now (sums .exit)) ⌝ }
 {
     for h in 0..16 {
-        widen_row(fours, sums, b, h);
+        widen_row(fours, sums, w, i, h);
     }
 }
 
-fn widen(fours: &[u32], sums: &mut [u32])
-    requires { ⌜ FoursFilled 2048 (now fours) × (length (now sums) ≡ 16384) ⌝ }
-    ensures { λ _. ⌜ Widened 16384 (now (sums .exit)) ⌝ }
+// The sums of the cubes of any of eight nodes, for the nodes of word w.
+fn widen(fours: &[u32], sums: &mut [u32], w: usize)
+    requires { ⌜ (w < 8) × FoursFilled w 256 (now fours) × (length (now sums) ≡ 2048) ⌝ }
+    ensures { λ _. ⌜ Widened w 2048 (now (sums .exit)) ⌝ }
 {
-    for b in 0..64 {
-        widen_rows(fours, sums, b);
+    for i in 0..8 {
+        widen_rows(fours, sums, w, i);
     }
 }
 
-// The sums of the cubes of any of eight nodes, for all nodes.
-pub fn fill(sums: &mut [u32])
-    requires { ⌜ length (now sums) ≡ 16384 ⌝ }
-    ensures { λ _. ⌜ Widened 16384 (now (sums .exit)) ⌝ }
-{
-    let mut fours = [0u32; 2048];
-    fill_fours(&mut fours);
-    widen(&fours, sums);
-}
-
-fn wide_key(x: u32) -> u64
-    ensures { λ r. ⌜ r ≡ x ⌝ }
-{
-    x as u64
-}
-
-// The sum for the eight bits of x from bit 8 * i on, in word w.
-fn eight_sum(sums: &[u32], w: usize, x: u64, i: usize) -> u64
-    requires { ⌜ (w < 8) × (i < 8) × Widened 16384 (now sums) ⌝ }
-    ensures { λ r. ⌜ (r ≡ eightCubes (8 * w + i) (x / 2 ^ (8 * i) % 256)) × (r < 2 ^ 32) ⌝ }
+// The sum for the eight bits of x from bit 8 * i on.
+fn eight_sum(sums: &[u32], x: u64, i: usize) -> u32
+    requires { ⌜ (i < 8) × (length (now sums) ≡ 2048) ⌝ }
+    ensures { λ r. ⌜ ((w : ℕ) → Widened w 2048 (now (sums .entry)) → r ≡ eightCubes (8 * w + i) (x / 2 ^ (8 * i) % 256)) ⌝ }
 {
     let v = ((x >> (8 * i)) % 256) as usize;
-    wide_key(sums[256 * (8 * w + i) + v])
+    sums[256 * i + v]
 }
 
-// The cubes of the nodes whose bits stand in word w.
-fn word_sum(sums: &[u32], w: usize, x: u64) -> u64
-    requires { ⌜ (w < 8) × Widened 16384 (now sums) ⌝ }
-    ensures { λ r. ⌜ (r ≡ wordCubes w x 64) × (r ≤ 34359738368) ⌝ }
+// The cubes of the nodes whose bits stand in a word.
+fn word_sum(sums: &[u32], x: u64) -> u32
+    requires { ⌜ length (now sums) ≡ 2048 ⌝ }
+    ensures { λ r. ⌜ ((w : ℕ) → Widened w 2048 (now (sums .entry)) → r ≡ wordCubes w x 64 % 2 ^ 32) ⌝ }
 {
-    let mut total = 0;
+    let mut total = 0u32;
     for i in 0..8 {
-        total += eight_sum(sums, w, x, i);
+        total = std::num::wrapping_add_u32(total, eight_sum(sums, x, i));
     }
     total
 }
 
-// The cubes of the nodes whose bits stand in p's row.
-pub fn row_sum(edges: &[u64], sums: &[u32], p: usize) -> u64
-    requires { ⌜ (p < maxNodes) × (rowWords * p + rowWords ≤ length (now edges)) × Widened 16384 (now sums) ⌝ }
-    ensures { λ r. ⌜ r ≡ rowCubes (now (edges .entry)) p 8 ⌝ }
+// Word w of p's row is added to p's total, if p leads.
+fn add_row_word(
+    edges: &[u64],
+    least: &[u16],
+    stride: usize,
+    sums: &[u32],
+    totals: &mut [u32],
+    p: usize,
+    w: usize,
+)
+    requires { ⌜ (p < maxNodes) × (rowWords * p + rowWords ≤ length (now edges)) × (stride * p < length (now least)) ⌝ }
+    requires { ⌜ (w < 8) × Widened w 2048 (now sums) × (length (now totals) ≡ maxNodes) ⌝ }
+    ensures { λ _. ⌜ WordAdded stride (now (least .entry)) (now (edges .entry)) w p (now (totals .entry)) (now (totals .exit)) ⌝ }
 {
-    let a = Graph::ROW_WORDS * p;
-    let mut total = 0;
-    for w in 0..8 {
-        total += word_sum(sums, w, edges[a + w]);
+    if rows::wide(least[stride * p]) != p {
+        return;
     }
-    total
+    let x = edges[Graph::ROW_WORDS * p + w];
+    totals[p] = std::num::wrapping_add_u32(totals[p], word_sum(sums, x));
 }
 
-// The low 32 bits.
-pub fn low_half(x: u64) -> u32
-    ensures { λ r. ⌜ r ≡ x % 2 ^ 32 ⌝ }
+// Word w of all rows is added to the totals of those who lead.
+fn add_word(
+    edges: &[u64],
+    least: &[u16],
+    stride: usize,
+    sums: &[u32],
+    totals: &mut [u32],
+    n: usize,
+    w: usize,
+)
+    requires { ⌜ (n ≤ maxNodes) × (length (now edges) ≡ rowWords * n) × (0 < stride) × (stride * n ≤ length (now least)) ⌝ }
+    requires { ⌜ (w < 8) × Widened w 2048 (now sums) × LeadersSummed n stride (now least) (now edges) w (now totals) ⌝ }
+    ensures { λ _. ⌜ LeadersSummed n stride (now (least .entry)) (now (edges .entry)) (w + 1) (now (totals .exit)) ⌝ }
 {
-    (x % 4294967296) as u32
+    for p in 0..n {
+        add_row_word(edges, least, stride, sums, totals, p, w);
+    }
+}
+
+// The cubes of the neighbours of each node that leads: word by word, so that one small table of sums serves all rows.
+pub fn sum_leaders(edges: &[u64], least: &[u16], stride: usize, n: usize, totals: &mut [u32])
+    requires { ⌜ (n ≤ maxNodes) × (length (now edges) ≡ rowWords * n) × (0 < stride) × (stride * n ≤ length (now least)) × (now totals ≡ replicate maxNodes 0) ⌝ }
+    ensures { λ _. ⌜ LeadersSummed n stride (now (least .entry)) (now (edges .entry)) (wordsFor n) (now (totals .exit)) ⌝ }
+{
+    let mut fours = [0u32; 256];
+    let mut sums = [0u32; 2048];
+    for w in 0..(n + 63) / 64 {
+        fill_fours(&mut fours, w);
+        widen(&fours, &mut sums, w);
+        add_word(edges, least, stride, &sums, totals, n, w);
+    }
 }
 
 // The open key of a twin p of l, by the keys of l.
@@ -162,7 +182,7 @@ pub fn twin_key(keys: &[u32], closed: bool, l: usize, p: usize) -> u32
 }
 
 // The cubes of p's neighbours added up: one walk over the bits of its row.
-pub fn sum_row(edges: &[u64], n: usize, p: usize) -> u32
+fn sum_row(edges: &[u64], n: usize, p: usize) -> u32
     requires { ⌜ (n ≤ maxNodes) × (length (now edges) ≡ rowWords * n) × (p < n) × RowInside n (now edges) p ⌝ }
     ensures { λ r. ⌜ r ≡ rowKey n (now (edges .entry)) p ⌝ }
 {
@@ -189,7 +209,7 @@ fn ones_of(x: u64) -> usize
 }
 
 // How many bits every so many words of the edges have.
-pub fn bits_among(edges: &[u64], step: usize) -> usize
+fn bits_among(edges: &[u64], step: usize) -> usize
     requires { ⌜ (length (now edges) ≤ rowWords * maxNodes) × (0 < step) × (step ≤ 64) ⌝ }
 {
     let mut bits = 0;
@@ -201,10 +221,13 @@ pub fn bits_among(edges: &[u64], step: usize) -> usize
     bits
 }
 
-// Whether a sample of the edges has so many bits that a walk over all of them would take long. Either answer is right.
-pub fn has_many_bits(edges: &[u64]) -> bool
+// Whether a walk over all bits would take longer than the ways by words, told by a sample: of few nodes, every third. Either answer is right.
+pub fn is_dense(edges: &[u64], n: usize) -> bool
     requires { ⌜ length (now edges) ≤ rowWords * maxNodes ⌝ }
 {
+    if n <= 64 {
+        return bits_among(edges, 24) > 300;
+    }
     bits_among(edges, 37) > 1000
 }
 
@@ -218,29 +241,27 @@ pub fn put_keys(keys: &mut [u32], p: usize, sum: u32)
     keys[a + 1] = std::num::wrapping_add_u32(sum, rows::cube_of(p));
 }
 
-// The open key of p: by the keys of its least member, or eight bits at a time by a table.
-fn open_key(edges: &[u64], least: &[u16], keys: &[u32], sums: &[u32], n: usize, p: usize) -> u32
-    requires { ⌜ Within n (now edges) × Proper (graphIn n (now edges)) × LeastTold n (now edges) (now least) × Widened 16384 (now sums) ⌝ }
-    requires { ⌜ (p < n) × (2 * n ≤ length (now keys)) × Summed (graphIn n (now edges)) p (now keys) (now keys) ⌝ }
-    ensures { λ r. ⌜ r ≡ openKey (whole (graphIn n (now (edges .entry)))) p ⌝ }
+// Every node leads: its own number stands at its place.
+fn lead_all(least: &mut [u16], n: usize)
+    requires { ⌜ (n ≤ maxNodes) × (length (now least) ≡ maxNodes) ⌝ }
+    ensures { λ _. ⌜ AllLead n (now (least .exit)) ⌝ }
 {
-    let l = rows::wide(least[p]);
-    if l != p {
-        return twin_key(keys, rows::edge(edges, l, p), l, p);
+    for p in 0..n {
+        least[p] = p as u16;
     }
-    low_half(row_sum(edges, sums, p))
 }
 
-// The keys that an edge table demands, with the least members known: eight bits at a time.
-fn sum_dense(edges: &[u64], least: &[u16], keys: &mut [u32], n: usize)
-    requires { ⌜ Within n (now edges) × Proper (graphIn n (now edges)) × LeastTold n (now edges) (now least) × (length (now keys) ≡ 2 * n) ⌝ }
+// The keys that an edge table demands, eight bits at a time.
+fn sum_dense(edges: &[u64], keys: &mut [u32], n: usize)
+    requires { ⌜ Within n (now edges) × (length (now keys) ≡ 2 * n) ⌝ }
     ensures { λ _. ⌜ now (keys .exit) ≡ keysOf (graphIn n (now (edges .entry))) ⌝ }
 {
-    let mut sums = [0u32; 16384];
-    fill(&mut sums);
+    let mut least = [0u16; Graph::NODES];
+    lead_all(&mut least, n);
+    let mut totals = [0u32; Graph::NODES];
+    sum_leaders(edges, &least, 1, n, &mut totals);
     for p in 0..n {
-        let sum = open_key(edges, least, keys, &sums, n, p);
-        put_keys(keys, p, sum);
+        put_keys(keys, p, totals[p]);
     }
 }
 
@@ -255,21 +276,14 @@ fn sum_each(edges: &[u64], keys: &mut [u32], n: usize)
     }
 }
 
-// Whether rows are summed bit by bit: with few nodes or few bits a table would take longer. Either answer is right.
-fn is_sparse(edges: &[u64], n: usize) -> bool
-    requires { ⌜ length (now edges) ≤ rowWords * maxNodes ⌝ }
-{
-    n <= 64 || !has_many_bits(edges)
-}
-
-// The keys that an edge table demands, with the least members known.
-pub fn sum_rows(edges: &[u64], least: &[u16], keys: &mut [u32], n: usize)
-    requires { ⌜ Within n (now edges) × Proper (graphIn n (now edges)) × LeastTold n (now edges) (now least) × (length (now keys) ≡ 2 * n) ⌝ }
+// The keys that an edge table demands.
+pub fn sum_rows(edges: &[u64], keys: &mut [u32], n: usize)
+    requires { ⌜ Within n (now edges) × (length (now keys) ≡ 2 * n) ⌝ }
     ensures { λ _. ⌜ now (keys .exit) ≡ keysOf (graphIn n (now (edges .entry))) ⌝ }
 {
-    if is_sparse(edges, n) {
-        sum_each(edges, keys, n);
+    if is_dense(edges, n) {
+        sum_dense(edges, keys, n);
         return;
     }
-    sum_dense(edges, least, keys, n);
+    sum_each(edges, keys, n);
 }

@@ -14,13 +14,13 @@ ghost use Rattle.tables.specs.Lent.{Sized};
 ghost use Rattle.release.specs.Fill.{Keyed, SumsFilled};
 use crate::copies;
 
-// The first members of all nodes, and with them the keys by rows: for rows with many bits.
+// The first members of all nodes, and the keys by rows: for rows with many bits.
 fn key_rows(n: usize, least: &mut [u16], edges: &[u64], keys: &mut [u32])
     requires { ⌜ VisibleTold n (now edges) (now least) × (length (now keys) ≡ 2 * n) ⌝ }
     ensures { λ _. ⌜ Keyed n (now (edges .entry)) (now (least .exit)) (now (keys .exit)) ⌝ }
 {
     adopting::adopt_hidden(edges, n, least);
-    keys::sum_rows(edges, least, keys, n);
+    keys::sum_rows(edges, keys, n);
 }
 
 // The keys by the sums of groups, and the first members of all nodes.

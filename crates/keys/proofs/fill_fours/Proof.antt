@@ -7,36 +7,29 @@ use Rattle.keys.proofs.fill_fours.Statement.{statement}
 use Rattle.keys.proofs.fill_fours.Tie as tie
 
 abbrev Inv-loop : tie.InvT-loop
-Inv-loop sums₀ b₀ sums b = (b ≤ 128) × FoursFilled (16 * b) sums
+Inv-loop sums₀ w b₀ sums b = (b ≤ 16) × FoursFilled w (16 * b) sums
 
 abbrev μ-loop : tie.MeasureT-loop
-μ-loop sums₀ b₀ sums b = 128 - b
+μ-loop sums₀ w b₀ sums b = 16 - b
 
--- src/dense.rt:171:5
 loop-holds : tie.Need-loop-holds Inv-loop μ-loop
-loop-holds c = (omega arith, fours-none _ (c .before .pre))
+loop-holds c = (omega arith, fours-none _ _ (c .before .pre .1))
 
--- src/dense.rt:172:9
 fill-four-requires : tie.Need-fill-four-requires Inv-loop μ-loop
-fill-four-requires c κs = (c .before .loop-test .taken, c .before .before .loop .inv .1)
+fill-four-requires c κs = (c .before .before .before .before .pre .0, c .before .loop-test .taken, c .before .before .loop .inv .1)
 
--- src/dense.rt:171:9
 add-b : tie.Need-add-b Inv-loop μ-loop
 add-b c = omega arith
 
--- src/dense.rt:171:5
 loop-less : tie.Need-loop-less Inv-loop μ-loop
 loop-less c = omega arith
 
--- src/dense.rt:171:5
 loop-again : tie.Need-loop-again Inv-loop μ-loop
 loop-again c = (omega arith, c .before .before .fill-four .ensures)
 
--- src/dense.rt:167:1
 same-length : tie.Need-same-length Inv-loop μ-loop
 same-length c = omega (arith, c .before .loop .inv .1 .size)
 
--- src/dense.rt:167:1
 returns : tie.Need-returns Inv-loop μ-loop
 returns c = filled-start (c .before .loop .inv .1) (omega arith)
 

@@ -5,11 +5,11 @@ use Rattle.search.specs.SearchLaws.{within-length}
 use Rattle.keys.proofs.sum_rows.Statement.{statement}
 use Rattle.keys.proofs.sum_rows.Tie as tie
 
-is-sparse-requires : tie.Need-is-sparse-requires
-is-sparse-requires c κs = let w = c .before .before .before .pre .0 in omega (arith, within-length w, w .small)
+is-dense-requires : tie.Need-is-dense-requires
+is-dense-requires c κs = let w = c .before .before .pre .0 in omega (arith, within-length w, w .small)
 
-sum-each-requires : tie.Need-sum-each-requires
-sum-each-requires c κs = search needs
+sum-dense-requires : tie.Need-sum-dense-requires
+sum-dense-requires c κs = search needs
 
 same-length : tie.Need-same-length
 same-length c = search needs
@@ -17,8 +17,8 @@ same-length c = search needs
 returns : tie.Need-returns
 returns c = search needs
 
-sum-dense-requires : tie.Need-sum-dense-requires
-sum-dense-requires c κs = search needs
+sum-each-requires : tie.Need-sum-each-requires
+sum-each-requires c κs = search needs
 
 same-length-2 : tie.Need-same-length-2
 same-length-2 c = search needs
@@ -30,10 +30,10 @@ pub sum-rows-spec : {M : Type 1} → statement M
 sum-rows-spec =
     tie.close
     (tie.spec
-    is-sparse-requires
-    sum-each-requires
+    is-dense-requires
+    sum-dense-requires
     same-length
     returns
-    sum-dense-requires
+    sum-each-requires
     same-length-2
     returns-2)

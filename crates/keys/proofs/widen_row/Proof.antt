@@ -1,4 +1,4 @@
--- The invariant: the entries before 256 * b + 16 * h + l are there.
+-- The invariant: the entries before 256 * i + 16 * h + l are there.
 use Prim.Native.Nat.{_+_, _*_, _-_, _≤_}
 use native.Mathlib.Omega.{arith}
 use Rattle.keys.specs.KeySums.{Widened}
@@ -7,10 +7,10 @@ use Rattle.keys.proofs.widen_row.Statement.{statement}
 use Rattle.keys.proofs.widen_row.Tie as tie
 
 abbrev Inv-loop : tie.InvT-loop
-Inv-loop fours sums₀ b h x l₀ sums l = (l ≤ 16) × Widened (256 * b + 16 * h + l) sums
+Inv-loop fours sums₀ w i h x l₀ sums l = (l ≤ 16) × Widened w (256 * i + 16 * h + l) sums
 
 abbrev μ-loop : tie.MeasureT-loop
-μ-loop fours sums₀ b h x l₀ sums l = 16 - l
+μ-loop fours sums₀ w i h x l₀ sums l = 16 - l
 
 mul-x : tie.Need-mul-x Inv-loop μ-loop
 mul-x c = omega arith
@@ -25,10 +25,10 @@ mul-x-2 : tie.Need-mul-x-2 Inv-loop μ-loop
 mul-x-2 c = omega arith
 
 shared-slice-read-x : tie.Need-shared-slice-read-x Inv-loop μ-loop
-shared-slice-read-x c = omega (arith, c .before .pre .2 .size)
+shared-slice-read-x c = omega (arith, c .before .pre .3 .size)
 
 loop-holds : tie.Need-loop-holds Inv-loop μ-loop
-loop-holds c = (omega arith, widened-start (c .before .pre .3) (omega arith))
+loop-holds c = (omega arith, widened-start (c .before .pre .4) (omega arith))
 
 mul-sums : tie.Need-mul-sums Inv-loop μ-loop
 mul-sums c = omega arith
@@ -40,13 +40,13 @@ mul-sums-2 : tie.Need-mul-sums-2 Inv-loop μ-loop
 mul-sums-2 c = omega arith
 
 shared-slice-read-sums : tie.Need-shared-slice-read-sums Inv-loop μ-loop
-shared-slice-read-sums c = omega (arith, c .before .before .before .before .pre .2 .size)
+shared-slice-read-sums c = omega (arith, c .before .before .before .before .pre .3 .size)
 
 add-sums-2 : tie.Need-add-sums-2 Inv-loop μ-loop
 add-sums-2 c =
     let start = c .before .before .before .before in
-    let b = start .args .b in
-    omega (arith, four-le (32 * b + c .before .before .loop .l) (start .pre .2) (omega arith), four-le (32 * b + 16 + start .args .h) (start .pre .2) (omega arith))
+    let i = start .args .i in
+    omega (arith, four-le (32 * i + c .before .before .loop .l) (start .pre .3) (start .pre .0) (omega arith), four-le (32 * i + 16 + start .args .h) (start .pre .3) (start .pre .0) (omega arith))
 
 mul-sums-3 : tie.Need-mul-sums-3 Inv-loop μ-loop
 mul-sums-3 c = omega arith
@@ -74,11 +74,11 @@ loop-less c = omega arith
 
 loop-again : tie.Need-loop-again Inv-loop μ-loop
 loop-again c =
-    let start = c .before .before .before .before in
-    (omega arith, widened-more (c .before .before .loop .inv .1) (start .pre .2) (start .pre .0) (start .pre .1) (c .before .loop-test .taken))
+    let pre = c .before .before .before .before .pre in
+    (omega arith, widened-more (c .before .before .loop .inv .1) (pre .3) (pre .1) (pre .2) (c .before .loop-test .taken))
 
 same-length : tie.Need-same-length Inv-loop μ-loop
-same-length c = omega (arith, c .before .loop .inv .1 .size, c .before .before .before .pre .3 .size)
+same-length c = omega (arith, c .before .loop .inv .1 .size, c .before .before .before .pre .4 .size)
 
 returns : tie.Need-returns Inv-loop μ-loop
 returns c = widened-start (c .before .loop .inv .1) (omega arith)

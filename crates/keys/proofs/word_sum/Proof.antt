@@ -1,45 +1,39 @@
--- The invariant: the sum of the bits before 8 * i.
+-- The invariant: the sum of the bits before 8 * i, by the table of any word.
 use mathlib.Core.Path.{_≡_}
-use Prim.Native.Nat.{_*_, _-_, _≤_}
+use Prim.Native.Nat.{ℕ, _*_, _-_, _%_, _^_, _≤_}
 use native.Mathlib.Omega.{arith}
-use Rattle.keys.specs.KeySums.{wordCubes}
+use borrow.Author.Needs.{needs}
+use Rattle.keys.specs.KeySums.{Widened, wordCubes}
 use Rattle.keys.specs.FourLaws.{word-done, word-more, words-none}
 use Rattle.keys.proofs.word_sum.Statement.{statement}
 use Rattle.keys.proofs.word_sum.Tie as tie
 
 abbrev Inv-loop : tie.InvT-loop
-Inv-loop sums w x total₀ i₀ total i = (i ≤ 8) × (total ≤ 4294967296 * i) × (total ≡ wordCubes w x (8 * i))
+Inv-loop sums x total₀ i₀ total i = (i ≤ 8) × ((w : ℕ) → Widened w 2048 sums → total ≡ wordCubes w x (8 * i) % 2 ^ 32)
 
 abbrev μ-loop : tie.MeasureT-loop
-μ-loop sums w x total₀ i₀ total i = 8 - i
+μ-loop sums x total₀ i₀ total i = 8 - i
 
--- src/dense.rt:189:5
 loop-holds : tie.Need-loop-holds Inv-loop μ-loop
-loop-holds c = (omega arith, omega arith, words-none _ _)
+loop-holds c = (omega arith, λ w h. words-none w _)
 
--- src/dense.rt:190:18
 eight-sum-requires : tie.Need-eight-sum-requires Inv-loop μ-loop
-eight-sum-requires c κs = let pre = c .before .before .before .pre in (pre .0, c .loop-test .taken, pre .1)
+eight-sum-requires c κs = (c .loop-test .taken, c .before .before .before .pre)
 
--- src/dense.rt:190:9
-add-total : tie.Need-add-total Inv-loop μ-loop
-add-total c = omega arith
+wrapping-add-u32-requires : tie.Need-wrapping-add-u32-requires Inv-loop μ-loop
+wrapping-add-u32-requires c κs = search needs
 
--- src/dense.rt:189:9
 add-i : tie.Need-add-i Inv-loop μ-loop
 add-i c = omega arith
 
--- src/dense.rt:189:5
 loop-less : tie.Need-loop-less Inv-loop μ-loop
 loop-less c = omega arith
 
--- src/dense.rt:189:5
 loop-again : tie.Need-loop-again Inv-loop μ-loop
-loop-again c = let l = c .before .before in (omega arith, omega (arith, l .loop .inv .1, c .eight-sum .ensures .1), word-more _ _ _ _ _ (l .loop .inv .2) (c .eight-sum .ensures .0))
+loop-again c = (omega arith, λ w h. word-more w _ _ _ _ _ (c .before .before .before .loop .inv .1 w h) (c .before .eight-sum .ensures w h) (c .wrapping-add-u32 .ensures))
 
--- src/dense.rt:184:1
 returns : tie.Need-returns Inv-loop μ-loop
-returns c = let l = c .before in (word-done _ _ _ _ (l .loop .inv .2) (omega arith), omega (arith, l .loop .inv .1))
+returns c = λ w h. word-done w _ _ _ (c .before .loop .inv .1 w h) (omega arith)
 
 pub word-sum-spec : {M : Type 1} → statement M
 word-sum-spec =
@@ -49,7 +43,7 @@ word-sum-spec =
     μ-loop
     loop-holds
     eight-sum-requires
-    add-total
+    wrapping-add-u32-requires
     add-i
     loop-less
     loop-again

@@ -16,25 +16,14 @@ returns c =
     let pre = b .before .before .before .before .pre in
     asymmetric _ _ (pre .0) (pre .1) _ (failed (b .hold-by-blocks .ensures) (c .if1 .taken))
 
-keys-hold-by-walks-requires : tie.Need-keys-hold-by-walks-requires
-keys-hold-by-walks-requires c κs =
-    let i = c .before in
-    let pre = i .before .before .before .before .before .pre in
-    let b = passed (i .before .hold-by-blocks .ensures) (i .if1 .left) in
+keys-hold-requires : tie.Need-keys-hold-requires
+keys-hold-requires c κs =
+    let pre = c .before .before .before .before .before .pre in
+    let b = passed (c .before .hold-by-blocks .ensures) (c .if1 .left) in
     ((pre .0, pre .1, pre .2, pre .3), (and-fst (symmetric _) _ b, and-snd (symmetric _) _ b, pre .4))
 
 returns-2 : tie.Need-returns-2
-returns-2 c = c .keys-hold-by-walks .ensures
-
-keys-hold-by-table-requires : tie.Need-keys-hold-by-table-requires
-keys-hold-by-table-requires c κs =
-    let i = c .before in
-    let pre = i .before .before .before .before .before .pre in
-    let b = passed (i .before .hold-by-blocks .ensures) (i .if1 .left) in
-    ((pre .0, pre .1, pre .2, pre .3), (and-fst (symmetric _) _ b, and-snd (symmetric _) _ b, pre .4))
-
-returns-3 : tie.Need-returns-3
-returns-3 c = c .keys-hold-by-table .ensures
+returns-2 c = c .keys-hold .ensures
 
 pub rows-hold-spec : {M : Type 1} → statement M
 rows-hold-spec =
@@ -42,7 +31,5 @@ rows-hold-spec =
     (tie.spec
     hold-by-blocks-requires
     returns
-    keys-hold-by-walks-requires
-    returns-2
-    keys-hold-by-table-requires
-    returns-3)
+    keys-hold-requires
+    returns-2)

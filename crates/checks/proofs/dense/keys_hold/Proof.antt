@@ -7,8 +7,8 @@ use borrow.Author.Needs.{needs}
 use Rattle.checks.specs.Checks.{KeysBelow}
 use Rattle.buffers.specs.AllLaws.{failed, passed}
 use Rattle.checks.specs.DenseLaws.{key-fails, key-told, keys-pass}
-use Rattle.checks.proofs.dense.keys_hold_by_table.Statement.{statement}
-use Rattle.checks.proofs.dense.keys_hold_by_table.Tie as tie
+use Rattle.checks.proofs.dense.keys_hold.Statement.{statement}
+use Rattle.checks.proofs.dense.keys_hold.Tie as tie
 
 abbrev Inv-loop : tie.InvT-loop
 Inv-loop edges nodes keys n sums p₀ p = (p ≤ n) × KeysBelow n edges keys p
@@ -16,24 +16,26 @@ Inv-loop edges nodes keys n sums p₀ p = (p ≤ n) × KeysBelow n edges keys p
 abbrev μ-loop : tie.MeasureT-loop
 μ-loop edges nodes keys n sums p₀ p = n - p
 
-slice-aggregate-fill : tie.Need-slice-aggregate-fill Inv-loop μ-loop
-slice-aggregate-fill c = refl
+slice-aggregate-sum-leaders : tie.Need-slice-aggregate-sum-leaders Inv-loop μ-loop
+slice-aggregate-sum-leaders c = refl
 
-fill-requires : tie.Need-fill-requires Inv-loop μ-loop
-fill-requires c κs = refl
+sum-leaders-requires : tie.Need-sum-leaders-requires Inv-loop μ-loop
+sum-leaders-requires c κs =
+    let pre = c .before .before .before .before .pre in
+    (pre .0 .0, pre .0 .1, omega arith, omega (arith, pre .0 .2), refl)
 
 loop-holds : tie.Need-loop-holds Inv-loop μ-loop
 loop-holds c = (omega arith, below-none _)
 
 slice-aggregate-open-key : tie.Need-slice-aggregate-open-key Inv-loop μ-loop
-slice-aggregate-open-key c = sym (c .before .before .before .before .fill .ensures .size)
+slice-aggregate-open-key c = sym (c .before .before .before .before .sum-leaders .ensures .size)
 
 open-key-requires : tie.Need-open-key-requires Inv-loop μ-loop
 open-key-requires c κs =
     let l = c .before .before in
-    let f = l .before .before in
-    let pre = f .before .before .before .before .before .pre in
-    ((pre .0 .0, pre .0 .1, pre .0 .2, pre .0 .3, omega arith, f .fill .ensures), (pre .1 .0, pre .1 .1, pre .1 .2, l .loop .inv .1))
+    let s = l .before .before in
+    let pre = s .before .before .before .before .before .pre in
+    ((pre .0 .0, pre .0 .1, pre .0 .2, pre .0 .3, omega arith, s .sum-leaders .ensures), (pre .1 .0, pre .1 .1, pre .1 .2, l .loop .inv .1))
 
 keys-agree-requires : tie.Need-keys-agree-requires Inv-loop μ-loop
 keys-agree-requires c κs = search needs
@@ -60,14 +62,14 @@ returns-2 c =
     let pre = l .before .before .before .before .before .before .before .pre in
     keys-pass _ _ (pre .0 .0) (pre .0 .1) (pre .1 .0) (pre .1 .1) _ _ (omega arith) (l .loop .inv .1)
 
-pub keys-hold-by-table-spec : {M : Type 1} → statement M
-keys-hold-by-table-spec =
+pub keys-hold-spec : {M : Type 1} → statement M
+keys-hold-spec =
     tie.close
     (tie.spec
     Inv-loop
     μ-loop
-    slice-aggregate-fill
-    fill-requires
+    slice-aggregate-sum-leaders
+    sum-leaders-requires
     loop-holds
     slice-aggregate-open-key
     open-key-requires
