@@ -1,5 +1,5 @@
 -- Words united bit by bit are below a power of two exactly if each of them is.
-use mathlib.Core.Path.{_≡_, refl, sym, ap, _∙_}
+use mathlib.Core.Path.{_≡_, refl, sym, ap, subst, _∙_}
 use mathlib.Core.Bool.{Bool, true, false, _&&_}
 use mathlib.Core.List.{List, [], _∷_}
 use Prim.Native.Nat.{ℕ, suc, zero, _+_, _^_, _≤_, _<_}
@@ -52,6 +52,16 @@ united-more {s} {i} {u} h l = record { below = more }
 
     more : (k : ℕ) → ltb (bitOr u (getD s i 0)) (2 ^ k) ≡ all (take (i + 1) s) (λ x. ltb x (2 ^ k))
     more k = or-below k u (getD s i 0) ∙ ap (λ (b : Bool). b && ltb (getD s i 0) (2 ^ k)) (h .below k) ∙ sym (ap (λ (j : ℕ). all (take j s) (λ x. ltb x (2 ^ k))) one ∙ all-more (λ x. ltb x (2 ^ k)) s i l)
+
+pub united-to : {s : List ℕ} {i j u : ℕ} → United s i u → i ≡ j → United s j u
+united-to {s} {u = u} h e = subst (λ (m : ℕ). United s m u) e h
+
+pub united-eight : {s : List ℕ} {i u : ℕ} → United s i u → i + 8 ≤ length s
+    → United s (i + 8) (bitOr (bitOr (bitOr (bitOr (bitOr (bitOr (bitOr (bitOr u (getD s i 0)) (getD s (i + 1) 0)) (getD s (i + 2) 0)) (getD s (i + 3) 0)) (getD s (i + 4) 0)) (getD s (i + 5) 0)) (getD s (i + 6) 0)) (getD s (i + 7) 0))
+united-eight {s} {i} h l = on 7 (on 6 (on 5 (on 4 (on 3 (on 2 (on 1 (united-more h (omega arith)) (omega arith)) (omega arith)) (omega arith)) (omega arith)) (omega arith)) (omega arith)) (omega arith)
+  where
+    on : (j : ℕ) {u : ℕ} → United s (i + j) u → j < 8 → United s (i + (j + 1)) (bitOr u (getD s (i + j) 0))
+    on j a b = united-to (united-more a (omega arith)) (omega arith)
 
 pub united-all : {s : List ℕ} {i u : ℕ} → United s i u → length s ≤ i → (k : ℕ) → ltb u (2 ^ k) ≡ all s (λ x. ltb x (2 ^ k))
 united-all {s} {i} h l k = h .below k ∙ ap (λ (t : List ℕ). all t (λ x. ltb x (2 ^ k))) (take-all i s l)
