@@ -9,6 +9,7 @@ use lib.ListN.{length, getD}
 use Rattle.model.specs.Graph.{maxNodes, rowWords}
 use Rattle.model.specs.Tables.{markedGraph}
 use Rattle.search.specs.Search.{ownBit}
+use Rattle.compressed.specs.Compressed.{alike}
 use Rattle.grouping.specs.Least.{leading}
 
 -- word w of node p's row, of the open or of the closed one
@@ -68,9 +69,14 @@ pub record Entered (u s l : ℕ) (t after : List ℕ) : Type 0 where
   pub links : Links (u + 1) after
   pub chains : (slot : ℕ → ℕ) (leads : ℕ → Bool) → ((q : ℕ) → slot q < slots) → slot u ≡ s → leads u ≡ eqb l u → Chains slot leads u t → Chains slot leads (u + 1) after
 
--- the chains of open and of closed rows
-pub record Sought (n : ℕ) (edges marks : List ℕ) (u : ℕ) (opens closeds : List ℕ) : Type 0 where
+-- slots that tell rows apart: rows that agree with u's have its slot
+pub record SlotsTell (edges : List ℕ) (slot : Bool → ℕ → ℕ) (u : ℕ) : Type 0 where
+  pub small : (closed : Bool) (q : ℕ) → slot closed q < slots
+  pub same : (closed : Bool) (q : ℕ) → q < u → alike edges closed u q ≡ true → slot closed q ≡ slot closed u
+
+-- the chains of open and of closed rows, by their slots
+pub record Sought (slot : Bool → ℕ → ℕ) (n : ℕ) (edges marks : List ℕ) (u : ℕ) (opens closeds : List ℕ) : Type 0 where
   pub open-links : Links u opens
   pub closed-links : Links u closeds
-  pub open-chains : Chains (rowSlot edges false) (leading (markedGraph n edges marks)) u opens
-  pub closed-chains : Chains (rowSlot edges true) (leading (markedGraph n edges marks)) u closeds
+  pub open-chains : Chains (slot false) (leading (markedGraph n edges marks)) u opens
+  pub closed-chains : Chains (slot true) (leading (markedGraph n edges marks)) u closeds

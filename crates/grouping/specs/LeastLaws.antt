@@ -29,10 +29,9 @@ use Rattle.search.specs.TwinRowLaws.{false-meet, meet-false, meet-true, true-me
 use Rattle.masking.specs.Masking.{Apart, shown}
 use Rattle.grouping.specs.Least.{leading, leastVisible}
 use Rattle.compressed.specs.Compressed.{alike}
-use Rattle.grouping.specs.Chains.{Entered, Links, Met, Sought, rowSlot}
+use Rattle.grouping.specs.Chains.{Entered, Links, Met, SlotsTell, Sought}
 use Rattle.masking.specs.MaskLaws.{visible-is}
-use Rattle.grouping.specs.HashLaws.{slot-lt}
-use Rattle.grouping.specs.ChainLaws.{alike-slot, chains-none}
+use Rattle.grouping.specs.ChainLaws.{chains-none}
 
 module _ {n : ℕ} {edges marks : List ℕ} (a : Apart n edges marks) where
   abbrev g : Graph
@@ -150,6 +149,10 @@ module _ {n : ℕ} {edges marks : List ℕ} (a : Apart n edges marks) where
         at (inl b) = clash (ltb-true (least vs r u) u b) twins
         at (inr b) = omega (arith, ltb-false (least vs r u) u b, leader-low)
 
+-- its words fit
+pub apart-words : {n : ℕ} {edges marks : List ℕ} → Apart n edges marks → Words edges
+apart-words {n} {edges} a = word-small n edges (keysOf (graphIn n edges)) (apart-ready a)
+
 -- the steps of the search
 module _ {n : ℕ} {edges marks : List ℕ} (a : Apart n edges marks) {u : ℕ} (hu : u < n) (b : Bool) (e : b ≡ shown marks u) where
   abbrev g₁ : Graph
@@ -165,21 +168,18 @@ module _ {n : ℕ} {edges marks : List ℕ} (a : Apart n edges marks) {u : ℕ} 
   unfolding leastVisible
   least-hidden t = rw (seen ∙ t)
 
-  module _ (t : b ≡ true) {q : ℕ} (m : Met (rowSlot edges false) (leading (markedGraph n edges marks)) (alike edges false u) u q) where
+  module _ (t : b ≡ true) (slot : Bool → ℕ → ℕ) {q : ℕ} (m : Met (slot false) (leading (markedGraph n edges marks)) (alike edges false u) u q) where
     pub least-open : q < u → q ≡ leastVisible (markedGraph n edges marks) u
     least-open l = least-met a u (seen ∙ t) false q l (m .hit l .0) (m .hit l .1)
 
-    pub least-closed : {r : ℕ} → q ≡ u → r ≤ u → Met (rowSlot edges true) (leading (markedGraph n edges marks)) (alike edges true u) u r → r ≡ leastVisible (markedGraph n edges marks) u
-    least-closed {r} z low k = step (decide (ltb r u))
+    pub least-closed : {r : ℕ} → SlotsTell edges slot u → q ≡ u → r ≤ u → Met (slot true) (leading (markedGraph n edges marks)) (alike edges true u) u r → r ≡ leastVisible (markedGraph n edges marks) u
+    least-closed {r} tell z low k = step (decide (ltb r u))
       where
-        fit : Words edges
-        fit = word-small n edges (keysOf (graphIn n edges)) (apart-ready a)
-
-        miss : (c : Bool) → {x : ℕ} → Met (rowSlot edges c) L (alike edges c u) u x → x ≡ u → (p : ℕ) → p < u → L p ≡ true → alike edges c u p ≡ false
+        miss : (c : Bool) → {x : ℕ} → Met (slot c) L (alike edges c u) u x → x ≡ u → (p : ℕ) → p < u → L p ≡ true → alike edges c u p ≡ false
         miss c {x} i y p l h = at (decide (alike edges c u p))
           where
             at : (alike edges c u p ≡ true) ⊎ (alike edges c u p ≡ false) → alike edges c u p ≡ false
-            at (inl w) = i .miss y p l h (alike-slot edges fit c u p w)
+            at (inl w) = i .miss y p l h (tell .same c p l w)
             at (inr w) = w
 
         step : (ltb r u ≡ true) ⊎ (ltb r u ≡ false) → r ≡ leastVisible g₁ u
@@ -203,20 +203,20 @@ least-fits {n} {edges} {marks} {u} {x} a hu e = step (decide (isVisible (markedG
     step (inr v) = let y : x ≡ 65535 = rw v at e in omega arith
 
 -- u led or not, the chains go on
-pub sought-more : {n : ℕ} {edges marks : List ℕ} {u l s s′ : ℕ} {opens closeds opens₁ closeds₁ : List ℕ} → Sought n edges marks u opens closeds → l ≡ leastVisible (markedGraph n edges marks) u
-    → s ≡ rowSlot edges false u → s′ ≡ rowSlot edges true u → Entered u s l opens opens₁ → Entered u s′ l closeds closeds₁ → Sought n edges marks (u + 1) opens₁ closeds₁
-sought-more {n} {edges} {marks} {u} {l} h e es es′ x y = record {
+pub sought-more : {slot : Bool → ℕ → ℕ} {n : ℕ} {edges marks : List ℕ} {u l s s′ : ℕ} {opens closeds opens₁ closeds₁ : List ℕ} → Sought slot n edges marks u opens closeds → l ≡ leastVisible (markedGraph n edges marks) u
+    → SlotsTell edges slot u → s ≡ slot false u → s′ ≡ slot true u → Entered u s l opens opens₁ → Entered u s′ l closeds closeds₁ → Sought slot n edges marks (u + 1) opens₁ closeds₁
+sought-more {slot} {n} {edges} {marks} {u} {l} h e tell es es′ x y = record {
   open-links = x .links;
   closed-links = y .links;
-  open-chains = x .chains (rowSlot edges false) (leading (markedGraph n edges marks)) (slot-lt edges false) (sym es) led (h .open-chains);
-  closed-chains = y .chains (rowSlot edges true) (leading (markedGraph n edges marks)) (slot-lt edges true) (sym es′) led (h .closed-chains);
+  open-chains = x .chains (slot false) (leading (markedGraph n edges marks)) (tell .small false) (sym es) led (h .open-chains);
+  closed-chains = y .chains (slot true) (leading (markedGraph n edges marks)) (tell .small true) (sym es′) led (h .closed-chains);
 }
   where
     led : leading (markedGraph n edges marks) u ≡ eqb l u
     led = unfold leading in ap (λ (z : ℕ). eqb z u) (sym e)
 
-pub sought-none : (n : ℕ) (edges marks : List ℕ) {opens closeds : List ℕ} → Links 0 opens → Links 0 closeds → Sought n edges marks 0 opens closeds
-sought-none n edges marks x y = record { open-links = x; closed-links = y; open-chains = chains-none (rowSlot edges false) (leading (markedGraph n edges marks)) x; closed-chains = chains-none (rowSlot edges true) (leading (markedGraph n edges marks)) y }
+pub sought-none : (slot : Bool → ℕ → ℕ) (n : ℕ) (edges marks : List ℕ) {opens closeds : List ℕ} → Links 0 opens → Links 0 closeds → Sought slot n edges marks 0 opens closeds
+sought-none slot n edges marks x y = record { open-links = x; closed-links = y; open-chains = chains-none (slot false) (leading (markedGraph n edges marks)) x; closed-chains = chains-none (slot true) (leading (markedGraph n edges marks)) y }
 
 -- the nodes below u are told
 pub record Telling (g : Graph) (u : ℕ) (t after : List ℕ) : Type 0 where

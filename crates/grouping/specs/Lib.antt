@@ -7,3 +7,5 @@ pub mod Slots
 pub mod SlotLaws
 pub mod Parted
 pub mod PartedLaws
+pub mod Keyed
+pub mod KeyedLaws

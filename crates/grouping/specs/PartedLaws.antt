@@ -14,9 +14,8 @@ use Rattle.model.specs.ListLaws.{all-intro, nodes-out}
 use Rattle.buffers.specs.AllLaws.{all-fail, all-pass, failed}
 use Rattle.rows.specs.Rows.{leads}
 use Rattle.compressed.specs.Compressed.{alike, apart, merges}
-use Rattle.grouping.specs.Chains.{Chains, Entered, Links, Met}
+use Rattle.grouping.specs.Chains.{Chains, Entered, Links, Met, SlotsTell}
 use Rattle.grouping.specs.ChainLaws.{chains-keep, chains-none, links-keep}
-use Rattle.grouping.specs.SlotLaws.{SlotsTell}
 use Rattle.grouping.specs.Parted.{New, Parted, apartAt, candidate, chained}
 
 -- one node sought in a chain

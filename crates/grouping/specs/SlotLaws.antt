@@ -8,7 +8,7 @@ use lib.ListN.{getD}
 use Rattle.rows.specs.Rows.{Words}
 use Rattle.compressed.specs.Compressed.{alike}
 use Rattle.sums.specs.AlikeLaws.{alike-closed, alike-open}
-use Rattle.grouping.specs.Chains.{rowSlot, slotIn}
+use Rattle.grouping.specs.Chains.{SlotsTell, rowSlot, slotIn}
 use Rattle.grouping.specs.HashLaws.{slot-in-lt, slot-lt}
 use Rattle.grouping.specs.ChainLaws.{alike-slot}
 use Rattle.grouping.specs.Slots.{SumsTold, groupSlot, rowSum}
@@ -33,10 +33,9 @@ module _ (joined : List ℕ) {few : Bool} (sums : List ℕ) (closed : Bool) (u :
   unfolding groupSlot
   by-words f e = rw f e
 
--- slots that tell rows apart: rows that agree with u's have its slot
-pub record SlotsTell (joined : List ℕ) (slot : Bool → ℕ → ℕ) (u : ℕ) : Type 0 where
-  pub small : (closed : Bool) (q : ℕ) → slot closed q < 1024
-  pub same : (closed : Bool) (q : ℕ) → q < u → alike joined closed u q ≡ true → slot closed q ≡ slot closed u
+-- by the words alone
+pub rows-tell : (edges : List ℕ) → Words edges → (u : ℕ) → SlotsTell edges (rowSlot edges) u
+rows-tell edges fit u = record { small = slot-lt edges; same = λ closed q m h. alike-slot edges fit closed u q h }
 
 module _ (joined : List ℕ) (few : Bool) (sums : List ℕ) where
   pub group-slot-lt : (closed : Bool) (q : ℕ) → groupSlot joined few sums closed q < 1024

@@ -17,6 +17,8 @@ use compressed::CLIQUE;
 use compressed::INDEPENDENT;
 use rows::Graph;
 
+pub mod keyed;
+
 // Rows are hashed into so many slots.
 const SLOTS: usize = 1024;
 
@@ -153,7 +155,7 @@ fn least_of(
     a: usize,
     b: usize,
 ) -> usize
-    requires { ⌜ Apart n (now edges) (now hidden) × Sought n (now edges) (now hidden) u (now opens) (now closeds) × (u < n) ⌝ }
+    requires { ⌜ Apart n (now edges) (now hidden) × Sought (rowSlot (now edges)) n (now edges) (now hidden) u (now opens) (now closeds) × (u < n) ⌝ }
     requires { ⌜ (a ≡ rowSlot (now edges) false u) × (b ≡ rowSlot (now edges) true u) ⌝ }
     ensures { λ r. ⌜ r ≡ leastVisible (markedGraph n (now (edges .entry)) (now (hidden .entry))) u ⌝ }
 {

@@ -1,32 +1,24 @@
 -- What is saved are the edges and marks of a graph, and what is restored from them are its tables.
 use mathlib.Core.Path.{_≡_, refl, sym, ap, ap₂, subst, _∙_}
-use mathlib.Core.Bool.{Bool, true, false, cond, _&&_, and-false}
+use mathlib.Core.Bool.{Bool, true, false, cond}
 use mathlib.Core.List.{List, [], _++_, append-nil}
 use Prim.Native.Nat.{ℕ, _*_, _-_, _≤_, _<_}
 use native.Mathlib.Omega.{arith}
-use lib.Dec.{eqb, ltb}
-use lib.ListN.{length, getD, drop, drop-of-length-le, length-append, length-drop, length-replicate, length-take, replicate, take}
+use lib.ListN.{length, getD, drop, drop-of-length-le, length-append, length-drop, length-take, take}
 use lib.Seq.{length-take-le, take-all, take-at}
-use borrow.Author.Tests.{lt-ltb, ltb-true}
-use Rattle.model.specs.Lists.{nodes}
 use Rattle.model.specs.Graph.{Proper, nodeNumbers, rowWords}
-use Rattle.model.specs.Tables.{Tables, edgesIn, edgesOf, graphIn, graphOf, keysOf, markedGraph, nodeNumber, tablesOf}
+use Rattle.model.specs.Tables.{Tables, edgesOf, graphIn, graphOf, keysOf, markedGraph, nodeNumber, tablesOf}
 use Rattle.model.specs.Store.{marksOf}
-use Rattle.model.specs.Release.{isVisible}
-use Rattle.model.specs.TestLaws.{and-fst, and-one, differ}
 use Rattle.model.specs.TableLaws.{length-edges, mark-at}
 use Rattle.model.specs.StoreLaws.{length-marks, marks-at}
-use Rattle.model.specs.HiddenLaws.{least-visible}
 use Rattle.buffers.specs.Filled.{Filled}
-use Rattle.buffers.specs.FilledLaws.{filled-is, getD-zeros}
+use Rattle.buffers.specs.FilledLaws.{filled-is}
 use Rattle.rows.specs.Rows.{lent}
 use Rattle.search.specs.Search.{Within}
 use Rattle.rings.specs.Steps.{Built, Leading, MarksPut}
 use Rattle.groups.specs.FillLaws.{filled-leading, filled-proper, filled-tables, filled-within}
 use Rattle.keys.specs.KeySums.{LeastTold}
-use Rattle.layout.specs.Truth.{Truth}
-use Rattle.masking.specs.Masking.{Apart, shown}
-use Rattle.masking.specs.MaskLaws.{visible-is}
+use Rattle.grouping.specs.Keyed.{KeysTold}
 use Rattle.tables.specs.Lent.{Held}
 use Rattle.tables.specs.LentLaws.{held-sized}
 use Rattle.states.specs.States.{State}
@@ -65,34 +57,6 @@ module _ {n : ℕ} {t : Tables} (h : Held n t) where
         ap₂ (λ (x y : List ℕ). x ++ (ms ++ y)) (take-at es (drop (8 * n) to) (8 * n) front ∙ edges-copied ∙ held-edges) (drop-rest (8 * n) (es ++ drop (8 * n) to))
         ∙ ap (λ (y : List ℕ). edgesOf (graphOf n t) ++ y) (append-nil ms ∙ saved-marks (simp (length-take, length-drop) (omega (arith, whole-length))) f)
 
--- where nobody is hidden, the groups of all nodes are those of the visible ones
-shown-all : (k p : ℕ) → shown (replicate k 0) p ≡ true
-unfolding shown
-shown-all k p = rw (getD-zeros k p)
-
-module _ {n : ℕ} {edges : List ℕ} (within : Within n edges) (proper : Proper (graphIn n edges)) (k : ℕ) where
-  pub nobody-hidden : n ≤ k → Apart n edges (replicate k 0)
-  unfolding markedGraph
-  nobody-hidden l = record {
-    proper = record { small = proper .small; symmetric = proper .symmetric; irreflexive = proper .irreflexive; inside = proper .inside; held = λ p t. ltb-true p n (and-fst (ltb p n) (eqb (getD (replicate k 0) p 0) 1) t) };
-    within = within;
-    marked = omega (arith, length-replicate {A = ℕ} k 0);
-    none = λ p q e. differ (shown-all k q) e;
-  }
-
-  seen : (p : ℕ) → isVisible (markedGraph n edges (replicate k 0)) p ≡ ltb p n
-  seen p = visible-is n edges (replicate k 0) p ∙ ap (λ (b : Bool). ltb p n && b) (shown-all k p) ∙ and-one (ltb p n)
-
-  unseen : (p q : ℕ) → isVisible (markedGraph n edges (replicate k 0)) q ≡ false → markedGraph n edges (replicate k 0) .edge p q ≡ false
-  unseen p q e = unfold markedGraph edgesIn in rw (sym (seen q) ∙ e) (and-false (ltb p n))
-
-  pub least-told : {lst : List ℕ} → Truth (markedGraph n edges (replicate k 0)) lst edges → LeastTold n edges lst
-  unfolding markedGraph
-  least-told t = record {
-    size = t .size;
-    told = λ p l. let v = seen p ∙ lt-ltb p n l in t .visible-least p v ∙ least-visible (markedGraph n edges (replicate k 0)) (t .proper) unseen p v (λ q m a. seen q ∙ lt-ltb q n m);
-  }
-
 -- what is restored
 module _ {n : ℕ} {edges marks : List ℕ} (s : State n edges marks) where
   pub state-within : Within n edges
@@ -100,6 +64,9 @@ module _ {n : ℕ} {edges marks : List ℕ} (s : State n edges marks) where
 
   pub state-proper : Proper (graphIn n edges)
   state-proper = unfold markedGraph in filled-proper (markedGraph n edges marks) (s .proper) (s .edges-of)
+
+  pub state-keys : {keys : List ℕ} → keys ≡ keysOf (graphIn n edges) → KeysTold n edges keys
+  state-keys e = record { within = state-within; proper = state-proper; keys-of = e }
 
   -- the marks that are put
   pub state-marks : length marks ≡ n

@@ -3,14 +3,12 @@ ghost use mathlib.Core.Path.{_≡_};
 ghost use mathlib.Core.List.{List, _++_};
 ghost use Prim.Native.Nat.{ℕ, _*_, _≤_, _<_};
 ghost use lib.ListN.{getD, length};
-ghost use Rattle.model.specs.Graph.{Proper, maxNodes, nodeNumbers, rowWords};
-ghost use Rattle.model.specs.Tables.{edgesOf, graphIn, graphOf, markedGraph, nodeNumber, tablesOf};
+ghost use Rattle.model.specs.Graph.{maxNodes, nodeNumbers, rowWords};
+ghost use Rattle.model.specs.Tables.{edgesOf, graphOf, markedGraph, nodeNumber, tablesOf};
 ghost use Rattle.model.specs.Store.{marksOf};
 ghost use Rattle.buffers.specs.Filled.{Filled};
 ghost use Rattle.rows.specs.Rows.{lent};
-ghost use Rattle.search.specs.Search.{Within};
 ghost use Rattle.rings.specs.Steps.{MarksPut};
-ghost use Rattle.keys.specs.KeySums.{LeastTold};
 ghost use Rattle.tables.specs.Lent.{Held, Sized};
 ghost use Rattle.states.specs.States.{State};
 use rows::Graph;
@@ -45,15 +43,6 @@ fn put_marks(n: usize, marks: &[u64], nodes: &mut [u16])
     }
 }
 
-// The least members of the groups of all nodes: nobody is hidden.
-fn find_least(n: usize, edges: &[u64], least: &mut [u16])
-    requires { ⌜ Within n (now edges) × Proper (graphIn n (now edges)) × (n ≤ length (now least)) ⌝ }
-    ensures { λ _. ⌜ LeastTold n (now (edges .entry)) (now (least .exit)) ⌝ }
-{
-    let hidden = [0u16; Graph::NODES];
-    grouping::find_groups(edges, &hidden, n, least);
-}
-
 // The tables of the graph whose edges and marks are given.
 pub fn restore(
     n: usize,
@@ -68,8 +57,8 @@ pub fn restore(
 {
     buffers::copy_words(from, edges);
     put_marks(n, marks, nodes);
+    keys::sum_rows(edges, keys, n);
     let mut least = [0u16; Graph::NODES];
-    find_least(n, edges, &mut least);
-    keys::sum_rows(edges, &least, keys, n);
+    grouping::keyed::find_groups(edges, keys, n, &mut least);
     groups::build(nodes, &least, n);
 }

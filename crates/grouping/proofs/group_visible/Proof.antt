@@ -5,14 +5,15 @@ use Prim.Native.Nat.{_-_, _≤_}
 use native.Mathlib.Omega.{arith}
 use Rattle.model.specs.Tables.{markedGraph}
 use Rattle.grouping.specs.HashLaws.{slot-lt}
-use Rattle.grouping.specs.Chains.{Sought}
+use Rattle.grouping.specs.Chains.{Sought, rowSlot}
 use Rattle.search.specs.SearchLaws.{within-length}
-use Rattle.grouping.specs.LeastLaws.{Telling, least-fits, sought-more, sought-none, telling-done, telling-more, telling-none}
+use Rattle.grouping.specs.SlotLaws.{rows-tell}
+use Rattle.grouping.specs.LeastLaws.{Telling, apart-words, least-fits, sought-more, sought-none, telling-done, telling-more, telling-none}
 use Rattle.grouping.proofs.group_visible.Statement.{statement}
 use Rattle.grouping.proofs.group_visible.Tie as tie
 
 abbrev Inv-loop : tie.InvT-loop
-Inv-loop edges hidden n opens₀ closeds₀ least₀ u₀ opens closeds least u = (u ≤ n) × Sought n edges hidden u opens closeds × Telling (markedGraph n edges hidden) u least₀ least
+Inv-loop edges hidden n opens₀ closeds₀ least₀ u₀ opens closeds least u = (u ≤ n) × Sought (rowSlot edges) n edges hidden u opens closeds × Telling (markedGraph n edges hidden) u least₀ least
 
 abbrev μ-loop : tie.MeasureT-loop
 μ-loop edges hidden n opens₀ closeds₀ least₀ u₀ opens closeds least u = n - u
@@ -20,7 +21,7 @@ abbrev μ-loop : tie.MeasureT-loop
 loop-holds : tie.Need-loop-holds Inv-loop μ-loop
 loop-holds c =
     let pre = c .before .before .before .before .before .pre in
-    (omega arith, sought-none _ _ _ (pre .1) (pre .2), telling-none _ _)
+    (omega arith, sought-none _ _ _ _ (pre .1) (pre .2), telling-none _ _)
 
 slot-of-requires : tie.Need-slot-of-requires Inv-loop μ-loop
 slot-of-requires c κs =
@@ -77,7 +78,7 @@ loop-again c =
     let found = c .before .before .before .before .before .before .before .before in
     let row = found .before .before .before .before in
     let head = row .before .before in
-    (omega arith, sought-more (head .loop .inv .1) (found .least-of .ensures) (row .slot-of .ensures) (c .before .before .before .before .before .before .before .before .before .before .before .slot-of2 .ensures) (c .before .before .before .before .before .before .enter .ensures) (c .before .before .enter2 .ensures), telling-more (head .loop .inv .2) (omega (arith, head .before .before .before .before .before .before .pre .3, row .before .loop-test .taken)) (found .least-of .ensures))
+    (omega arith, sought-more (head .loop .inv .1) (found .least-of .ensures) (rows-tell _ (apart-words (head .before .before .before .before .before .before .pre .0)) _) (row .slot-of .ensures) (c .before .before .before .before .before .before .before .before .before .before .before .slot-of2 .ensures) (c .before .before .before .before .before .before .enter .ensures) (c .before .before .enter2 .ensures), telling-more (head .loop .inv .2) (omega (arith, head .before .before .before .before .before .before .pre .3, row .before .loop-test .taken)) (found .least-of .ensures))
 
 same-length : tie.Need-same-length Inv-loop μ-loop
 same-length c = c .before .loop .inv .1 .open-links .size ∙ sym (c .before .before .before .before .before .before .before .pre .1 .size)

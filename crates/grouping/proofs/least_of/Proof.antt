@@ -7,7 +7,9 @@ use borrow.Author.Needs.{needs}
 use borrow.Author.Tests.{not-false, not-true}
 use Rattle.grouping.specs.HashLaws.{slot-lt}
 use Rattle.search.specs.SearchLaws.{row-part, within-length}
-use Rattle.grouping.specs.LeastLaws.{least-closed, least-hidden, least-open}
+use Rattle.grouping.specs.Chains.{rowSlot}
+use Rattle.grouping.specs.SlotLaws.{rows-tell}
+use Rattle.grouping.specs.LeastLaws.{apart-words, least-closed, least-hidden, least-open}
 use Rattle.grouping.proofs.least_of.Statement.{statement}
 use Rattle.grouping.proofs.least_of.Tie as tie
 
@@ -52,7 +54,7 @@ find-alike-requires c κs =
 returns-2 : tie.Need-returns-2
 returns-2 c =
     let pre = c .before .before .before .before .before .before .before .before .before .pre in
-    least-open (pre .0 .0) (pre .0 .2) _ (c .before .before .before .before .is-visible .ensures) (not-false _ (c .before .before .before .if1 .left)) (c .before .find-alike .ensures .1 _ _ (sym (pre .1 .0)) (pre .0 .1 .open-chains)) (c .if2 .taken)
+    least-open (pre .0 .0) (pre .0 .2) _ (c .before .before .before .before .is-visible .ensures) (not-false _ (c .before .before .before .if1 .left)) (rowSlot _) (c .before .find-alike .ensures .1 _ _ (sym (pre .1 .0)) (pre .0 .1 .open-chains)) (c .if2 .taken)
 
 find-alike-requires-2 : tie.Need-find-alike-requires-2
 find-alike-requires-2 c κs =
@@ -66,7 +68,7 @@ returns-3 c =
     let pre = c .before .before .before .before .before .before .before .before .before .before .pre in
     let q = c .before .before .find-alike .ensures in
     let r = c .find-alike2 .ensures in
-    least-closed (pre .0 .0) (pre .0 .2) _ (c .before .before .before .before .before .is-visible .ensures) (not-false _ (c .before .before .before .before .if1 .left)) (q .1 _ _ (sym (pre .1 .0)) (pre .0 .1 .open-chains)) (omega (arith, q .0, c .before .if2 .left)) (r .0) (r .1 _ _ (sym (pre .1 .1)) (pre .0 .1 .closed-chains))
+    least-closed (pre .0 .0) (pre .0 .2) _ (c .before .before .before .before .before .is-visible .ensures) (not-false _ (c .before .before .before .before .if1 .left)) (rowSlot _) (q .1 _ _ (sym (pre .1 .0)) (pre .0 .1 .open-chains)) (rows-tell _ (apart-words (pre .0 .0)) _) (omega (arith, q .0, c .before .if2 .left)) (r .0) (r .1 _ _ (sym (pre .1 .1)) (pre .0 .1 .closed-chains))
 
 pub least-of-spec : {M : Type 1} → statement M
 least-of-spec =

@@ -5,7 +5,7 @@ use Prim.Native.Nat.{ℕ}
 use native.Mathlib.Omega.{arith}
 use borrow.Author.Needs.{needs}
 use Rattle.model.specs.Tables.{markedGraph, tablesOf}
-use Rattle.states.specs.StateLaws.{copied-edges, copied-state, mark-small, restored, state-edges, state-leading, state-marks, state-proper, state-within}
+use Rattle.states.specs.StateLaws.{copied-edges, copied-state, mark-small, restored, state-edges, state-keys, state-leading, state-marks, state-within}
 use Rattle.states.proofs.restore.Statement.{statement}
 use Rattle.states.proofs.restore.Tie as tie
 
@@ -17,37 +17,35 @@ put-marks-requires c κs =
     let pre = c .before .before .before .before .before .before .before .before .before .before .pre in
     (pre .0 .small, pre .0 .nodes, omega (arith, state-marks (pre .1)), mark-small (pre .1))
 
-slice-aggregate-find-least : tie.Need-slice-aggregate-find-least
-slice-aggregate-find-least c = search needs
-
-find-least-requires : tie.Need-find-least-requires
-find-least-requires c κs =
+sum-rows-requires : tie.Need-sum-rows-requires
+sum-rows-requires c κs =
     let e = c .before .before .before .before .before .before .before .before in
     let pre = e .before .before .before .before .before .before .before .pre in
     let s = copied-state (pre .1) (pre .0 .edges) (e .copy-words .ensures) in
-    (state-within s, state-proper s, pre .0 .small)
+    (state-within s, pre .0 .keys)
 
-slice-aggregate-sum-rows : tie.Need-slice-aggregate-sum-rows
-slice-aggregate-sum-rows c = search needs
+slice-aggregate-find-groups : tie.Need-slice-aggregate-find-groups
+slice-aggregate-find-groups c = search needs
 
-sum-rows-requires : tie.Need-sum-rows-requires
-sum-rows-requires c κs =
-    let e = c .before .before .before .before .before .before .before .before .before .before .before .before .before in
+find-groups-requires : tie.Need-find-groups-requires
+find-groups-requires c κs =
+    let k = c .before .before .before .before .before in
+    let e = k .before .before .before .before .before .before .before .before .before in
     let pre = e .before .before .before .before .before .before .before .pre in
     let s = copied-state (pre .1) (pre .0 .edges) (e .copy-words .ensures) in
-    (state-within s, state-proper s, c .before .before .before .before .find-least .ensures, pre .0 .keys)
+    (state-keys s (k .sum-rows .ensures), pre .0 .small)
 
 slice-aggregate-build : tie.Need-slice-aggregate-build
 slice-aggregate-build c = search needs
 
 build-requires : tie.Need-build-requires
 build-requires c κs =
-    let l = c .before .before .before .before .before .before .before .before .before in
-    let m = l .before .before .before .before .before in
+    let l = c .before .before .before in
+    let m = l .before .before .before .before .before .before .before .before .before .before .before in
     let e = m .before .before .before .before in
     let pre = e .before .before .before .before .before .before .before .pre in
     let s = copied-state (pre .1) (pre .0 .edges) (e .copy-words .ensures) in
-    (pre .0 .small, m .put-marks .ensures .size ∙ pre .0 .nodes, state-leading s (l .find-least .ensures) (pre .0 .nodes) (m .put-marks .ensures))
+    (pre .0 .small, m .put-marks .ensures .size ∙ pre .0 .nodes, state-leading s (l .find-groups .ensures) (pre .0 .nodes) (m .put-marks .ensures))
 
 same-length : tie.Need-same-length
 same-length c = search needs
@@ -60,13 +58,13 @@ same-length-3 c = search needs
 
 returns : tie.Need-returns
 returns c =
-    let k = c .before .before .before .before .before .before .before in
-    let l = k .before .before .before .before .before in
-    let m = l .before .before .before .before .before in
+    let l = c .before .before .before .before .before .before in
+    let k = l .before .before .before .before .before .before in
+    let m = k .before .before .before .before .before in
     let e = m .before .before .before .before in
     let start = e .before .before .before .before .before .before .before in
     let s = copied-state (start .pre .1) (start .pre .0 .edges) (e .copy-words .ensures) in
-    restored s (l .find-least .ensures) (start .pre .0 .nodes) (m .put-marks .ensures) (k .sum-rows .ensures) (c .before .before .build .ensures)
+    restored s (l .find-groups .ensures) (start .pre .0 .nodes) (m .put-marks .ensures) (k .sum-rows .ensures) (c .before .before .build .ensures)
     ∙ ap (λ (x : List ℕ). tablesOf (markedGraph (start .args .n) x (start .args .marks .now))) (copied-edges (start .pre .1) (start .pre .0 .edges) (e .copy-words .ensures))
 
 pub restore-spec : {M : Type 1} → statement M
@@ -75,10 +73,9 @@ restore-spec =
     (tie.spec
     copy-words-requires
     put-marks-requires
-    slice-aggregate-find-least
-    find-least-requires
-    slice-aggregate-sum-rows
     sum-rows-requires
+    slice-aggregate-find-groups
+    find-groups-requires
     slice-aggregate-build
     build-requires
     same-length
