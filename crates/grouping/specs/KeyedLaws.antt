@@ -7,7 +7,7 @@ use native.Mathlib.Omega.{arith}
 use lib.Dec.{eqb, ltb}
 use lib.ListN.{getD, length, length-replicate}
 use borrow.Author.Tests.{eqb-true, lt-ltb, ltb-true}
-use Rattle.model.specs.Tables.{edgesIn, graphIn, keysOf, markedGraph}
+use Rattle.model.specs.Tables.{edgesIn, graphIn, markedGraph}
 use Rattle.model.specs.Release.{isVisible}
 use Rattle.model.specs.TestLaws.{and-fst, and-one, differ}
 use Rattle.model.specs.TableLaws.{length-keys}
