@@ -1,4 +1,4 @@
-// Rows with many bits: symmetry by blocks, keys by those of twins or by sums over eight bits at a time.
+// Rows with many bits: symmetry by strips, keys by those of twins or by sums over eight bits at a time.
 ghost use mathlib.Core.Path.{_≡_};
 ghost use mathlib.Core.Bool.{true};
 ghost use Prim.Native.Nat.{_*_, _≤_, _<_};
@@ -46,7 +46,7 @@ pub fn rows_hold(edges: &[u64], nodes: &[u16], keys: &[u32], n: usize) -> bool
     requires { ⌜ (n ≤ maxNodes) × (length (now edges) ≡ rowWords * n) × (length (now nodes) ≡ nodeNumbers * n) × (length (now keys) ≡ 2 * n) × (twinsHold n (now edges) (now nodes) ≡ true) ⌝ }
     ensures { λ r. ⌜ r ≡ rowsHold n (now (edges .entry)) (now (keys .entry)) ⌝ }
 {
-    if !edges::hold_by_blocks(edges, n) {
+    if !edges::hold_by_strips(edges, n) {
         return false;
     }
     keys_hold(edges, nodes, keys, n)

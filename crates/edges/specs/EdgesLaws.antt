@@ -3,14 +3,15 @@ use mathlib.Core.Path.{_≡_, refl, sym, ap, _∙_, subst}
 use mathlib.Core.Bool.{Bool, true, false, not, _&&_, _||_}
 use mathlib.Core.List.{List}
 use mathlib.Core.Logic.{_⊎_, inl, inr}
-use Prim.Native.Nat.{ℕ, _+_, _*_, _-_, _%_, _^_, _≤_, _<_}
+use Prim.Native.Nat.{ℕ, _+_, _*_, _-_, _/_, _%_, _^_, _≤_, _<_}
 use native.Mathlib.Omega.{arith}
-use lib.Bits.{bitAnd}
+use native.Mathlib.Decide.{ℕ-discrete}
+use lib.Bits.{bitAnd, bitOr, or-step}
 use lib.Count.{trailingZeros}
 use lib.Dec.{eqb, ltb}
 use lib.ListN.{length, getD}
 use borrow.Author.Tests.{eqb-true, eqb-false, eq-eqb, ne-eqb, le-ltb, lt-ltb, ltb-true, ltb-false, not-true}
-use Rattle.model.specs.Lists.{nodes, sameList}
+use Rattle.model.specs.Lists.{all, nodes, sameList}
 use Rattle.model.specs.Graph.{maxNodes, rowWords}
 use Rattle.model.specs.Grouping.{cube}
 use Rattle.model.specs.Tables.{edgeBit, edgesIn, edgesOf, graphIn, graphWith, rowOf, simple}
@@ -18,6 +19,7 @@ use Rattle.model.specs.TestLaws.{and-fst, and-snd, and-true, decide, differ, eq
 use Rattle.model.specs.ListLaws.{all-elim, all-intro, nodes-in, nodes-out, same-eq, same-refl}
 use Rattle.model.specs.TableLaws.{edge-bit, simple-edge, simple-loop}
 use Rattle.rows.specs.Rows.{Words}
+use Rattle.rows.specs.BitLaws.{edge-at}
 use Rattle.rows.specs.EdgeLaws.{edges-by-bits}
 use Rattle.buffers.specs.AllLaws.{all-fail, all-pass, failed, passed}
 use Rattle.keys.specs.KeySums.{RowInside, rowKey}
@@ -25,7 +27,7 @@ use Rattle.keys.specs.Walk.{ahead}
 use Rattle.keys.specs.WalkLaws.{ahead-end, ahead-next, ahead-start}
 use Rattle.keys.specs.SumLaws.{CubesSoFar, adding-done, adding-less, adding-next, adding-off, adding-on, adding-place, adding-set, adding-start}
 use Rattle.symmetry.specs.Symmetry.{symmetric}
-use Rattle.symmetry.specs.BlockLaws.{all-symmetric, outside, symmetric-all}
+use Rattle.symmetry.specs.SymmetryLaws.{all-symmetric, outside, symmetric-all}
 use Rattle.edges.specs.Edges.{RowsBelow, bitHolds, edgesHold, loopless, mirrored, rowHolds}
 
 -- a bit and its mirror
@@ -41,6 +43,44 @@ module _ (n : ℕ) (edges : List ℕ) (p q : ℕ) where
   pub mirror-edge : (b : Bool) → q < n → (q ≡ p → ⊥) → b ≡ edgeBit edges q p → b ≡ mirrored n edges p q
   unfolding mirrored
   mirror-edge b l h e = rw (lt-ltb q n l, ne-eqb q p h) e
+
+-- the lowest bit of x tells whether a node below p has a loop
+pub record LoopsBelow (edges : List ℕ) (p x : ℕ) : Type 0 where
+  pub even : eqb (x % 2) 0 ≡ loopless p edges
+
+pub loops-none : (edges : List ℕ) → LoopsBelow edges 0 0
+unfolding loopless
+loops-none edges = record { even = all-pass (λ p. not (edgeBit edges p p)) 0 0 (omega arith) (λ p l. absurd (omega arith)) }
+
+pub loops-more : {edges : List ℕ} {p x i k : ℕ} → LoopsBelow edges p x → i ≡ 8 * p + p / 64 → k ≡ p % 64 → LoopsBelow edges (p + 1) (bitOr x (getD edges i 0 / 2 ^ k))
+unfolding loopless
+loops-more {edges} {p} {x} {i} {k} below ei ek = record { even = iff-eq (eqb (bitOr x y % 2) 0) (all (nodes (p + 1)) free) there back }
+  where
+    y : ℕ
+    y = getD edges i 0 / 2 ^ k
+
+    free : ℕ → Bool
+    free q = not (edgeBit edges q q)
+
+    own : free p ≡ not (eqb (y % 2) 1)
+    own = ap not (sym (edge-at edges p p i k ei ek))
+
+    there : eqb (bitOr x y % 2) 0 ≡ true → all (nodes (p + 1)) free ≡ true
+    there h = all-intro (nodes (p + 1)) free (λ q m. step q (nodes-out (p + 1) q m) (ℕ-discrete q p))
+      where
+        z : bitOr x y % 2 ≡ 0
+        z = eqb-true (bitOr x y % 2) 0 h
+
+        step : (q : ℕ) → q < p + 1 → Dec (q ≡ p) → free q ≡ true
+        step q l (yes e) = ap free e ∙ own ∙ ap not (ne-eqb (y % 2) 1 (omega (arith, or-step x y, z)))
+        step q l (no e) = all-elim (nodes p) free (sym (below .even) ∙ eq-eqb (x % 2) 0 (omega (arith, or-step x y, z))) q (nodes-in p q (omega arith))
+
+    back : all (nodes (p + 1)) free ≡ true → eqb (bitOr x y % 2) 0 ≡ true
+    back h =
+        let at = all-elim (nodes (p + 1)) free h in
+        let a = eqb-true (x % 2) 0 (below .even ∙ all-intro (nodes p) free (λ q m. at q (nodes-in (p + 1) q (omega (arith, nodes-out p q m))))) in
+        let b = eqb-false (y % 2) 1 (not-true (eqb (y % 2) 1) (sym own ∙ at p (nodes-in (p + 1) p (omega arith)))) in
+        eq-eqb (bitOr x y % 2) 0 (omega (arith, or-step x y, a, b))
 
 -- a walk over p's row: the bits passed are mirrored
 pub record Walking (n : ℕ) (edges : List ℕ) (p w x sum : ℕ) : Type 0 where

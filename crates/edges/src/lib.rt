@@ -56,21 +56,20 @@ fn hold_by_walks(edges: &[u64], n: usize) -> bool
     true
 }
 
-// Whether no node has an edge to itself.
+// Whether no node has an edge to itself: the own bits, each moved to the lowest place, are united without a branch.
 fn is_loopless(edges: &[u64], n: usize) -> bool
     requires { ⌜ (n ≤ maxNodes) × (length (now edges) ≡ rowWords * n) ⌝ }
     ensures { λ r. ⌜ r ≡ loopless n (now (edges .entry)) ⌝ }
 {
+    let mut loops = 0u64;
     for p in 0..n {
-        if rows::edge(edges, p, p) {
-            return false;
-        }
+        loops = loops | (edges[rows::place(p, p)] >> rows::bit_of(p));
     }
-    true
+    loops % 2 == 0
 }
 
-// And by blocks: whether the table is symmetric and without loops.
-pub fn hold_by_blocks(edges: &[u64], n: usize) -> bool
+// And by strips: whether the table is symmetric and without loops.
+pub fn hold_by_strips(edges: &[u64], n: usize) -> bool
     requires { ⌜ (n ≤ maxNodes) × (length (now edges) ≡ rowWords * n) ⌝ }
     ensures { λ r. ⌜ r ≡ (symmetric (now (edges .entry)) && loopless n (now (edges .entry))) ⌝ }
 {
@@ -86,7 +85,7 @@ pub fn hold(edges: &[u64], n: usize) -> bool
     ensures { λ r. ⌜ r ≡ edgesHold n (now (edges .entry)) ⌝ }
 {
     if keys::is_dense(edges, n) {
-        return hold_by_blocks(edges, n);
+        return hold_by_strips(edges, n);
     }
     hold_by_walks(edges, n)
 }

@@ -1,4 +1,4 @@
--- Laws of bits set across the diagonal: block by block.
+-- Laws of bits set across the diagonal: strip by strip, word by word.
 use mathlib.Core.Path.{_≡_, refl, sym, ap₂, _∙_, subst}
 use mathlib.Core.Bool.{true, false, _&&_, _||_, or-false}
 use mathlib.Core.List.{List}
@@ -16,23 +16,20 @@ use Rattle.drawing.specs.BitLaws.{word-put}
 use Rattle.drawing.specs.Drawing.{Added, wordTo}
 use Rattle.drawing.specs.DrawingLaws.{added-as, added-none, added-then}
 use Rattle.symmetry.specs.Symmetry.{Across}
-use Rattle.mirroring.specs.Mirroring.{BlocksFor, InRow, InRows, Lower, Mirrored, MirroredAt, acrossTo, blockTo}
+use Rattle.mirroring.specs.Mirroring.{StripsFor, InRow, InRows, Lower, Mirrored, MirroredAt, acrossTo, columnsTo}
 
--- the rows of a block that n nodes reach, and of one before it
-pub blocks-to : {n words : ℕ} (i : ℕ) → i < (n + 63) / 64 → BlocksFor n words → BlocksFor (64 * i + 64) words
-blocks-to i l h = record { enough = omega (arith, h .enough, h .whole); most = h .most; whole = h .whole }
+-- the rows of a strip that n nodes reach
+pub strips-to : {n words : ℕ} (i : ℕ) → i < (n + 63) / 64 → StripsFor n words → StripsFor (64 * i + 64) words
+strips-to i l h = record { enough = omega (arith, h .enough, h .whole); most = h .most; whole = h .whole }
 
-pub blocks-before : {i j words : ℕ} → j ≤ i → BlocksFor (64 * i + 64) words → BlocksFor (64 * j + 64) words
-blocks-before l h = record { enough = omega (arith, h .enough); most = h .most; whole = h .whole }
+-- a word of a strip put in, row by row
+module _ (i j : ℕ) (strip : List ℕ) where
+  pub lay-none : (t : List ℕ) → Added (columnsTo i j strip 0) t t
+  unfolding columnsTo
+  lay-none t = added-none (columnsTo i j strip 0) t (λ a b. rw (le-ltb (a % 64) 0 (omega arith)))
 
--- a block put in, word by word
-module _ (i j : ℕ) (block : List ℕ) where
-  pub lay-none : (t : List ℕ) → Added (blockTo i j block 0) t t
-  unfolding blockTo
-  lay-none t = added-none (blockTo i j block 0) t (λ a b. rw (le-ltb (a % 64) 0 (omega arith)))
-
-  lay-word : (k a b : ℕ) → k < 64 → (blockTo i j block k a b || wordTo (64 * j + k) i (getD block k 0) a b) ≡ blockTo i j block (k + 1) a b
-  unfolding blockTo wordTo
+  lay-word : (k a b : ℕ) → k < 64 → (columnsTo i j strip k a b || wordTo (64 * j + k) i (getD strip (8 * k + j) 0) a b) ≡ columnsTo i j strip (k + 1) a b
+  unfolding columnsTo wordTo
   lay-word k a b l = step (decide (eqb (a % 64) k))
     where
       here : a % 64 ≡ k → eqb a (64 * j + k) ≡ eqb (a / 64) j
@@ -48,34 +45,34 @@ module _ (i j : ℕ) (block : List ℕ) where
           (λ e. lt-ltb (a % 64) k (omega (arith, ltb-true (a % 64) (k + 1) e)))
 
       step : (eqb (a % 64) k ≡ true) ⊎ (eqb (a % 64) k ≡ false)
-          → (ltb (a % 64) k && (eqb (a / 64) j && (eqb (b / 64) i && bitAt (getD block (a % 64) 0) (b % 64))) || eqb a (64 * j + k) && (eqb (b / 64) i && bitAt (getD block k 0) (b % 64)))
-          ≡ (ltb (a % 64) (k + 1) && (eqb (a / 64) j && (eqb (b / 64) i && bitAt (getD block (a % 64) 0) (b % 64))))
+          → (ltb (a % 64) k && (eqb (a / 64) j && (eqb (b / 64) i && bitAt (getD strip (8 * (a % 64) + j) 0) (b % 64))) || eqb a (64 * j + k) && (eqb (b / 64) i && bitAt (getD strip (8 * k + j) 0) (b % 64)))
+          ≡ (ltb (a % 64) (k + 1) && (eqb (a / 64) j && (eqb (b / 64) i && bitAt (getD strip (8 * (a % 64) + j) 0) (b % 64))))
       step (inl h) =
           let d : a % 64 ≡ k = eqb-true (a % 64) k h in
           rw (d, le-ltb k k (omega arith), lt-ltb k (k + 1) (omega arith), here d)
       step (inr h) =
           let d : a % 64 ≡ k → ⊥ = eqb-false (a % 64) k h in
           rw (ne-eqb a (64 * j + k) (λ e. d (omega arith)), elsewhere d)
-          (or-false (ltb (a % 64) (k + 1) && (eqb (a / 64) j && (eqb (b / 64) i && bitAt (getD block (a % 64) 0) (b % 64)))))
+          (or-false (ltb (a % 64) (k + 1) && (eqb (a / 64) j && (eqb (b / 64) i && bitAt (getD strip (8 * (a % 64) + j) 0) (b % 64)))))
 
-  pub lay-more : (k : ℕ) {t now : List ℕ} → i < 8 → 8 * (64 * j + k) + 8 ≤ length now → k < 64 → Added (blockTo i j block k) t now
-      → Added (blockTo i j block (k + 1)) t (set now (8 * (64 * j + k) + i) (bitOr (getD now (8 * (64 * j + k) + i) 0) (getD block k 0)))
-  lay-more k {t} {now} small fits l h = added-then h (word-put now (64 * j + k) i (getD block k 0) small fits) (λ a b. lay-word k a b l)
+  pub lay-more : (k : ℕ) {t now : List ℕ} → i < 8 → 8 * (64 * j + k) + 8 ≤ length now → k < 64 → Added (columnsTo i j strip k) t now
+      → Added (columnsTo i j strip (k + 1)) t (set now (8 * (64 * j + k) + i) (bitOr (getD now (8 * (64 * j + k) + i) 0) (getD strip (8 * k + j) 0)))
+  lay-more k {t} {now} small fits l h = added-then h (word-put now (64 * j + k) i (getD strip (8 * k + j) 0) small fits) (λ a b. lay-word k a b l)
 
-  pub lay-done : {k : ℕ} {t after : List ℕ} → Added (blockTo i j block k) t after → k ≡ 64 → Added (blockTo i j block 64) t after
-  lay-done {t = t} {after = after} x e = subst (λ l. Added (blockTo i j block l) t after) e x
+  pub lay-done : {k : ℕ} {t after : List ℕ} → Added (columnsTo i j strip k) t after → k ≡ 64 → Added (columnsTo i j strip 64) t after
+  lay-done {t = t} {after = after} x e = subst (λ l. Added (columnsTo i j strip l) t after) e x
 
-  -- the transposed block is what stands across
-  pub lay-across : {t after : List ℕ} → Across t i j block → Added (blockTo i j block 64) t after → Added (acrossTo t i j) t after
-  unfolding acrossTo blockTo
-  lay-across {t} {after} h x = added-as (λ a b. rw (lt-ltb (a % 64) 64 (omega arith)) (step a b (decide (eqb (a / 64) j)) (decide (eqb (b / 64) i)))) x
+  -- that is what stands across
+  pub lay-across : {t now after : List ℕ} {m : ℕ} → Across t i 0 m strip → j < m → Added (columnsTo i j strip 64) now after → Added (acrossTo t i j) now after
+  unfolding acrossTo columnsTo
+  lay-across {t} h l x = added-as (λ a b. rw (lt-ltb (a % 64) 64 (omega arith)) (step a b (decide (eqb (a / 64) j)) (decide (eqb (b / 64) i)))) x
     where
       step : (a b : ℕ) → (eqb (a / 64) j ≡ true) ⊎ (eqb (a / 64) j ≡ false) → (eqb (b / 64) i ≡ true) ⊎ (eqb (b / 64) i ≡ false)
-          → (eqb (a / 64) j && (eqb (b / 64) i && bitAt (getD block (a % 64) 0) (b % 64))) ≡ (eqb (a / 64) j && (eqb (b / 64) i && edgeBit t b a))
+          → (eqb (a / 64) j && (eqb (b / 64) i && bitAt (getD strip (8 * (a % 64) + j) 0) (b % 64))) ≡ (eqb (a / 64) j && (eqb (b / 64) i && edgeBit t b a))
       step a b (inl u) (inl v) =
           let p : 64 * i + b % 64 ≡ b = omega (arith, eqb-true (b / 64) i v) in
           let q : 64 * j + a % 64 ≡ a = omega (arith, eqb-true (a / 64) j u) in
-          rw (u, v) (h .bits (a % 64) (b % 64) (omega arith) (omega arith) ∙ ap₂ (edgeBit t) p q)
+          rw (u, v) (h .bits j (a % 64) (b % 64) (omega arith) l (omega arith) (omega arith) ∙ ap₂ (edgeBit t) p q)
       step a b (inl u) (inr v) = rw (u, v)
       step a b (inr u) v = rw u
 
@@ -103,36 +100,32 @@ mirrored-then {P} {Q} {R} {s} {t} {u} x y cases = record {
     step a b la lb h (inl p) = y .kept b a la (x .mirrors a b la lb p h)
     step a b la lb h (inr q) = y .mirrors a b la lb q (x .kept a b lb h)
 
--- a block
-mirrored-block : {i j : ℕ} {t after : List ℕ} → Added (acrossTo t i j) t after → MirroredAt (λ a b. (a / 64 ≡ i) × (b / 64 ≡ j)) t after
-unfolding acrossTo
-mirrored-block {i} {j} {t} {after} x = record {
-  size = x .size;
-  kept = λ a b l h. x .bits a b l ∙ or-left (acrossTo t i j a b) h;
-  only = λ a b la lb h. back a b (or-cases (edgeBit t a b) (acrossTo t i j a b) (sym (x .bits a b lb) ∙ h));
-  mirrors = λ a b la lb p h. x .bits b a la ∙ or-right (edgeBit t b a) (and-true (eq-eqb (b / 64) j (p .1)) (and-true (eq-eqb (a / 64) i (p .0)) h));
-}
-  where
-    back : (a b : ℕ) → (edgeBit t a b ≡ true) ⊎ ((eqb (a / 64) j && (eqb (b / 64) i && edgeBit t b a)) ≡ true) → (edgeBit t a b ≡ true) ⊎ (edgeBit t b a ≡ true)
-    back a b (inl h) = inl h
-    back a b (inr h) = inr (and-snd (eqb (b / 64) i) _ (and-snd (eqb (a / 64) j) _ h))
-
--- the blocks of a row
-pub blocks-none : (i : ℕ) (t : List ℕ) → MirroredAt (InRow i 0) t t
-blocks-none i t = mirrored-none (InRow i 0) t (λ a b p. omega arith)
+-- the words of a strip
+pub columns-none : (i : ℕ) (t : List ℕ) → MirroredAt (InRow i 0) t t
+columns-none i t = mirrored-none (InRow i 0) t (λ a b p. omega arith)
 
 below-last : (j k : ℕ) → k < j + 1 → (k < j) ⊎ (k ≡ j)
 below-last j = below-more (λ k. (k < j) ⊎ (k ≡ j)) j (λ k l. inl l) (inr refl)
 
-pub blocks-more : {i j : ℕ} {t now after : List ℕ} → MirroredAt (InRow i j) t now → Added (acrossTo now i j) now after → MirroredAt (InRow i (j + 1)) t after
-blocks-more {i} {j} x y = mirrored-then x (mirrored-block y) (λ a b p. place a b (p .0) (below-last j (b / 64) (p .1)))
+pub columns-more : {i j : ℕ} {t now after : List ℕ} → MirroredAt (InRow i j) t now → Added (acrossTo t i j) now after → MirroredAt (InRow i (j + 1)) t after
+unfolding acrossTo
+columns-more {i} {j} {t} {now} {after} x y = record {
+  size = y .size ∙ x .size;
+  kept = λ a b l h. y .bits a b l ∙ or-left (acrossTo t i j a b) (x .kept a b l h);
+  only = λ a b la lb h. back a b la lb (or-cases (edgeBit now a b) (acrossTo t i j a b) (sym (y .bits a b lb) ∙ h));
+  mirrors = λ a b la lb p h. y .bits b a la ∙ there a b la lb (p .0) h (below-last j (b / 64) (p .1));
+}
   where
-    place : (a b : ℕ) → a / 64 ≡ i → (b / 64 < j) ⊎ (b / 64 ≡ j) → InRow i j a b ⊎ ((a / 64 ≡ i) × (b / 64 ≡ j))
-    place a b e (inl h) = inl (e, h)
-    place a b e (inr h) = inr (e, h)
+    back : (a b : ℕ) → a < 512 → b < 512 → (edgeBit now a b ≡ true) ⊎ ((eqb (a / 64) j && (eqb (b / 64) i && edgeBit t b a)) ≡ true) → (edgeBit t a b ≡ true) ⊎ (edgeBit t b a ≡ true)
+    back a b la lb (inl h) = x .only a b la lb h
+    back a b la lb (inr h) = inr (and-snd (eqb (b / 64) i) _ (and-snd (eqb (a / 64) j) _ h))
 
-pub blocks-done : {i j k : ℕ} {t after : List ℕ} → MirroredAt (InRow i j) t after → j ≡ k → MirroredAt (InRow i k) t after
-blocks-done {i} {t = t} {after = after} x e = subst (λ l. MirroredAt (InRow i l) t after) e x
+    there : (a b : ℕ) → a < 512 → b < 512 → a / 64 ≡ i → edgeBit t a b ≡ true → (b / 64 < j) ⊎ (b / 64 ≡ j) → (edgeBit now b a || eqb (b / 64) j && (eqb (a / 64) i && edgeBit t a b)) ≡ true
+    there a b la lb e h (inl l) = or-left (eqb (b / 64) j && (eqb (a / 64) i && edgeBit t a b)) (x .mirrors a b la lb (e, l) h)
+    there a b la lb e h (inr f) = or-right (edgeBit now b a) (and-true (eq-eqb (b / 64) j f) (and-true (eq-eqb (a / 64) i e) h))
+
+pub columns-done : {i j k : ℕ} {t after : List ℕ} → MirroredAt (InRow i j) t after → j ≡ k → MirroredAt (InRow i k) t after
+columns-done {i} {t = t} {after = after} x e = subst (λ l. MirroredAt (InRow i l) t after) e x
 
 -- the rows
 pub rows-none : (t : List ℕ) → MirroredAt (InRows 0) t t

@@ -17,7 +17,7 @@ use Rattle.records.specs.declared.Record.{Record}
 use Rattle.records.specs.declared.Record.the-variants.{Head, Group, Superedge, End, Malformed}
 use Rattle.records.specs.Records.{itemIn, lessGroup, lessMember, recordAt, spent}
 use Rattle.drawing.specs.Drawing.{Added, Adding, pairBits}
-use Rattle.mirroring.specs.Mirroring.{BlocksFor}
+use Rattle.mirroring.specs.Mirroring.{StripsFor}
 use Rattle.rows.specs.Rows.{leads, noNode}
 use Rattle.compressed.specs.Compressed.{Told, firstAt, firstMemberOf, kindLed, kindMarked, single}
 use Rattle.sums.specs.Joined.{JoinedSummed, SumsAdded, SumsAdding, pairCubes}
@@ -284,7 +284,7 @@ nodesIn s = cond (ltb (length s) 8) 0 (u16At s 2)
 -- rows without a bit, for as many nodes as the head tells
 pub record BlankRows (s joined : List ℕ) : Type 0 where
   pub bits : joined ≡ replicate (length joined) 0
-  pub room : nodesIn s ≤ maxNodes → BlocksFor (nodesIn s) (length joined)
+  pub room : nodesIn s ≤ maxNodes → StripsFor (nodesIn s) (length joined)
 
 -- no node has a group, a kind or a bit
 pub record Blank (s least kinds joined : List ℕ) : Type 0 where

@@ -21,7 +21,7 @@ use Rattle.records.specs.Records.{itemIn, sizeOf}
 use Rattle.records.specs.RecordLaws.{fits-at, item-is, next-is}
 use Rattle.drawing.specs.BitLaws.{added-only, zeros}
 use Rattle.drawing.specs.Drawing.{oneBit, pairBits}
-use Rattle.mirroring.specs.Mirroring.{BlocksFor}
+use Rattle.mirroring.specs.Mirroring.{StripsFor}
 use Rattle.rows.specs.Rows.{noNode}
 use Rattle.compressed.specs.Compressed.{firstAt, joinedBy, placed, single}
 use Rattle.compressed.specs.ToldLaws.{first-member-none, first-placed}
@@ -130,7 +130,7 @@ groups-count s at k = count k (drop at s)
 
 -- the body
 module _ (s : List ℕ) (from n m g : ℕ) (least₀ least firsts₀ firsts kinds₀ kinds joined₀ : List ℕ) (r : Groups) (eight : from ≡ 8) (blank : Blank s least₀ kinds₀ joined₀)
-    (room : BlocksFor n (length joined₀)) (read : GroupsRead n g (record { members = m; groups = g }) s from least firsts₀ firsts kinds r) where
+    (room : StripsFor n (length joined₀)) (read : GroupsRead n g (record { members = m; groups = g }) s from least firsts₀ firsts kinds r) where
   groups : GroupsRead n g (record { members = m; groups = g }) s 8 least firsts₀ firsts kinds r
   groups = subst (λ (x : ℕ). GroupsRead n g (record { members = m; groups = g }) s x least firsts₀ firsts kinds r) eight read
 
@@ -254,8 +254,8 @@ module _ (s : List ℕ) (at : ℕ) (head : Record) (least₀ kinds₀ joined₀ 
     after-head = unfold sizeOf in (next-is s 0 (record { next = at; item = head }) (after .read) ∙ ap (λ (x : Record). 0 + sizeOf x) is)
 
     -- the head's nodes have rows
-    pub head-room : n ≤ maxNodes → BlocksFor n (length joined₀)
-    head-room small = subst (λ (k : ℕ). BlocksFor k (length joined₀)) told (blank .0 .rows .room (omega (arith, told)))
+    pub head-room : n ≤ maxNodes → StripsFor n (length joined₀)
+    head-room small = subst (λ (k : ℕ). StripsFor k (length joined₀)) told (blank .0 .rows .room (omega (arith, told)))
       where
         told : nodesIn s ≡ n
         told = sym (numbers .1 ∙ nodes-told s (numbers .0))

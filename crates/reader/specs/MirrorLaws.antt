@@ -17,7 +17,7 @@ use Rattle.records.specs.declared.Record.the-variants.{Superedge}
 use Rattle.records.specs.Records.{itemIn}
 use Rattle.drawing.specs.Drawing.{oneBit, pairBits}
 use Rattle.drawing.specs.BitLaws.{added-only, blank-bit, no-bits}
-use Rattle.mirroring.specs.Mirroring.{BlocksFor, Lower, Mirrored}
+use Rattle.mirroring.specs.Mirroring.{StripsFor, Lower, Mirrored}
 use Rattle.reader.specs.Decoding.{FirstsAscend, JoinedRead, SuperedgesRead, drawnBy, isFew, pairsTo}
 use Rattle.reader.specs.SuperedgeLaws.{here-or-not, ordered-first, ordered-second, refuted, stop-pair, stops-empty}
 
@@ -79,7 +79,7 @@ drawn-lower n g s firsts up (suc k) last at a b t =
         by (inr u) = rest u
 
 -- superedges read into a table without bits, one way, then mirrored
-module _ (n g : ℕ) (s : List ℕ) (from : ℕ) (firsts joined₀ joined sums₀ sums : List ℕ) (r : ℕ) (blank : joined₀ ≡ replicate (length joined₀) 0) (room : BlocksFor n (length joined₀))
+module _ (n g : ℕ) (s : List ℕ) (from : ℕ) (firsts joined₀ joined sums₀ sums : List ℕ) (r : ℕ) (blank : joined₀ ≡ replicate (length joined₀) 0) (room : StripsFor n (length joined₀))
     (up : FirstsAscend n g firsts) (read : SuperedgesRead g false s from firsts joined₀ joined sums₀ sums r) where
   pub one-way : Lower n joined
   one-way = record { size = rw (read .drawn .size) room; below = λ a b l t. drawn-lower n g s firsts up (length s) 0 from a b (sym (added-only joined₀ blank (read .drawn) a b l) ∙ t) }

@@ -6,7 +6,7 @@ ghost use Rattle.model.specs.Graph.{maxNodes, rowWords};
 ghost use Rattle.rows.specs.Rows.{noNode};
 ghost use Rattle.compressed.specs.Compressed.{kindMarked, single};
 ghost use Rattle.drawing.specs.Drawing.{Added, pairBits};
-ghost use Rattle.mirroring.specs.Mirroring.{BlocksFor};
+ghost use Rattle.mirroring.specs.Mirroring.{StripsFor};
 ghost use Rattle.records.specs.Records.{recordAt};
 ghost use Rattle.sums.specs.Joined.{SumsAdded};
 ghost use Rattle.sums.specs.Sums.{FirstsAreNodes};
@@ -259,7 +259,7 @@ fn read_joined(
     sums: &mut [u32],
 ) -> usize
     requires { ⌜ FirstsAreNodes n (now least) × FirstsPlaced g (length (now joined)) (now firsts) × FirstsAscend n g (now firsts) ⌝ }
-    requires { ⌜ (now joined ≡ replicate (length (now joined)) 0) × BlocksFor n (length (now joined)) × (now sums ≡ replicate (2 * maxNodes) 0) ⌝ }
+    requires { ⌜ (now joined ≡ replicate (length (now joined)) 0) × StripsFor n (length (now joined)) × (now sums ≡ replicate (2 * maxNodes) 0) ⌝ }
     ensures { λ r. ⌜ JoinedRead n g (now (file .entry)) from (now (least .entry)) (now (firsts .entry)) (now (joined .entry)) (now (joined .exit)) (now (sums .exit)) r ⌝ }
 {
     if are_few(file.len(), n) {
@@ -317,7 +317,7 @@ fn read_body(
     joined: &mut [u64],
     sums: &mut [u32],
 ) -> bool
-    requires { ⌜ (from ≡ 8) × (n ≤ maxNodes) × (g ≤ maxNodes) × Blank (now file) (now least) (now kinds) (now joined) × BlocksFor n (length (now joined)) × (now sums ≡ replicate (2 * maxNodes) 0) ⌝ }
+    requires { ⌜ (from ≡ 8) × (n ≤ maxNodes) × (g ≤ maxNodes) × Blank (now file) (now least) (now kinds) (now joined) × StripsFor n (length (now joined)) × (now sums ≡ replicate (2 * maxNodes) 0) ⌝ }
     ensures { λ r. ⌜ BodyRead (now (file .entry)) n m g (now (least .exit)) (now (kinds .exit)) (now (joined .exit)) (now (sums .exit)) r ⌝ }
 {
     let mut firsts = [0u16; Graph::NODES];

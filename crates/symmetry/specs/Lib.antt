@@ -1,2 +1,4 @@
 pub mod Symmetry
-pub mod BlockLaws
+pub mod SymmetryLaws
+pub mod CrossLaws
+pub mod StripLaws

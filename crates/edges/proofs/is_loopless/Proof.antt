@@ -1,31 +1,36 @@
--- The invariant: the nodes before p have no loop.
-use mathlib.Core.Path.{_≡_, ap, sym, _∙_}
-use mathlib.Core.Bool.{true, not}
-use Prim.Native.Nat.{ℕ, _-_, _≤_, _<_}
+-- The invariant: the lowest bit tells whether a node before p has a loop.
+use mathlib.Core.Path.{ap, _∙_}
+use Prim.Native.Nat.{_-_, _≤_}
 use native.Mathlib.Omega.{arith}
-use borrow.Author.Count.{below-more, below-none}
 use borrow.Author.Needs.{needs}
-use Rattle.model.specs.Tables.{edgeBit}
 use Rattle.edges.specs.Edges.{loopless}
-use Rattle.buffers.specs.AllLaws.{all-fail, all-pass}
+use Rattle.edges.specs.EdgesLaws.{LoopsBelow, loops-more, loops-none}
 use Rattle.edges.proofs.is_loopless.Statement.{statement}
 use Rattle.edges.proofs.is_loopless.Tie as tie
 
 abbrev Inv-loop : tie.InvT-loop
-Inv-loop edges n p₀ p = (p ≤ n) × ((k : ℕ) → k < p → not (edgeBit edges k k) ≡ true)
+Inv-loop edges n loops₀ p₀ loops p = (p ≤ n) × LoopsBelow edges p loops
 
 abbrev μ-loop : tie.MeasureT-loop
-μ-loop edges n p₀ p = n - p
+μ-loop edges n loops₀ p₀ loops p = n - p
 
 loop-holds : tie.Need-loop-holds Inv-loop μ-loop
-loop-holds c = (omega arith, below-none _)
+loop-holds c = (omega arith, loops-none _)
 
-edge-requires : tie.Need-edge-requires Inv-loop μ-loop
-edge-requires c κs = search needs
+place-requires : tie.Need-place-requires Inv-loop μ-loop
+place-requires c κs = omega arith
 
-returns : tie.Need-returns Inv-loop μ-loop
-unfolding loopless
-returns c = all-fail _ _ (c .before .before .before .loop .p) (omega arith) (ap not (sym (c .before .edge .ensures) ∙ c .if1 .taken))
+mul-loops : tie.Need-mul-loops Inv-loop μ-loop
+mul-loops c = omega arith
+
+shared-slice-read-loops : tie.Need-shared-slice-read-loops Inv-loop μ-loop
+shared-slice-read-loops c = omega arith
+
+bit-of-requires : tie.Need-bit-of-requires Inv-loop μ-loop
+bit-of-requires c κs = search needs
+
+shr-loops : tie.Need-shr-loops Inv-loop μ-loop
+shr-loops c = omega arith
 
 add-p : tie.Need-add-p Inv-loop μ-loop
 add-p c = omega arith
@@ -34,11 +39,10 @@ loop-less : tie.Need-loop-less Inv-loop μ-loop
 loop-less c = omega arith
 
 loop-again : tie.Need-loop-again Inv-loop μ-loop
-loop-again c = (omega arith, below-more _ _ (c .before .before .before .loop .inv .1) (ap not (sym (c .before .edge .ensures) ∙ c .if1 .left)))
+loop-again c = (omega arith, loops-more (c .before .before .before .before .loop .inv .1) (c .before .before .place .ensures) (c .bit-of .ensures))
 
-returns-2 : tie.Need-returns-2 Inv-loop μ-loop
-unfolding loopless
-returns-2 c = all-pass _ _ _ (omega arith) (c .before .loop .inv .1)
+returns : tie.Need-returns Inv-loop μ-loop
+returns c = c .before .loop .inv .1 .even ∙ ap (λ p. loopless p (c .before .before .before .args .edges .now)) (omega arith)
 
 pub is-loopless-spec : {M : Type 1} → statement M
 is-loopless-spec =
@@ -47,9 +51,12 @@ is-loopless-spec =
     Inv-loop
     μ-loop
     loop-holds
-    edge-requires
-    returns
+    place-requires
+    mul-loops
+    shared-slice-read-loops
+    bit-of-requires
+    shr-loops
     add-p
     loop-less
     loop-again
-    returns-2)
+    returns)

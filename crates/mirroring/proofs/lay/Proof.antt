@@ -1,17 +1,17 @@
--- Before word k: those before it are put in.
+-- Before row k: those before it are put in.
 use Prim.Native.Nat.{_-_, _≤_}
 use native.Mathlib.Omega.{arith}
 use Rattle.drawing.specs.Drawing.{Added}
-use Rattle.mirroring.specs.Mirroring.{blockTo}
+use Rattle.mirroring.specs.Mirroring.{columnsTo}
 use Rattle.mirroring.specs.MirroringLaws.{lay-done, lay-more, lay-none}
 use Rattle.mirroring.proofs.lay.Statement.{statement}
 use Rattle.mirroring.proofs.lay.Tie as tie
 
 abbrev Inv-loop : tie.InvT-loop
-Inv-loop table₀ i j block k₀ table k = (k ≤ 64) × Added (blockTo i j block k) table₀ table
+Inv-loop table₀ i j strip k₀ table k = (k ≤ 64) × Added (columnsTo i j strip k) table₀ table
 
 abbrev μ-loop : tie.MeasureT-loop
-μ-loop table₀ i j block k₀ table k = 64 - k
+μ-loop table₀ i j strip k₀ table k = 64 - k
 
 loop-holds : tie.Need-loop-holds Inv-loop μ-loop
 loop-holds c = (omega arith, lay-none _ _ _ _)
@@ -37,11 +37,17 @@ slice-read-table c = omega (arith, c .before .before .loop .inv .1 .size)
 mul-table-2 : tie.Need-mul-table-2 Inv-loop μ-loop
 mul-table-2 c = omega arith
 
-shared-slice-read-table : tie.Need-shared-slice-read-table Inv-loop μ-loop
-shared-slice-read-table c = omega arith
+add-table : tie.Need-add-table Inv-loop μ-loop
+add-table c = omega arith
 
 mul-table-3 : tie.Need-mul-table-3 Inv-loop μ-loop
 mul-table-3 c = omega arith
+
+shared-slice-read-table : tie.Need-shared-slice-read-table Inv-loop μ-loop
+shared-slice-read-table c = omega arith
+
+mul-table-4 : tie.Need-mul-table-4 Inv-loop μ-loop
+mul-table-4 c = omega arith
 
 slice-write-table : tie.Need-slice-write-table Inv-loop μ-loop
 slice-write-table c = omega (arith, c .before .before .before .loop .inv .1 .size)
@@ -78,8 +84,10 @@ lay-spec =
     mul-table
     slice-read-table
     mul-table-2
-    shared-slice-read-table
+    add-table
     mul-table-3
+    shared-slice-read-table
+    mul-table-4
     slice-write-table
     add-k
     loop-less

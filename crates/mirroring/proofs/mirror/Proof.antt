@@ -1,17 +1,19 @@
--- Before block i of the rows: those before it are mirrored.
+-- Before strip i: those before it are mirrored.
+use mathlib.Core.Path.{_≡_, refl, sym}
 use Prim.Native.Nat.{_-_, _≤_}
 use native.Mathlib.Omega.{arith}
+use lib.ListN.{length}
 use borrow.Author.Needs.{needs}
 use Rattle.mirroring.specs.Mirroring.{InRows, MirroredAt}
-use Rattle.mirroring.specs.MirroringLaws.{blocks-to, rows-done, rows-more, rows-none}
+use Rattle.mirroring.specs.MirroringLaws.{rows-done, rows-more, rows-none, strips-to}
 use Rattle.mirroring.proofs.mirror.Statement.{statement}
 use Rattle.mirroring.proofs.mirror.Tie as tie
 
 abbrev Inv-loop : tie.InvT-loop
-Inv-loop table₀ n i₀ i-end table i = (i ≤ i-end) × MirroredAt (InRows i) table₀ table
+Inv-loop table₀ n b₀ i₀ i-end table b i = (i ≤ i-end) × MirroredAt (InRows i) table₀ table × (length b ≡ 512)
 
 abbrev μ-loop : tie.MeasureT-loop
-μ-loop table₀ n i₀ i-end table i = i-end - i
+μ-loop table₀ n b₀ i₀ i-end table b i = i-end - i
 
 add-word-of : tie.Need-add-word-of Inv-loop μ-loop
 add-word-of c = omega arith
@@ -20,14 +22,17 @@ word-of-requires : tie.Need-word-of-requires Inv-loop μ-loop
 word-of-requires c κs = search needs
 
 loop-holds : tie.Need-loop-holds Inv-loop μ-loop
-loop-holds c = (omega arith, rows-none _)
+loop-holds c = (omega arith, rows-none _, refl)
 
-mirror-row-requires : tie.Need-mirror-row-requires Inv-loop μ-loop
-mirror-row-requires c κs =
-    let s = c .before .before .before in
-    let l = c .before .before .loop .inv in
-    let e = s .word-of .ensures in
-    (rw (l .1 .size) (blocks-to _ (omega arith) (s .before .before .pre .1 .size)), omega (arith, s .before .before .pre .0))
+slice-aggregate-mirror-strip : tie.Need-slice-aggregate-mirror-strip Inv-loop μ-loop
+slice-aggregate-mirror-strip c = sym (c .before .before .before .loop .inv .2)
+
+mirror-strip-requires : tie.Need-mirror-strip-requires Inv-loop μ-loop
+mirror-strip-requires c κs =
+    let l = c .before .before .before .loop .inv in
+    let w = c .before .before .before .before in
+    let e = w .word-of .ensures in
+    (rw (l .1 .size) (strips-to _ (omega arith) (w .before .before .pre .1 .size)), omega (arith, w .before .before .pre .0), l .2)
 
 add-i : tie.Need-add-i Inv-loop μ-loop
 add-i c = omega arith
@@ -36,13 +41,15 @@ loop-less : tie.Need-loop-less Inv-loop μ-loop
 loop-less c = omega arith
 
 loop-again : tie.Need-loop-again Inv-loop μ-loop
-loop-again c = (omega arith, rows-more (c .before .before .before .before .before .loop .inv .1) (c .before .before .mirror-row .ensures))
+loop-again c =
+    let l = c .before .before .before .before .before .before .before .loop .inv in
+    (omega arith, rows-more (l .1) (c .before .before .before .mirror-strip .ensures), c .b2 .given)
 
 same-length : tie.Need-same-length Inv-loop μ-loop
 same-length c = c .before .loop .inv .1 .size
 
 returns : tie.Need-returns Inv-loop μ-loop
-returns c = let s = c .before .before in rows-done (s .before .before .pre .1) (omega (arith, s .word-of .ensures)) (c .before .loop .inv .1)
+returns c = let w = c .before .before in rows-done (w .before .before .pre .1) (omega (arith, w .word-of .ensures)) (c .before .loop .inv .1)
 
 pub mirror-spec : {M : Type 1} → statement M
 mirror-spec =
@@ -53,7 +60,8 @@ mirror-spec =
     add-word-of
     word-of-requires
     loop-holds
-    mirror-row-requires
+    slice-aggregate-mirror-strip
+    mirror-strip-requires
     add-i
     loop-less
     loop-again

@@ -1,74 +1,69 @@
--- The invariant: the columns before c agree.
-use mathlib.Core.Path.{_≡_}
-use mathlib.Core.Bool.{true}
-use Prim.Native.Nat.{ℕ, _+_, _*_, _-_, _≤_, _<_}
+-- The invariant: the columns before c are compared.
+use mathlib.Core.Path.{refl}
+use Prim.Native.Nat.{_-_, _≤_}
 use native.Mathlib.Omega.{arith}
-use borrow.Author.Count.{below-more, below-none}
-use Rattle.symmetry.specs.Symmetry.{blockSymmetric, columnSymmetric}
-use Rattle.symmetry.specs.BlockLaws.{column-agrees, column-differs}
-use Rattle.buffers.specs.AllLaws.{all-fail, all-pass}
+use Rattle.symmetry.specs.Symmetry.{Compared}
+use Rattle.symmetry.specs.StripLaws.{compared-more, compared-none, compared-tells, compared-to}
 use Rattle.symmetry.proofs.is_across.Statement.{statement}
 use Rattle.symmetry.proofs.is_across.Tie as tie
 
 abbrev Inv-loop : tie.InvT-loop
-Inv-loop edges n i j a c₀ c = (c ≤ 64) × ((k : ℕ) → k < c → columnSymmetric edges i j k ≡ true)
+Inv-loop edges n i w b x₀ c₀ c-end x c = (c ≤ c-end) × Compared edges b i w c x
 
 abbrev μ-loop : tie.MeasureT-loop
-μ-loop edges n i j a c₀ c = 64 - c
+μ-loop edges n i w b x₀ c₀ c-end x c = c-end - c
 
--- src/dense.rt:92:5
+rows-of-requires : tie.Need-rows-of-requires Inv-loop μ-loop
+rows-of-requires c κs = let s = c .before .before in (s .pre .0, s .pre .2)
+
 loop-holds : tie.Need-loop-holds Inv-loop μ-loop
-loop-holds c = (omega arith, below-none _)
+loop-holds c = (omega arith, compared-none _ _ _ _)
 
--- src/dense.rt:93:12
-mul-if1 : tie.Need-mul-if1 Inv-loop μ-loop
-mul-if1 c = omega arith
+mul-x : tie.Need-mul-x Inv-loop μ-loop
+mul-x c = omega arith
 
--- src/dense.rt:93:12
-shared-slice-read-if1 : tie.Need-shared-slice-read-if1 Inv-loop μ-loop
-shared-slice-read-if1 c = omega (arith, c .before .before .before .before .before .pre .4 .size)
+add-x : tie.Need-add-x Inv-loop μ-loop
+add-x c = omega arith
 
--- src/dense.rt:93:38
-mul-word-at : tie.Need-mul-word-at Inv-loop μ-loop
-mul-word-at c = omega arith
+mul-x-2 : tie.Need-mul-x-2 Inv-loop μ-loop
+mul-x-2 c = omega arith
 
--- src/dense.rt:93:38
-add-word-at : tie.Need-add-word-at Inv-loop μ-loop
-add-word-at c = omega arith
+shared-slice-read-x : tie.Need-shared-slice-read-x Inv-loop μ-loop
+shared-slice-read-x c = let s = c .before .before .before .before .before .before in omega (arith, c .before .before .before .rows-of .ensures, s .pre .4 .size)
 
--- src/dense.rt:93:20
-word-at-requires : tie.Need-word-at-requires Inv-loop μ-loop
-word-at-requires c κs = omega arith
+mul-x-3 : tie.Need-mul-x-3 Inv-loop μ-loop
+mul-x-3 c = omega arith
 
--- src/dense.rt:94:13
-returns : tie.Need-returns Inv-loop μ-loop
-unfolding blockSymmetric
-returns c =
-    let w = c .before in
-    let l = w .before .before .before in
-    let s = l .before .before in
-    let x = l .loop .c in
-    all-fail _ _ _ (omega arith) (column-differs (s .before .pre .4) (omega arith) (w .word-at .ensures) (omega (arith, l .before .shared-slice-known2 .given x)) (omega (arith, w .word-at .ensures, s .shared-slice-known .given (8 * (64 * s .before .args .j + x) + s .before .args .i))) (c .if1 .taken))
+add-x-2 : tie.Need-add-x-2 Inv-loop μ-loop
+add-x-2 c = omega arith
 
--- src/dense.rt:92:9
+mul-x-4 : tie.Need-mul-x-4 Inv-loop μ-loop
+mul-x-4 c = omega arith
+
+add-x-3 : tie.Need-add-x-3 Inv-loop μ-loop
+add-x-3 c = omega arith
+
+mul-x-5 : tie.Need-mul-x-5 Inv-loop μ-loop
+mul-x-5 c = omega arith
+
+shared-slice-read-x-2 : tie.Need-shared-slice-read-x-2 Inv-loop μ-loop
+shared-slice-read-x-2 c = omega (arith, c .before .before .before .before .rows-of .ensures)
+
 add-c : tie.Need-add-c Inv-loop μ-loop
 add-c c = omega arith
 
--- src/dense.rt:92:5
 loop-less : tie.Need-loop-less Inv-loop μ-loop
 loop-less c = omega arith
 
--- src/dense.rt:92:5
 loop-again : tie.Need-loop-again Inv-loop μ-loop
-loop-again c =
-    let w = c .before in
-    let l = w .before .before .before in
-    (omega arith, below-more _ _ (l .loop .inv .1) (column-agrees (l .before .before .before .pre .4) (omega arith) (w .word-at .ensures) (c .if1 .left)))
+loop-again c = (omega arith, compared-more _ _ (c .before .before .before .loop .inv .1) refl refl)
 
--- src/dense.rt:88:1
-returns-2 : tie.Need-returns-2 Inv-loop μ-loop
-unfolding blockSymmetric
-returns-2 c = all-pass _ _ _ (omega arith) (c .before .loop .inv .1)
+returns : tie.Need-returns Inv-loop μ-loop
+returns c =
+    let r = c .before .before in
+    let s = r .before .before .before in
+    let e = r .rows-of .ensures in
+    compared-tells (s .pre .4) (s .pre .0) (omega arith) (e .0) (e .1) (e .2) (λ k. omega (arith, r .before .shared-slice-known2 .given k)) (λ k. omega (arith, r .before .before .shared-slice-known .given k)) (compared-to (c .before .loop .inv .1) (omega arith))
 
 pub is-across-spec : {M : Type 1} → statement M
 is-across-spec =
@@ -76,14 +71,19 @@ is-across-spec =
     (tie.spec
     Inv-loop
     μ-loop
+    rows-of-requires
     loop-holds
-    mul-if1
-    shared-slice-read-if1
-    mul-word-at
-    add-word-at
-    word-at-requires
-    returns
+    mul-x
+    add-x
+    mul-x-2
+    shared-slice-read-x
+    mul-x-3
+    add-x-2
+    mul-x-4
+    add-x-3
+    mul-x-5
+    shared-slice-read-x-2
     add-c
     loop-less
     loop-again
-    returns-2)
+    returns)
