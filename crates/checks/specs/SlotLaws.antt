@@ -1,102 +1,102 @@
 -- Keys of leaders, by slots: where a slot is free, no leader so far has the key.
 use mathlib.Core.Path.{_≡_, refl, sym, ap, _∙_}
-use mathlib.Core.Bool.{Bool, true, false, not}
+use mathlib.Core.Bool.{Bool, true, false, not, _||_, or-true}
 use mathlib.Core.List.{List}
 use mathlib.Core.Logic.{_⊎_, inl, inr}
-use Prim.Native.Nat.{ℕ, _+_, _*_, _<_}
+use Prim.Native.Nat.{ℕ, _+_, _*_, _/_, _%_, _^_, _<_}
+use native.Mathlib.Nat.{add-zero}
 use native.Mathlib.Omega.{arith}
 use native.Mathlib.Decide.{ℕ-discrete}
+use lib.Bits.{bitOr}
 use lib.Dec.{eqb}
-use lib.ListN.{length, getD, set, length-set}
-use lib.Seq.{getD-set-same, getD-set-other}
+use lib.ListN.{length, getD, set}
 use borrow.Author.Tests.{eqb-true, eq-eqb}
 use Rattle.model.specs.Graph.{whole}
 use Rattle.model.specs.Grouping.{falseTwins, trueTwins}
 use Rattle.model.specs.Tables.{nodeNumber, graphIn}
-use Rattle.model.specs.TestLaws.{and-fst, and-snd, decide}
+use Rattle.model.specs.TestLaws.{and-fst, and-snd, decide, differ}
 use Rattle.model.specs.TwinLaws.{similar-cases}
+use Rattle.rows.specs.BitLaws.{edge-at}
 use Rattle.search.specs.Search.{Ready, firstFrom, joins, keyAgrees}
 use Rattle.search.specs.SearchLaws.{first-none}
 use Rattle.search.specs.TwinRowLaws.{false-key, true-key}
+use Rattle.drawing.specs.BitLaws.{bit-set}
+use Rattle.drawing.specs.Drawing.{oneBit}
 use Rattle.checks.specs.Checks.{alone}
-use Rattle.checks.specs.Slots.{Seen, SlotsMarked, keySlot}
+use Rattle.checks.specs.Slots.{Seen, SlotTaken, isTaken, keySlot, slotWords}
 
-pub slots-marked : (keys : List ℕ) (u : ℕ) (os cs : List ℕ) (a b x y : ℕ) → a ≡ keySlot (getD keys (2 * u) 0) → b ≡ keySlot (getD keys (2 * u + 1) 0) → x ≡ getD os a 0 → y ≡ getD cs b 0
-    → SlotsMarked keys u os cs (set os a 1) (set cs b 1) (eqb (x + y) 0)
-slots-marked keys u os cs a b x y ea eb ex ey =
+-- no leader below u has its key k
+abbrev pub NewKey : List ℕ → List ℕ → ℕ → ℕ → Type 0
+NewKey table keys k u = (q : ℕ) → q < u → nodeNumber table q 0 ≡ q → keyAgrees keys k u q ≡ true → ⊥
+
+-- the bit that the code has found, set and read
+pub slot-taken : (slots : List ℕ) (key s i m k : ℕ) → length slots ≡ slotWords → s ≡ keySlot key → i ≡ s / 64 → m ≡ 2 ^ (s % 64) → k ≡ s % 64
+    → SlotTaken key slots (set slots i (bitOr (getD slots i 0) m)) (eqb (getD slots i 0 / 2 ^ k % 2) 1)
+unfolding isTaken
+slot-taken slots key s i m k size es ei em ek =
+    let p : i ≡ 8 * (keySlot key / 512) + keySlot key % 512 / 64 = omega arith in
+    let b : s % 64 ≡ keySlot key % 512 % 64 = omega arith in
     record {
-      opened = rw ea;
-      closed = rw eb;
-      open-free = λ h. let z = eqb-true (x + y) 0 h in sym (ex ∙ ap (λ (i : ℕ). getD os i 0) ea) ∙ omega arith;
-      closed-free = λ h. let z = eqb-true (x + y) 0 h in sym (ey ∙ ap (λ (i : ℕ). getD cs i 0) eb) ∙ omega arith;
+      added = bit-set slots (keySlot key / 512) (keySlot key % 512) i m (omega arith) (omega arith) p (em ∙ ap (λ (x : ℕ). 2 ^ x) b);
+      was = edge-at slots (keySlot key / 512) (keySlot key % 512) i k p (ek ∙ b);
     }
 
-stays : (s : List ℕ) (i j : ℕ) → i < length s → getD s j 0 ≡ 1 → getD (set s i 1) j 0 ≡ 1
-stays s i j l h = step (ℕ-discrete j i)
-  where
-    step : Dec (j ≡ i) → getD (set s i 1) j 0 ≡ 1
-    step (yes e) = ap (λ (k : ℕ). getD (set s i 1) k 0) e ∙ getD-set-same s i 1 0 l
-    step (no d) = getD-set-other s i j 1 0 d ∙ h
+module _ {key : ℕ} {slots after : List ℕ} {r : Bool} (t : SlotTaken key slots after r) where
+  taken-more : (other : ℕ) → isTaken after other ≡ (isTaken slots other || oneBit (keySlot key / 512) (keySlot key % 512) (keySlot other / 512) (keySlot other % 512))
+  unfolding isTaken
+  taken-more other = t .added .bits (keySlot other / 512) (keySlot other % 512) (omega arith)
 
-module _ {table keys : List ℕ} where
-  pub seen-none : {os cs : List ℕ} → length os ≡ 8192 → length cs ≡ 8192 → Seen table keys 0 os cs
-  seen-none a b = record { open-size = a; closed-size = b; opens = λ q l. absurd (omega arith); closeds = λ q l. absurd (omega arith) }
+  taken-now : isTaken after key ≡ true
+  unfolding oneBit
+  taken-now = taken-more key ∙ rw (eq-eqb (keySlot key / 512) (keySlot key / 512) refl, eq-eqb (keySlot key % 512) (keySlot key % 512) refl) (or-true (isTaken slots key))
 
-  module _ {u : ℕ} {os cs : List ℕ} (s : Seen table keys u os cs) where
-    pub seen-member : (nodeNumber table u 0 ≡ u → ⊥) → Seen table keys (u + 1) os cs
-    seen-member d = record {
-      open-size = s .open-size;
-      closed-size = s .closed-size;
-      opens = λ q l e. s .opens q (below q l e) e;
-      closeds = λ q l e. s .closeds q (below q l e) e;
-    }
+  taken-still : (other : ℕ) → isTaken slots other ≡ true → isTaken after other ≡ true
+  taken-still other h = taken-more other ∙ rw h
+
+-- the open key is key 0
+pub even-place : (keys : List ℕ) (u : ℕ) → getD keys (2 * u) 0 ≡ getD keys (2 * u + 0) 0
+even-place keys u = rw (add-zero (2 * u))
+
+module _ {table keys : List ℕ} {k : ℕ} where
+  pub seen-none : {slots : List ℕ} → length slots ≡ slotWords → Seen table keys k 0 slots
+  seen-none size = record { size = size; taken = λ q l. absurd (omega arith) }
+
+  module _ {u : ℕ} {slots : List ℕ} (s : Seen table keys k u slots) where
+    pub seen-member : (nodeNumber table u 0 ≡ u → ⊥) → Seen table keys k (u + 1) slots
+    seen-member d = record { size = s .size; taken = λ q l e. s .taken q (below q l e (ℕ-discrete q u)) e }
       where
-        below : (q : ℕ) → q < u + 1 → nodeNumber table q 0 ≡ q → q < u
-        below q l e = step (ℕ-discrete q u)
-          where
-            step : Dec (q ≡ u) → q < u
-            step (yes z) = absurd (d (rw z at e))
-            step (no z) = omega arith
+        below : (q : ℕ) → q < u + 1 → nodeNumber table q 0 ≡ q → Dec (q ≡ u) → q < u
+        below q l e (yes z) = absurd (d (rw z at e))
+        below q l e (no z) = omega arith
 
-    pub seen-leader : {os′ cs′ : List ℕ} {r : Bool} → SlotsMarked keys u os cs os′ cs′ r → Seen table keys (u + 1) os′ cs′
-    seen-leader {os′} {cs′} m = record {
-      open-size = ap length (m .opened) ∙ length-set os _ 1 ∙ s .open-size;
-      closed-size = ap length (m .closed) ∙ length-set cs _ 1 ∙ s .closed-size;
-      opens = λ q l e. rw (m .opened) (one os (s .open-size) (keySlot (getD keys (2 * u) 0)) (omega arith) (λ i. keySlot (getD keys (2 * i) 0)) refl q l (λ h. s .opens q h e));
-      closeds = λ q l e. rw (m .closed) (one cs (s .closed-size) (keySlot (getD keys (2 * u + 1) 0)) (omega arith) (λ i. keySlot (getD keys (2 * i + 1) 0)) refl q l (λ h. s .closeds q h e));
-    }
+    pub seen-leader : {key : ℕ} {after : List ℕ} {r : Bool} → key ≡ getD keys (2 * u + k) 0 → SlotTaken key slots after r → Seen table keys k (u + 1) after
+    seen-leader {key} {after} is t = record { size = t .added .size ∙ s .size; taken = λ q l e. step q l e (ℕ-discrete q u) }
       where
-        one : (os : List ℕ) → length os ≡ 8192 → (k : ℕ) → k < 8192 → (f : ℕ → ℕ) → f u ≡ k → (q : ℕ) → q < u + 1 → (q < u → getD os (f q) 0 ≡ 1) → getD (set os k 1) (f q) 0 ≡ 1
-        one os size k h f e q l below = step (ℕ-discrete q u)
-          where
-            step : Dec (q ≡ u) → getD (set os k 1) (f q) 0 ≡ 1
-            step (yes z) = ap (λ (i : ℕ). getD (set os k 1) i 0) (ap f z ∙ e) ∙ getD-set-same os k 1 0 (omega arith)
-            step (no z) = stays os k (f q) (omega arith) (below (omega arith))
+        step : (q : ℕ) → q < u + 1 → nodeNumber table q 0 ≡ q → Dec (q ≡ u) → isTaken after (getD keys (2 * q + k) 0) ≡ true
+        step q l e (yes z) = rw (z, ← is) (taken-now t)
+        step q l e (no z) = taken-still t (getD keys (2 * q + k) 0) (s .taken q (omega arith) e)
 
-    -- where both slots were free, nobody below is similar
-    module _ {n : ℕ} {edges : List ℕ} (ready : Ready n edges keys) (inside : u < n) (leads : nodeNumber table u 0 ≡ u) {os′ cs′ : List ℕ} {r : Bool} (m : SlotsMarked keys u os cs os′ cs′ r) (fresh : r ≡ true) where
-      no-twin : (q : ℕ) → q < u → nodeNumber table q 0 ≡ q → (falseTwins (whole (graphIn n edges)) u q ≡ true) ⊎ (trueTwins (whole (graphIn n edges)) u q ≡ true) → ⊥
-      unfolding keyAgrees
-      no-twin q l e (inl h) =
-          let same : getD keys (2 * u + 0) 0 ≡ getD keys (2 * q + 0) 0 = eqb-true _ _ (false-key n edges keys ready u q inside (omega arith) h) in
-          let x : 2 * u + 0 ≡ 2 * u = omega arith in
-          let y : 2 * q + 0 ≡ 2 * q = omega arith in
-          let z : getD keys (2 * u) 0 ≡ getD keys (2 * q) 0 = rw (x, y) at same in
-          absurd (omega (arith, m .open-free fresh, s .opens q l e, ap (λ (k : ℕ). getD os (keySlot k) 0) z))
-      no-twin q l e (inr h) =
-          let same : getD keys (2 * u + 1) 0 ≡ getD keys (2 * q + 1) 0 = eqb-true _ _ (true-key n edges keys ready u q inside (omega arith) h) in
-          absurd (omega (arith, m .closed-free fresh, s .closeds q l e, ap (λ (k : ℕ). getD cs (keySlot k) 0) same))
+    -- its slot was free
+    pub seen-new : {key : ℕ} {after : List ℕ} {r : Bool} → key ≡ getD keys (2 * u + k) 0 → SlotTaken key slots after r → r ≡ false → NewKey table keys k u
+    unfolding keyAgrees
+    seen-new {key} is t free q l e h = differ (s .taken q l e) (ap (isTaken slots) (sym (is ∙ eqb-true (getD keys (2 * u + k) 0) (getD keys (2 * q + k) 0) h)) ∙ sym (t .was) ∙ free)
 
-      no-join : (q : ℕ) → q < u → joins n edges table u u q ≡ false
-      unfolding joins
-      no-join q l = step (decide (joins n edges table u u q))
-        where
-          step : (joins n edges table u u q ≡ true) ⊎ (joins n edges table u u q ≡ false) → joins n edges table u u q ≡ false
-          step (inl h) =
-              let b = and-snd (not (eqb q u)) _ (and-snd (not (eqb q u)) _ h) in
-              absurd (no-twin q l (eqb-true (nodeNumber table q 0) q (and-fst (eqb (nodeNumber table q 0) q) _ b)) (similar-cases (whole (graphIn n edges)) u q (and-snd (eqb (nodeNumber table q 0) q) _ b)))
-          step (inr h) = h
+-- where both keys are new, nobody below is similar
+module _ {n : ℕ} {edges keys : List ℕ} (table : List ℕ) {u : ℕ} (ready : Ready n edges keys) (inside : u < n) (leads : nodeNumber table u 0 ≡ u) (open-new : NewKey table keys 0 u) (closed-new : NewKey table keys 1 u) where
+  no-twin : (q : ℕ) → q < u → nodeNumber table q 0 ≡ q → (falseTwins (whole (graphIn n edges)) u q ≡ true) ⊎ (trueTwins (whole (graphIn n edges)) u q ≡ true) → ⊥
+  no-twin q l e (inl h) = open-new q l e (false-key n edges keys ready u q inside (omega arith) h)
+  no-twin q l e (inr h) = closed-new q l e (true-key n edges keys ready u q inside (omega arith) h)
 
-      pub alone-fresh : true ≡ alone n edges table u
-      unfolding alone
-      alone-fresh = rw (eq-eqb (nodeNumber table u 0) u leads, eq-eqb (firstFrom (joins n edges table u u) 0 u) u (sym (first-none (joins n edges table u u) u no-join)))
+  no-join : (q : ℕ) → q < u → joins n edges table u u q ≡ false
+  unfolding joins
+  no-join q l = step (decide (joins n edges table u u q))
+    where
+      step : (joins n edges table u u q ≡ true) ⊎ (joins n edges table u u q ≡ false) → joins n edges table u u q ≡ false
+      step (inl h) =
+          let b = and-snd (not (eqb q u)) _ (and-snd (not (eqb q u)) _ h) in
+          absurd (no-twin q l (eqb-true (nodeNumber table q 0) q (and-fst (eqb (nodeNumber table q 0) q) _ b)) (similar-cases (whole (graphIn n edges)) u q (and-snd (eqb (nodeNumber table q 0) q) _ b)))
+      step (inr h) = h
+
+  pub alone-fresh : true ≡ alone n edges table u
+  unfolding alone
+  alone-fresh = rw (eq-eqb (nodeNumber table u 0) u leads, eq-eqb (firstFrom (joins n edges table u u) 0 u) u (sym (first-none (joins n edges table u u) u no-join)))

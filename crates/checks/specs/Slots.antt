@@ -2,24 +2,29 @@
 use mathlib.Core.Path.{_≡_}
 use mathlib.Core.Bool.{Bool, true}
 use mathlib.Core.List.{List}
-use Prim.Native.Nat.{ℕ, _+_, _*_, _%_, _<_}
-use lib.ListN.{length, getD, set}
-use Rattle.model.specs.Tables.{nodeNumber}
+use Prim.Native.Nat.{ℕ, _+_, _*_, _/_, _%_, _<_}
+use lib.ListN.{length, getD}
+use Rattle.model.specs.Graph.{maxNodes}
+use Rattle.model.specs.Tables.{edgeBit, nodeNumber}
+use Rattle.drawing.specs.Drawing.{Added, oneBit}
 
--- the slot of a key: any number below 8192 would do
+abbrev pub slotWords : ℕ
+slotWords = 1024
+
+-- the slot of a key: any number below 64 * slotWords would do
 abbrev pub keySlot : ℕ → ℕ
-keySlot key = key % 8191
+keySlot key = key % 65521
 
--- the slots of the keys of the leaders below u are taken
-pub record Seen (table keys : List ℕ) (u : ℕ) (open-slots closed-slots : List ℕ) : Type 0 where
-  pub open-size : length open-slots ≡ 8192
-  pub closed-size : length closed-slots ≡ 8192
-  pub opens : (q : ℕ) → q < u → nodeNumber table q 0 ≡ q → getD open-slots (keySlot (getD keys (2 * q) 0)) 0 ≡ 1
-  pub closeds : (q : ℕ) → q < u → nodeNumber table q 0 ≡ q → getD closed-slots (keySlot (getD keys (2 * q + 1) 0)) 0 ≡ 1
+-- the slot of a key is taken: slots are bits in rows, as those of edges
+unfoldable pub isTaken : List ℕ → ℕ → Bool
+isTaken slots key = edgeBit slots (keySlot key / maxNodes) (keySlot key % maxNodes)
 
--- the slots of u's keys are taken, and r says whether they were free
-pub record SlotsMarked (keys : List ℕ) (u : ℕ) (open-slots closed-slots open-after closed-after : List ℕ) (r : Bool) : Type 0 where
-  pub opened : open-after ≡ set open-slots (keySlot (getD keys (2 * u) 0)) 1
-  pub closed : closed-after ≡ set closed-slots (keySlot (getD keys (2 * u + 1) 0)) 1
-  pub open-free : r ≡ true → getD open-slots (keySlot (getD keys (2 * u) 0)) 0 ≡ 0
-  pub closed-free : r ≡ true → getD closed-slots (keySlot (getD keys (2 * u + 1) 0)) 0 ≡ 0
+-- the slots of key k of the leaders below u are taken
+pub record Seen (table keys : List ℕ) (k u : ℕ) (slots : List ℕ) : Type 0 where
+  pub size : length slots ≡ slotWords
+  pub taken : (q : ℕ) → q < u → nodeNumber table q 0 ≡ q → isTaken slots (getD keys (2 * q + k) 0) ≡ true
+
+-- the slot of a key is taken, and r says whether it was
+pub record SlotTaken (key : ℕ) (slots after : List ℕ) (r : Bool) : Type 0 where
+  pub added : Added (oneBit (keySlot key / maxNodes) (keySlot key % maxNodes)) slots after
+  pub was : r ≡ isTaken slots key

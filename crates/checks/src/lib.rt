@@ -8,7 +8,7 @@ ghost use Rattle.model.specs.Tables.{holds};
 ghost use Rattle.rows.specs.Rows.{lent};
 ghost use Rattle.search.specs.Search.{Ready};
 ghost use Rattle.edges.specs.Edges.{rowHolds};
-ghost use Rattle.checks.specs.Slots.{Seen, SlotsMarked, keySlot};
+ghost use Rattle.checks.specs.Slots.{Seen, SlotTaken, keySlot, slotWords};
 ghost use Rattle.checks.specs.Checks.{
   agrees,
   alone,
@@ -129,30 +129,23 @@ fn twins_hold(edges: &[u64], nodes: &[u16], n: usize) -> bool
     true
 }
 
-fn wide_byte(x: u8) -> usize
-    ensures { λ r. ⌜ r ≡ x ⌝ }
-{
-    x as usize
-}
-
 // The slot of a key among the keys seen.
 fn slot(key: u32) -> usize
     ensures { λ r. ⌜ r ≡ keySlot key ⌝ }
 {
-    (key % 8191) as usize
+    (key % 65521) as usize
 }
 
-// Whether the slots of both keys of u were free; now they are taken.
-fn are_new(keys: &[u32], u: usize, opens: &mut [u8], closeds: &mut [u8]) -> bool
-    requires { ⌜ (u < maxNodes) × (2 * u + 2 ≤ length (now keys)) × (length (now opens) ≡ 8192) × (length (now closeds) ≡ 8192) ⌝ }
-    ensures { λ r. ⌜ SlotsMarked (now (keys .entry)) u (now (opens .entry)) (now (closeds .entry)) (now (opens .exit)) (now (closeds .exit)) r ⌝ }
+// Whether the slot of a key was taken; now it is. Each slot is a bit.
+fn take_slot(slots: &mut [u64], key: u32) -> bool
+    requires { ⌜ length (now slots) ≡ slotWords ⌝ }
+    ensures { λ r. ⌜ SlotTaken key (now (slots .entry)) (now (slots .exit)) r ⌝ }
 {
-    let a = slot(keys[2 * u]);
-    let b = slot(keys[2 * u + 1]);
-    let taken = wide_byte(opens[a]) + wide_byte(closeds[b]);
-    opens[a] = 1;
-    closeds[b] = 1;
-    taken == 0
+    let s = slot(key);
+    let i = rows::word_of(s);
+    let x = slots[i];
+    slots[i] = x | rows::mask(s);
+    (x >> rows::bit_of(s)) % 2 == 1
 }
 
 // Whether u leads no group, or no leader below it is similar to it: none can be where none has an equal key.
@@ -162,17 +155,19 @@ fn is_alone(
     keys: &[u32],
     n: usize,
     u: usize,
-    opens: &mut [u8],
-    closeds: &mut [u8],
+    opens: &mut [u64],
+    closeds: &mut [u64],
 ) -> bool
     requires { ⌜ Ready n (now edges) (now keys) ⌝ }
-    requires { ⌜ (length (now nodes) ≡ nodeNumbers * n) × (u < n) × Seen (now nodes) (now keys) u (now opens) (now closeds) ⌝ }
-    ensures { λ r. ⌜ (r ≡ alone n (now (edges .entry)) (now (nodes .entry)) u) × Seen (now (nodes .entry)) (now (keys .entry)) (u + 1) (now (opens .exit)) (now (closeds .exit)) ⌝ }
+    requires { ⌜ (length (now nodes) ≡ nodeNumbers * n) × (u < n) × Seen (now nodes) (now keys) 0 u (now opens) × Seen (now nodes) (now keys) 1 u (now closeds) ⌝ }
+    ensures { λ r. ⌜ (r ≡ alone n (now (edges .entry)) (now (nodes .entry)) u) × Seen (now (nodes .entry)) (now (keys .entry)) 0 (u + 1) (now (opens .exit)) × Seen (now (nodes .entry)) (now (keys .entry)) 1 (u + 1) (now (closeds .exit)) ⌝ }
 {
     if number(nodes, u, LEAST) != u {
         return true;
     }
-    if are_new(keys, u, opens, closeds) {
+    let open = take_slot(opens, keys[2 * u]);
+    let closed = take_slot(closeds, keys[2 * u + 1]);
+    if !(open | closed) {
         return true;
     }
     search::find_group(edges, nodes, keys, n, u, u, u) == u
@@ -184,8 +179,8 @@ fn leaders_apart(edges: &[u64], nodes: &[u16], keys: &[u32], n: usize) -> bool
     requires { ⌜ length (now nodes) ≡ nodeNumbers * n ⌝ }
     ensures { λ r. ⌜ r ≡ leadersApart n (now (edges .entry)) (now (nodes .entry)) ⌝ }
 {
-    let mut opens = [0u8; 8192];
-    let mut closeds = [0u8; 8192];
+    let mut opens = [0u64; 1024];
+    let mut closeds = [0u64; 1024];
     for u in 0..n {
         if !is_alone(edges, nodes, keys, n, u, &mut opens, &mut closeds) {
             return false;

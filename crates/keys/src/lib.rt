@@ -221,14 +221,15 @@ fn bits_among(edges: &[u64], step: usize) -> usize
     bits
 }
 
-// Whether a walk over all bits would take longer than the ways by words, told by a sample: of few nodes, every third. Either answer is right.
+// Whether a walk over all bits would take longer than the ways by words: some ten bits a row, six of few nodes. It is told by a sample, of
+// few nodes every third; either answer is right.
 pub fn is_dense(edges: &[u64], n: usize) -> bool
     requires { ⌜ length (now edges) ≤ rowWords * maxNodes ⌝ }
 {
     if n <= 64 {
-        return bits_among(edges, 24) > 300;
+        return bits_among(edges, 24) > 2 * n;
     }
-    bits_among(edges, 37) > 1000
+    bits_among(edges, 37) > n / 4
 }
 
 // The open key of p, and with p's own cube the closed one.
