@@ -115,14 +115,69 @@ fn block(rows: &[Row], i: usize, j: usize) -> [u64; 64] {
     a
 }
 
+/// Bits exchanged between two rows that are J apart.
+fn cross<const J: usize>(x: u64, y: u64, m: u64) -> (u64, u64) {
+    let t = ((x >> J) ^ y) & m;
+    (x ^ (t << J), y ^ t)
+}
+
+/// Byte i of row j for byte j of row i, of eight rows.
+#[inline(always)]
+fn turn_bytes([a, b, c, d, e, f, g, h]: Row) -> Row {
+    const M: [u64; 3] = [0x0000_0000_FFFF_FFFF, 0x0000_FFFF_0000_FFFF, 0x00FF_00FF_00FF_00FF];
+    let ((a, e), (b, f), (c, g), (d, h)) = (cross::<32>(a, e, M[0]), cross::<32>(b, f, M[0]), cross::<32>(c, g, M[0]), cross::<32>(d, h, M[0]));
+    let ((a, c), (b, d), (e, g), (f, h)) = (cross::<16>(a, c, M[1]), cross::<16>(b, d, M[1]), cross::<16>(e, g, M[1]), cross::<16>(f, h, M[1]));
+    let ((a, b), (c, d), (e, f), (g, h)) = (cross::<8>(a, b, M[2]), cross::<8>(c, d, M[2]), cross::<8>(e, f, M[2]), cross::<8>(g, h, M[2]));
+    [a, b, c, d, e, f, g, h]
+}
+
+/// In each byte, bit i of row j for bit j of row i.
+#[inline(always)]
+fn turn_bits([a, b, c, d, e, f, g, h]: Row) -> Row {
+    const M: [u64; 3] = [0x0F0F_0F0F_0F0F_0F0F, 0x3333_3333_3333_3333, 0x5555_5555_5555_5555];
+    let ((a, e), (b, f), (c, g), (d, h)) = (cross::<4>(a, e, M[0]), cross::<4>(b, f, M[0]), cross::<4>(c, g, M[0]), cross::<4>(d, h, M[0]));
+    let ((a, c), (b, d), (e, g), (f, h)) = (cross::<2>(a, c, M[1]), cross::<2>(b, d, M[1]), cross::<2>(e, g, M[1]), cross::<2>(f, h, M[1]));
+    let ((a, b), (c, d), (e, f), (g, h)) = (cross::<1>(a, b, M[2]), cross::<1>(c, d, M[2]), cross::<1>(e, f, M[2]), cross::<1>(g, h, M[2]));
+    [a, b, c, d, e, f, g, h]
+}
+
+/// The words from..to of a strip of 64 rows, transposed. Eight reads and writes are written out: then the loops are compiled to vectors.
+fn turn(strip: &[u64; 512], out: &mut [u64; 512], from: usize, to: usize) {
+    let to = to.min(8);
+    for k in 0..8 {
+        for t in 8 * k + from..8 * k + to {
+            let x = turn_bytes([strip[t], strip[t + 64], strip[t + 128], strip[t + 192], strip[t + 256], strip[t + 320], strip[t + 384], strip[t + 448]]);
+            [out[t], out[t + 64], out[t + 128], out[t + 192], out[t + 256], out[t + 320], out[t + 384], out[t + 448]] = x;
+        }
+    }
+    for k in 0..8 {
+        for t in 64 * k + from..64 * k + to {
+            let x = turn_bits([out[t], out[t + 8], out[t + 16], out[t + 24], out[t + 32], out[t + 40], out[t + 48], out[t + 56]]);
+            [out[t], out[t + 8], out[t + 16], out[t + 24], out[t + 32], out[t + 40], out[t + 48], out[t + 56]] = x;
+        }
+    }
+}
+
+fn turn_strip(rows: &[Row], i: usize, out: &mut [u64; 512], to: usize) {
+    if let Some(strip) = rows.get(64 * i..64 * i + 64) {
+        return turn(strip.as_flattened().try_into().unwrap(), out, i & !1, to);
+    }
+    let mut strip = [[0; 8]; 64];
+    strip[..rows.len() - 64 * i].copy_from_slice(&rows[64 * i..]);
+    turn(strip.as_flattened().try_into().unwrap(), out, i & !1, to);
+}
+
 fn symmetric(rows: &[Row]) -> bool {
-    let blocks = rows.len().div_ceil(64);
-    (0..blocks).all(|i| {
-        (i..blocks).all(|j| {
-            let mut a = block(rows, i, j);
-            transpose(&mut a);
-            rows[64 * j..].iter().zip(&a).fold(0, |d, (r, x)| d | (r[i % 8] ^ x)) == 0
-        })
+    if rows.len() <= 64 {
+        let mut a = block(rows, 0, 0);
+        transpose(&mut a);
+        return rows.iter().zip(a).fold(0, |d, (r, x)| d | (r[0] ^ x)) == 0;
+    }
+    let strips = rows.len().div_ceil(64);
+    let mut out = [0; 512];
+    (0..strips).all(|i| {
+        turn_strip(rows, i, &mut out, (strips + 1) & !1);
+        (i..strips).all(|j| rows[64 * j..].iter().zip(out.as_chunks::<8>().0).fold(0, |d, (r, x)| d | (r[i % 8] ^ x[j % 8])) == 0)
     })
 }
 
@@ -1227,15 +1282,24 @@ fn unite(a: &mut Row, b: &Row) {
     }
 }
 
-/// The cubes' sums of rows, word by word so that the tables stay near.
+/// The cubes' sums of rows, word by word or two words at a time, so that the tables stay near.
 fn sum_rows(rows: &[Row], words: usize, sums: &mut [u32; NODES]) {
-    for w in 0..words {
-        let table: &[[u32; 256]; 8] = BYTE_SUMS[8 * w..8 * w + 8].try_into().unwrap();
-        for (r, sum) in rows.iter().zip(&mut *sums) {
-            for (t, b) in table.iter().zip(r[w % 8].to_le_bytes()) {
-                *sum = sum.wrapping_add(t[usize::from(b)]);
+    if words == 1 {
+        return sum_words::<1, 8>(rows, 0, sums);
+    }
+    (0..words.min(7)).step_by(2).for_each(|w| sum_words::<2, 16>(rows, w, sums));
+}
+
+fn sum_words<const WORDS: usize, const BYTES: usize>(rows: &[Row], w: usize, sums: &mut [u32; NODES]) {
+    let table: &[[u32; 256]; BYTES] = BYTE_SUMS[8 * w..8 * w + BYTES].try_into().unwrap();
+    for (r, sum) in rows.iter().zip(sums) {
+        let mut total = *sum;
+        for i in 0..WORDS {
+            for (b, byte) in r[w % 7 + i].to_le_bytes().into_iter().enumerate() {
+                total = total.wrapping_add(table[8 * i + b][usize::from(byte)]);
             }
         }
+        *sum = total;
     }
 }
 
