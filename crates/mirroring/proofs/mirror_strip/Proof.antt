@@ -49,7 +49,7 @@ lay-requires c κs =
     let l = c .before .before .before .loop in
     let t = c .before .before .before .before .before .before in
     let s = t .before .before .before .before .before .before in
-    (omega (arith, l .inv .1 .size, s .pre .0 .enough), s .pre .1, omega arith, t .turn .ensures .size)
+    (omega (arith, l .inv .1 .size, s .pre .0 .enough), omega arith, omega arith, t .turn .ensures .size)
 
 add-j : tie.Need-add-j Inv-loop μ-loop
 add-j c = omega arith
