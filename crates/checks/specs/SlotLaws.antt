@@ -13,7 +13,7 @@ use lib.ListN.{length, getD, set}
 use borrow.Author.Tests.{eqb-true, eq-eqb}
 use Rattle.model.specs.Graph.{whole}
 use Rattle.model.specs.Grouping.{falseTwins, trueTwins}
-use Rattle.model.specs.Tables.{nodeNumber, graphIn}
+use Rattle.model.specs.Tables.{bitAt, nodeNumber, graphIn}
 use Rattle.model.specs.TestLaws.{and-fst, and-snd, decide, differ}
 use Rattle.model.specs.TwinLaws.{similar-cases}
 use Rattle.rows.specs.BitLaws.{edge-at}
@@ -30,15 +30,15 @@ abbrev pub NewKey : List ℕ → List ℕ → ℕ → ℕ → Type 0
 NewKey table keys k u = (q : ℕ) → q < u → nodeNumber table q 0 ≡ q → keyAgrees keys k u q ≡ true → ⊥
 
 -- the bit that the code has found, set and read
-pub slot-taken : (slots : List ℕ) (key s i m k : ℕ) → length slots ≡ slotWords → s ≡ keySlot key → i ≡ s / 64 → m ≡ 2 ^ (s % 64) → k ≡ s % 64
-    → SlotTaken key slots (set slots i (bitOr (getD slots i 0) m)) (eqb (getD slots i 0 / 2 ^ k % 2) 1)
+pub slot-taken : (slots : List ℕ) (key s i m : ℕ) {r : Bool} → length slots ≡ slotWords → s ≡ keySlot key → i ≡ s / 64 → m ≡ 2 ^ (s % 64) → r ≡ bitAt (getD slots i 0) (s % 64)
+    → SlotTaken key slots (set slots i (bitOr (getD slots i 0) m)) r
 unfolding isTaken
-slot-taken slots key s i m k size es ei em ek =
+slot-taken slots key s i m size es ei em er =
     let p : i ≡ 8 * (keySlot key / 512) + keySlot key % 512 / 64 = omega arith in
     let b : s % 64 ≡ keySlot key % 512 % 64 = omega arith in
     record {
       added = bit-set slots (keySlot key / 512) (keySlot key % 512) i m (omega arith) (omega arith) p (em ∙ ap (λ (x : ℕ). 2 ^ x) b);
-      was = edge-at slots (keySlot key / 512) (keySlot key % 512) i k p (ek ∙ b);
+      was = er ∙ ap (bitAt (getD slots i 0)) b ∙ edge-at slots (keySlot key / 512) (keySlot key % 512) p;
     }
 
 module _ {key : ℕ} {slots after : List ℕ} {r : Bool} (t : SlotTaken key slots after r) where

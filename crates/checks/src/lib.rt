@@ -145,7 +145,7 @@ fn take_slot(slots: &mut [u64], key: u32) -> bool
     let i = rows::word_of(s);
     let x = slots[i];
     slots[i] = x | rows::mask(s);
-    (x >> rows::bit_of(s)) % 2 == 1
+    rows::has_bit(x, s)
 }
 
 // Whether u leads no group, or no leader below it is similar to it: none can be where none has an equal key.

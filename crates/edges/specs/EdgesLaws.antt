@@ -14,7 +14,7 @@ use borrow.Author.Tests.{eqb-true, eqb-false, eq-eqb, ne-eqb, le-ltb, lt-ltb, lt
 use Rattle.model.specs.Lists.{all, nodes, sameList}
 use Rattle.model.specs.Graph.{maxNodes, rowWords}
 use Rattle.model.specs.Grouping.{cube}
-use Rattle.model.specs.Tables.{edgeBit, edgesIn, edgesOf, graphIn, graphWith, rowOf, simple}
+use Rattle.model.specs.Tables.{bitAt, edgeBit, edgesIn, edgesOf, graphIn, graphWith, rowOf, simple}
 use Rattle.model.specs.TestLaws.{and-fst, and-snd, and-true, decide, differ, eq-beq, fails, iff-eq}
 use Rattle.model.specs.ListLaws.{all-elim, all-intro, nodes-in, nodes-out, same-eq, same-refl}
 use Rattle.model.specs.TableLaws.{edge-bit, simple-edge, simple-loop}
@@ -53,7 +53,7 @@ unfolding loopless
 loops-none edges = record { even = all-pass (λ p. not (edgeBit edges p p)) 0 0 (omega arith) (λ p l. absurd (omega arith)) }
 
 pub loops-more : {edges : List ℕ} {p x i k : ℕ} → LoopsBelow edges p x → i ≡ 8 * p + p / 64 → k ≡ p % 64 → LoopsBelow edges (p + 1) (bitOr x (getD edges i 0 / 2 ^ k))
-unfolding loopless
+unfolding loopless bitAt
 loops-more {edges} {p} {x} {i} {k} below ei ek = record { even = iff-eq (eqb (bitOr x y % 2) 0) (all (nodes (p + 1)) free) there back }
   where
     y : ℕ
@@ -63,7 +63,7 @@ loops-more {edges} {p} {x} {i} {k} below ei ek = record { even = iff-eq (eqb (bi
     free q = not (edgeBit edges q q)
 
     own : free p ≡ not (eqb (y % 2) 1)
-    own = ap not (sym (edge-at edges p p i k ei ek))
+    own = rw ek (ap not (sym (edge-at edges p p ei)))
 
     there : eqb (bitOr x y % 2) 0 ≡ true → all (nodes (p + 1)) free ≡ true
     there h = all-intro (nodes (p + 1)) free (λ q m. step q (nodes-out (p + 1) q m) (ℕ-discrete q p))

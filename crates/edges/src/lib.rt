@@ -65,7 +65,7 @@ fn is_loopless(edges: &[u64], n: usize) -> bool
     for p in 0..n {
         loops = loops | (edges[rows::place(p, p)] >> rows::bit_of(p));
     }
-    loops % 2 == 0
+    loops & 1 == 0
 }
 
 // And by strips: whether the table is symmetric and without loops.

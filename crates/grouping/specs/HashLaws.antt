@@ -15,7 +15,7 @@ use Rattle.model.specs.Lists.{all, from, nodes}
 use Rattle.model.specs.Tables.{bitAt}
 use Rattle.model.specs.ListLaws.{all-elim, nodes-in}
 use Rattle.search.specs.Search.{ownBit}
-use Rattle.rows.specs.BitLaws.{bit-xor, one-shl, word-bits, word-cong}
+use Rattle.rows.specs.BitLaws.{bit-xor, word-bits, word-cong}
 use Rattle.grouping.specs.Chains.{hashOf, ownRotated, rotated, rowSlot, rowWord, slotFor, slotIn, unrotated}
 
 -- numbers with the same bits are equal
@@ -87,9 +87,9 @@ own-rotated p l = eqb-true _ _ (all-elim (nodes 512) (λ x. eqb (hashOf rotated 
     each : all (nodes 512) (λ x. eqb (hashOf rotated [] true x 8) (ownRotated x)) ≡ true
     each = unfold all nodes from hashOf rotated rowWord ownBit ownRotated in refl
 
-pub own-at : (p : ℕ) → p < 512 → {w : ℕ} → w ≡ p / 64 → 1 * 2 ^ ((p + 63 - 9 * w) % 64) % 2 ^ 64 ≡ ownRotated p
+pub own-at : (p : ℕ) {w : ℕ} → w ≡ p / 64 → 2 ^ ((p + 63 - 9 * w) % 64) ≡ ownRotated p
 unfolding ownRotated
-own-at p l {w} e = rw e (one-shl ((p + 63 - 9 * (p / 64)) % 64) (omega arith))
+own-at p e = rw e
 
 own-plain : (p : ℕ) → p < 512 → hashOf unrotated [] true p 8 ≡ 2 ^ (p % 64)
 own-plain p l = eqb-true _ _ (all-elim (nodes 512) (λ x. eqb (hashOf unrotated [] true x 8) (2 ^ (x % 64))) each p (nodes-in 512 p l))

@@ -52,12 +52,12 @@ fn sum_plain(edges: &[u64], p: usize) -> u64
     h
 }
 
-// Node p's own bit where the rotations leave it.
+// Node p's own bit where the rotations of the hash leave it: no look at an edge.
 fn own_rotated(p: usize) -> u64
     requires { ⌜ p < maxNodes ⌝ }
     ensures { λ r. ⌜ r ≡ ownRotated p ⌝ }
 {
-    1u64 << ((p + 63 - 9 * rows::word_of(p)) % 64)
+    rows::mask(p + 63 - 9 * rows::word_of(p))
 }
 
 // A slot for a word, by its halves.

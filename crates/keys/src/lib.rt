@@ -25,7 +25,7 @@ use rows::Graph;
 fn if_odd(v: usize, x: u32) -> u32
     ensures { λ r. ⌜ (r ≡ v % 2 * x) × (r ≤ x) ⌝ }
 {
-    if v % 2 == 1 {
+    if v & 1 == 1 {
         return x;
     }
     0
@@ -36,7 +36,7 @@ fn chosen_of(v: usize, c: u32, d: u32, e: u32, f: u32) -> u32
     requires { ⌜ (c ≤ 134217728) × (d ≤ 134217728) × (e ≤ 134217728) × (f ≤ 134217728) ⌝ }
     ensures { λ r. ⌜ r ≡ v % 2 * c + v / 2 % 2 * d + v / 4 % 2 * e + v / 8 % 2 * f ⌝ }
 {
-    if_odd(v, c) + if_odd(v / 2, d) + if_odd(v / 4, e) + if_odd(v / 8, f)
+    if_odd(v, c) + if_odd(v >> 1, d) + if_odd(v >> 2, e) + if_odd(v >> 3, f)
 }
 
 // The cubes of four nodes of word w, the b-th four of them, for each choice among these.
@@ -100,7 +100,7 @@ fn eight_sum(sums: &[u32], x: u64, i: usize) -> u32
     requires { ⌜ (i < 8) × (length (now sums) ≡ 2048) ⌝ }
     ensures { λ r. ⌜ ((w : ℕ) → Widened w 2048 (now (sums .entry)) → r ≡ eightCubes (8 * w + i) (x / 2 ^ (8 * i) % 256)) ⌝ }
 {
-    let v = ((x >> (8 * i)) % 256) as usize;
+    let v = ((x >> (8 * i)) & 255) as usize;
     sums[256 * i + v]
 }
 
@@ -163,7 +163,7 @@ pub fn sum_leaders(edges: &[u64], least: &[u16], stride: usize, n: usize, totals
 {
     let mut fours = [0u32; 256];
     let mut sums = [0u32; 2048];
-    for w in 0..(n + 63) / 64 {
+    for w in 0..rows::word_of(n + 63) {
         fill_fours(&mut fours, w);
         widen(&fours, &mut sums, w);
         add_word(edges, least, stride, &sums, totals, n, w);

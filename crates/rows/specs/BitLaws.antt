@@ -6,7 +6,7 @@ use mathlib.Core.Logic.{_⊎_, inl, inr}
 use Prim.Native.Nat.{ℕ, zero, suc, _+_, _*_, _-_, _/_, _%_, _^_, _≤_, _<_, min}
 use native.Mathlib.Nat.{one-mul, pow-suc, div-eq-of-lt, mul-comm, zero-div}
 use native.Mathlib.Omega.{arith}
-use lib.Bits.{and-shr, and-step, bitAnd, bitXor, differ, xor-lt, xor-shr, xor-step}
+use lib.Bits.{and-mask, and-shr, and-step, bitAnd, bitXor, differ, xor-lt, xor-shr, xor-step}
 use lib.Dec.{eqb, ltb, lit<}
 use lib.ListN.{length, getD, set, take, drop, length-set}
 use lib.Pow.{pow-add, pow-lt, shl-exact, shl-shr, mod-pow-add}
@@ -15,6 +15,15 @@ use borrow.Author.Tests.{eqb-true, eqb-false, eq-eqb, ne-eqb, ltb-true, ltb-fals
 use Rattle.model.specs.Tables.{bitAt, edgeBit, word}
 use Rattle.model.specs.TestLaws.{and-fst, decide, iff-eq}
 use Rattle.rows.specs.Rows.{Words, Flipped, Changed}
+
+-- `q >> 6` and `q & 63` are document 01's word q/64 and bit q mod 64, for every number, all of 16 bits among them
+pub shift-and-mask : (q : ℕ) → (q / 2 ^ 6 ≡ q / 64) × (bitAnd q 63 ≡ q % 64)
+shift-and-mask q = (refl, and-mask q 6)
+
+-- `(x >> k) & 1 == 1` at the place that the code has found
+pub bit-tested : (x q : ℕ) {k : ℕ} → k ≡ q % 64 → eqb (bitAnd (x / 2 ^ k) 1) 1 ≡ bitAt x (q % 64)
+unfolding bitAt
+bit-tested x q e = rw (e, and-mask (x / 2 ^ (q % 64)) 1)
 
 -- `1 << k` at 64 bits
 pub one-shl : (k : ℕ) → k < 64 → 1 * 2 ^ k % 18446744073709551616 ≡ 2 ^ k
@@ -183,9 +192,9 @@ changed u v s t r apart f g = record {
 }
 
 -- the same, at a place and by a mask that the code has found
-pub edge-at : (t : List ℕ) (p q i k : ℕ) → i ≡ 8 * p + q / 64 → k ≡ q % 64 → eqb (getD t i 0 / 2 ^ k % 2) 1 ≡ edgeBit t p q
-unfolding edgeBit bitAt
-edge-at t p q i k e f = rw (e, f)
+pub edge-at : (t : List ℕ) (p q : ℕ) {i : ℕ} → i ≡ 8 * p + q / 64 → bitAt (getD t i 0) (q % 64) ≡ edgeBit t p q
+unfolding edgeBit
+edge-at t p q e = rw e
 
 pub flipped-at : (t : List ℕ) (p q i m : ℕ) → q < 512 → 8 * p + 8 ≤ length t → i ≡ 8 * p + q / 64 → m ≡ 2 ^ (q % 64) → Flipped p q t (set t i (bitXor (getD t i 0) m))
 flipped-at t p q i m small fits e f = rw (e, f) (flipped t p q small fits)

@@ -6,7 +6,7 @@ ghost use lib.Count.{trailingZeros};
 ghost use lib.ListN.{length};
 ghost use Rattle.model.specs.Graph.{maxNodes, rowWords};
 ghost use Rattle.model.specs.Grouping.{cube};
-ghost use Rattle.model.specs.Tables.{edgeBit};
+ghost use Rattle.model.specs.Tables.{bitAt, edgeBit};
 ghost use Rattle.model.specs.Refusals.{lengths, wrongSize};
 ghost use Rattle.rows.specs.Rows.{Flipped, Changed, movedKey, KeysMoved, KeysChanged, lent};
 
@@ -59,14 +59,14 @@ impl Graph {
 pub fn word_of(q: usize) -> usize
     ensures { λ r. ⌜ r ≡ q / 64 ⌝ }
 {
-    q / 64
+    q >> 6
 }
 
 // The place of node q's bit in that word.
 pub fn bit_of(q: usize) -> usize
     ensures { λ r. ⌜ r ≡ q % 64 ⌝ }
 {
-    q % 64
+    q & 63
 }
 
 // The word with node q's bit alone.
@@ -74,6 +74,13 @@ pub fn mask(q: usize) -> u64
     ensures { λ r. ⌜ r ≡ 2 ^ (q % 64) ⌝ }
 {
     1u64 << bit_of(q)
+}
+
+// Whether a word has node q's bit.
+pub fn has_bit(x: u64, q: usize) -> bool
+    ensures { λ r. ⌜ r ≡ bitAt x (q % 64) ⌝ }
+{
+    (x >> bit_of(q)) & 1 == 1
 }
 
 // The place in the edge table of the word that holds node q's bit in node p's row.
@@ -89,7 +96,7 @@ pub fn edge(edges: &[u64], p: usize, q: usize) -> bool
     requires { ⌜ (p < maxNodes) × (q < maxNodes) × (rowWords * p + rowWords ≤ length (now edges)) ⌝ }
     ensures { λ r. ⌜ r ≡ edgeBit (now (edges .entry)) p q ⌝ }
 {
-    (edges[place(p, q)] >> bit_of(q)) % 2 == 1
+    has_bit(edges[place(p, q)], q)
 }
 
 // Node q's bit in node p's row, the other way.

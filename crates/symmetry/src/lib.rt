@@ -138,8 +138,8 @@ pub fn turn(strip: &[u64], b: &mut [u64], from: usize, to: usize)
     requires { ⌜ (length (now strip) ≡ 512) × (length (now b) ≡ 512) × (from ≤ to) × (to ≤ 8) ⌝ }
     ensures { λ _. ⌜ Turned (now (strip .entry)) from to (now (b .exit)) ⌝ }
 {
-    let u = from / 2 * 2;
-    let v = (to + 1) / 2 * 2;
+    let u = 2 * (from >> 1);
+    let v = 2 * ((to + 1) >> 1);
     turn_bytes(strip, b, u, v);
     turn_bits(b, u, v);
 }
@@ -211,7 +211,7 @@ fn are_strips_even(edges: &[u64], n: usize) -> bool
     ensures { λ r. ⌜ Tells ((i : ℕ) → 64 * i < n → Even n (now (edges .entry)) i i ((n + 63) / 64)) (now (edges .entry)) r ⌝ }
 {
     let mut b = [0u64; STRIP];
-    let to = (n + 63) / 64;
+    let to = rows::word_of(n + 63);
     for i in 0..to {
         turn_strip(edges, n, i, to, &mut b);
         if !are_across(edges, n, i, to, &b) {

@@ -9,6 +9,7 @@ use lib.Bits.{bitOr, bitXor}
 use lib.Dec.{eqb, ltb}
 use lib.ListN.{drop, getD, length, length-set, replicate, set, take}
 use lib.Seq.{getD-set-other, getD-set-same}
+use mir.Val.{boolByte}
 use borrow.Author.Tests.{eqb-false, eqb-true, eq-eqb, le-ltb, lt-ltb, ltb-true, ne-eqb}
 use Rattle.model.specs.Tables.{bitAt, edgeBit}
 use Rattle.model.specs.TestLaws.{and-fst, and-one, decide, differ, iff-eq}
@@ -25,19 +26,13 @@ pub join-none : (row : List ℕ) (l : ℕ) → l ≡ 65535 → _≡_ {A = ℕ} 0
 unfolding joinBit
 join-none row l e = rw (eq-eqb l 65535 e)
 
-odd : (x : ℕ) → x % 2 ≡ cond (eqb (x % 2) 1) 1 0
-odd x = step (decide (eqb (x % 2) 1))
-  where
-    step : (eqb (x % 2) 1 ≡ true) ⊎ (eqb (x % 2) 1 ≡ false) → x % 2 ≡ cond (eqb (x % 2) 1) 1 0
-    step (inl t) = rw t (eqb-true (x % 2) 1 t)
-    step (inr t) = let d : x % 2 ≡ 1 → ⊥ = eqb-false (x % 2) 1 t in rw t (omega arith)
+bool-number : (b : Bool) → boolByte b ≡ cond b 1 0
+bool-number true = refl
+bool-number false = refl
 
-pub join-some : (row : List ℕ) (l i k : ℕ) {x : ℕ} → x ≡ l → (l ≡ 65535 → ⊥) → i ≡ x / 64 → k ≡ x % 64 → getD row i 0 / 2 ^ k % 2 ≡ cond (joinBit row l) 1 0
-unfolding joinBit edgeBit bitAt
-join-some row l i k {x} e d a b =
-    let y : 8 * 0 + l / 64 ≡ i = omega arith in
-    let z : l % 64 ≡ k = omega arith in
-    rw (ne-eqb l 65535 d, y, z) (odd (getD row i 0 / 2 ^ k))
+pub join-some : (row : List ℕ) (l : ℕ) {x : ℕ} {b : Bool} → x ≡ l → (l ≡ 65535 → ⊥) → b ≡ edgeBit row 0 x → boolByte b ≡ cond (joinBit row l) 1 0
+unfolding joinBit
+join-some row l e d h = rw (ne-eqb l 65535 d, h, e) (bool-number (edgeBit row 0 l))
 
 -- a node is reached among n and among m, if it is below both or neither
 module _ (first : List ℕ) (P : ℕ → Bool) where

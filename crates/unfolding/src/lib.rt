@@ -24,8 +24,7 @@ fn join_bit(row: &[u64], first: u16) -> u64
     if first == Graph::NONE {
         return 0;
     }
-    let l = rows::wide(first);
-    (row[rows::word_of(l)] >> rows::bit_of(l)) % 2
+    rows::edge(row, 0, rows::wide(first)) as u64
 }
 
 // Where the nodes of word w end, of n.

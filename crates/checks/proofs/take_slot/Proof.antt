@@ -25,11 +25,8 @@ mul-slots c = search needs
 slice-write-slots : tie.Need-slice-write-slots
 slice-write-slots c = search needs
 
-bit-of-requires : tie.Need-bit-of-requires
-bit-of-requires c κs = search needs
-
-shr-result : tie.Need-shr-result
-shr-result c = search needs
+has-bit-requires : tie.Need-has-bit-requires
+has-bit-requires c κs = search needs
 
 same-length : tie.Need-same-length
 same-length c = search needs
@@ -37,7 +34,7 @@ same-length c = search needs
 returns : tie.Need-returns
 returns c =
     let w = c .before .before .before in
-    slot-taken _ _ _ _ _ _ (w .before .before .before .pre) (w .before .slot .ensures) (w .word-of .ensures) (c .before .mask .ensures) (c .bit-of .ensures)
+    slot-taken _ _ _ _ _ (w .before .before .before .pre) (w .before .slot .ensures) (w .word-of .ensures) (c .before .mask .ensures) (c .has-bit .ensures)
 
 pub take-slot-spec : {M : Type 1} → statement M
 take-slot-spec =
@@ -50,7 +47,6 @@ take-slot-spec =
     mask-requires
     mul-slots
     slice-write-slots
-    bit-of-requires
-    shr-result
+    has-bit-requires
     same-length
     returns)

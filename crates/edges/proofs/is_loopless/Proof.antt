@@ -2,6 +2,8 @@
 use mathlib.Core.Path.{ap, _∙_}
 use Prim.Native.Nat.{_-_, _≤_}
 use native.Mathlib.Omega.{arith}
+use lib.Bits.{and-mask}
+use lib.Dec.{eqb}
 use borrow.Author.Needs.{needs}
 use Rattle.edges.specs.Edges.{loopless}
 use Rattle.edges.specs.EdgesLaws.{LoopsBelow, loops-more, loops-none}
@@ -42,7 +44,7 @@ loop-again : tie.Need-loop-again Inv-loop μ-loop
 loop-again c = (omega arith, loops-more (c .before .before .before .before .loop .inv .1) (c .before .before .place .ensures) (c .bit-of .ensures))
 
 returns : tie.Need-returns Inv-loop μ-loop
-returns c = c .before .loop .inv .1 .even ∙ ap (λ p. loopless p (c .before .before .before .args .edges .now)) (omega arith)
+returns c = ap (λ x. eqb x 0) (and-mask (c .before .loop .loops) 1) ∙ c .before .loop .inv .1 .even ∙ ap (λ p. loopless p (c .before .before .before .args .edges .now)) (omega arith)
 
 pub is-loopless-spec : {M : Type 1} → statement M
 is-loopless-spec =

@@ -5,47 +5,36 @@ use Rattle.keys.specs.TwinKeyLaws.{twin-closed, twin-open}
 use Rattle.keys.proofs.twin_key.Statement.{statement}
 use Rattle.keys.proofs.twin_key.Tie as tie
 
--- src/dense.rt:316:48
 mul-wrapping-sub-u32 : tie.Need-mul-wrapping-sub-u32
 mul-wrapping-sub-u32 c = search needs
 
--- src/dense.rt:316:48
 add-wrapping-sub-u32 : tie.Need-add-wrapping-sub-u32
 add-wrapping-sub-u32 c = search needs
 
--- src/dense.rt:316:43
 mul-wrapping-sub-u32-2 : tie.Need-mul-wrapping-sub-u32-2
 mul-wrapping-sub-u32-2 c = search needs
 
--- src/dense.rt:316:43
 shared-slice-read-wrapping-sub-u32 : tie.Need-shared-slice-read-wrapping-sub-u32
 shared-slice-read-wrapping-sub-u32 c = search needs
 
--- src/dense.rt:316:60
 cube-of-requires : tie.Need-cube-of-requires
 cube-of-requires c κs = search needs
 
--- src/dense.rt:316:9
 wrapping-sub-u32-requires : tie.Need-wrapping-sub-u32-requires
 wrapping-sub-u32-requires c κs = search needs
 
--- src/dense.rt:316:9
 returns : tie.Need-returns
 returns c = twin-closed _ _ _ _ (c .before .before .before .if1 .taken) (c .before .cube-of .ensures) (omega arith) (c .wrapping-sub-u32 .ensures)
 
--- src/dense.rt:318:10
 mul-result : tie.Need-mul-result
 mul-result c = search needs
 
--- src/dense.rt:318:5
 mul-result-2 : tie.Need-mul-result-2
 mul-result-2 c = search needs
 
--- src/dense.rt:318:5
 shared-slice-read-result : tie.Need-shared-slice-read-result
 shared-slice-read-result c = search needs
 
--- src/dense.rt:311:1
 returns-2 : tie.Need-returns-2
 returns-2 c = twin-open _ _ _ _ (c .before .if1 .left)
 

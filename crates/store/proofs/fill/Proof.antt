@@ -10,62 +10,48 @@ use Rattle.store.proofs.fill.Reads as reads
 use Rattle.store.proofs.fill.Lts as lts
 use Rattle.states.proofs.restore.Reads as restore-reads
 
--- src/lib.rt:140:23
 mul-end : tie.Need-mul-end
 mul-end c = search needs
 
--- src/lib.rt:140:15
 add-end : tie.Need-add-end
 add-end c = search needs
 
--- src/lib.rt:141:24
 sub-restore : tie.Need-sub-restore
 sub-restore c = search needs
 
--- src/lib.rt:141:24
 part-restore-start : tie.Need-part-restore-start
 part-restore-start c = search needs
 
--- src/lib.rt:141:24
 part-restore-end : tie.Need-part-restore-end
 part-restore-end c = search needs
 
--- src/lib.rt:141:44
 mul-restore : tie.Need-mul-restore
 mul-restore c = search needs
 
--- src/lib.rt:141:44
 sub-restore-2 : tie.Need-sub-restore-2
 sub-restore-2 c = search needs
 
--- src/lib.rt:141:44
 part-restore-start-2 : tie.Need-part-restore-start-2
 part-restore-start-2 c = search needs
 
--- src/lib.rt:141:44
 part-restore-end-2 : tie.Need-part-restore-end-2
 part-restore-end-2 c = search needs
 
--- src/lib.rt:141:5
 restore-requires : tie.Need-restore-requires
 restore-requires c κs =
     let k = c .before .before .before .before .before .before .before .before in
     let s = k .before in
     (s .pre .0, parts-state _ _ (s .pre .1) (s .pre .2) (s .pre .0 .small) (λ i. omega (arith, k .shared-slice-known .given i)) (s .pre .3))
 
--- src/lib.rt:136:1
 same-length : tie.Need-same-length
 same-length c = search needs
 
--- src/lib.rt:136:1
 same-length-2 : tie.Need-same-length-2
 same-length-2 c = search needs
 
--- src/lib.rt:136:1
 same-length-3 : tie.Need-same-length-3
 same-length-3 c = search needs
 
--- src/lib.rt:136:1
 returns : tie.Need-returns
 returns c =
     let r = c .before .before .before .before .before .before in
