@@ -4,7 +4,7 @@ ghost use Prim.Native.Nat.{_+_, _*_, _≤_, _<_};
 ghost use lib.ListN.{length};
 ghost use Rattle.model.specs.Graph.{maxNodes, rowWords};
 ghost use Rattle.drawing.specs.Drawing.{Added};
-ghost use Rattle.mirroring.specs.Mirroring.{StripsFor, InRow, Lower, Mirrored, MirroredAt, columnsTo};
+ghost use Rattle.mirroring.specs.Mirroring.{InRow, Lower, Mirrored, MirroredAt, StripsFor, columnsTo};
 use rows::Graph;
 use symmetry::STRIP;
 

@@ -118,14 +118,14 @@ unfolding xor
 flip-bit true = refl
 flip-bit false = refl
 
-keep-bit : (b : Bool) → xor b false ≡ b
+pub xor-off : (b : Bool) → xor b false ≡ b
 unfolding xor
-keep-bit true = refl
-keep-bit false = refl
+xor-off true = refl
+xor-off false = refl
 
 pub xor-cond : (b t : Bool) → xor b t ≡ cond t (not b) b
 xor-cond b true = flip-bit b
-xor-cond b false = keep-bit b
+xor-cond b false = xor-off b
 
 -- a table with the bit for q in p's row the other way
 abbrev pub flip : List ℕ → ℕ → ℕ → List ℕ

@@ -9,17 +9,13 @@ use lib.ListN.{getD}
 use borrow.Author.Tests.{eq-eqb, ne-eqb}
 use Rattle.model.specs.Graph.{maxNodes}
 use Rattle.model.specs.Tables.{edgeBit}
+use Rattle.rows.specs.BitLaws.{xor-off}
 use Rattle.search.specs.TwinRowLaws.{xor-none, xor-swap}
 use Rattle.keys.specs.TotalLaws.{total-set}
 use Rattle.keys.specs.SumLaws.{weights-cong}
 use Rattle.compressed.specs.Compressed.{alike}
 use Rattle.compressed.specs.RowLaws.{alike-bits}
 use Rattle.sums.specs.Joined.{JoinedSummed, chosenCubes, ownCubes}
-
-xor-off : (b : Bool) → xor b false ≡ b
-unfolding xor
-xor-off true = refl
-xor-off false = refl
 
 -- a row with its own bit
 chosen-own : (f : ℕ → Bool) (sums : List ℕ) (p : ℕ) → p < maxNodes → f p ≡ false → chosenCubes (λ b. xor (f b) (eqb p b)) sums ≡ ownCubes sums p + chosenCubes f sums

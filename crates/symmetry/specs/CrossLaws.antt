@@ -17,7 +17,7 @@ use Rattle.model.specs.TestLaws.{and-fst, and-snd, beq-eq, decide}
 use Rattle.model.specs.TableLaws.{bitAt-word}
 use Rattle.model.specs.ListLaws.{all-elim, nodes-in}
 use Rattle.buffers.specs.WordBitsLaws.{bit-below}
-use Rattle.rows.specs.BitLaws.{bit-and, bit-xor, word-bits}
+use Rattle.rows.specs.BitLaws.{bit-and, bit-xor, word-bits, xor-off}
 use Rattle.symmetry.specs.Symmetry.{Crossed, Exchanged, HalvesCrossed, Zeros, withDigits, withDigit}
 use Rattle.symmetry.specs.SymmetryLaws.{bit-shr}
 
@@ -78,11 +78,6 @@ same true false = refl
 same false true = refl
 same false false = refl
 
-unmoved : (a : Bool) → xor a false ≡ a
-unfolding xor
-unmoved true = refl
-unmoved false = refl
-
 -- two rows
 module _ (k mask x y : ℕ) {j : ℕ} (hk : k < 6) (zeros : Zeros k mask) (ej : j ≡ 2 ^ k) where
   abbrev t : ℕ
@@ -99,7 +94,7 @@ module _ (k mask x y : ℕ) {j : ℕ} (hk : k < 6) (zeros : Zeros k mask) (ej : 
       below : c / 2 ^ k % 2 ≡ 0 → (ltb c (2 ^ k) ≡ true) ⊎ (ltb c (2 ^ k) ≡ false) → xor (bitAt x c) (bitAt (t * 2 ^ j % 2 ^ 64) c) ≡ bitAt x c
       below d (inl s) =
           ap (xor (bitAt x c)) (word-part-bit (t * 2 ^ j) c hc ∙ bit-below t j c (omega (arith, ltb-true c (2 ^ k) s)))
-          ∙ unmoved (bitAt x c)
+          ∙ xor-off (bitAt x c)
       below d (inr s) =
           let l : 2 ^ k ≤ c = ltb-false c (2 ^ k) s in
           ap (xor (bitAt x c)) (shifted-bit t j c hc (omega arith) ∙ ap (λ (i : ℕ). bitAt t (c - i)) ej ∙ bit-t (c - 2 ^ k) (omega arith) ∙ ap (λ (i : ℕ). xor (bitAt x (2 ^ k + (c - 2 ^ k))) (bitAt y (c - 2 ^ k)) && eqb i 0) (lowered k 0 c hk hc l d))
@@ -199,30 +194,6 @@ pub exchanged-bytes : {x y z r : List ℕ} → HalvesCrossed 5 x y → HalvesCro
 unfolding all nodes from traced
 exchanged-bytes p q o = exchanged 3 refl p q o
 
--- the masks
-zeros-by : (k mask : ℕ) → all (nodes 64) (λ c. Bool·beq (bitAt mask c) (eqb (c / 2 ^ k % 2) 0)) ≡ true → Zeros k mask
+-- a mask, tried at each place
+pub zeros-by : (k mask : ℕ) → all (nodes 64) (λ c. Bool·beq (bitAt mask c) (eqb (c / 2 ^ k % 2) 0)) ≡ true → Zeros k mask
 zeros-by k mask h = λ c l. beq-eq (bitAt mask c) (eqb (c / 2 ^ k % 2) 0) (all-elim (nodes 64) (λ c. Bool·beq (bitAt mask c) (eqb (c / 2 ^ k % 2) 0)) h c (nodes-in 64 c l))
-
-pub zeros₀ : Zeros 0 0x5555555555555555
-unfolding all nodes from bitAt
-zeros₀ = zeros-by 0 0x5555555555555555 refl
-
-pub zeros₁ : Zeros 1 0x3333333333333333
-unfolding all nodes from bitAt
-zeros₁ = zeros-by 1 0x3333333333333333 refl
-
-pub zeros₂ : Zeros 2 0x0F0F0F0F0F0F0F0F
-unfolding all nodes from bitAt
-zeros₂ = zeros-by 2 0x0F0F0F0F0F0F0F0F refl
-
-pub zeros₃ : Zeros 3 0x00FF00FF00FF00FF
-unfolding all nodes from bitAt
-zeros₃ = zeros-by 3 0x00FF00FF00FF00FF refl
-
-pub zeros₄ : Zeros 4 0x0000FFFF0000FFFF
-unfolding all nodes from bitAt
-zeros₄ = zeros-by 4 0x0000FFFF0000FFFF refl
-
-pub zeros₅ : Zeros 5 0x00000000FFFFFFFF
-unfolding all nodes from bitAt
-zeros₅ = zeros-by 5 0x00000000FFFFFFFF refl

@@ -7,7 +7,7 @@ use Prim.Native.Nat.{ℕ, _+_, _*_, _-_, _/_, _%_, _^_, _≤_, _<_}
 use native.Mathlib.Decide.{ℕ-discrete}
 use native.Mathlib.Nat.{mul-le-mul-left}
 use native.Mathlib.Omega.{arith}
-use lib.Bits.{and-le-l, and-le-r, bitOr, bitXor, xor-add-and, xor-self}
+use lib.Bits.{and-le-l, and-le-r, bitXor, xor-add-and, xor-self}
 use lib.Dec.{eqb, ltb}
 use lib.ListN.{length, getD, set, length-drop, length-set, length-take, drop, replicate, take, List·getD-eq-default}
 use lib.Seq.{getD-drop, getD-set-other, getD-set-same, getD-take}
@@ -20,8 +20,8 @@ use Rattle.buffers.specs.FilledLaws.{getD-zeros}
 use Rattle.buffers.specs.StoreLaws.{stored}
 use Rattle.rows.specs.BitLaws.{word-bit}
 use Rattle.search.specs.TwinRowLaws.{words-eq}
-use Rattle.symmetry.specs.Symmetry.{Across, Compared, EightPut, Even, Exchanged, Loading, Exchanging, StripAt, EightTaken, Tells, Turned, withDigits, symmetric}
-use Rattle.symmetry.specs.SymmetryLaws.{not-symmetric, symmetric-all, union-none}
+use Rattle.symmetry.specs.Symmetry.{Across, EightPut, Even, Exchanged, Gathered, Loading, Exchanging, StripAt, EightTaken, Tells, Turned, withDigits, symmetric}
+use Rattle.symmetry.specs.SymmetryLaws.{not-symmetric, symmetric-all}
 
 -- eight words, so many words apart
 pub within-eight : (step d : ℕ) → d < 8 → step * d ≤ step * 7
@@ -195,34 +195,24 @@ strip-across {edges} {strip} {b} {i} {from} {to} s small h = record { size = h .
 difference-none : (x y : ℕ) → bitXor x y ≡ 0 → x ≡ y
 difference-none x y e = omega (arith, xor-add-and x y, and-le-l x y, and-le-r x y)
 
-pub compared-none : (edges b : List ℕ) (i w : ℕ) → Compared edges b i w 0 0
-compared-none edges b i w = record { agree = λ e r l. absurd (omega arith); none = λ h. refl }
+difference-same : (x y : ℕ) → x ≡ y → bitXor x y ≡ 0
+difference-same x y e = ap (λ (t : ℕ). bitXor t y) e ∙ xor-self y
 
-pub compared-more : {edges b : List ℕ} {i w m x : ℕ} (y z : ℕ) → Compared edges b i w m x → y ≡ getD b (rowWords * m + w) 0 → z ≡ getD edges (rowWords * (64 * w + m) + i) 0
-    → Compared edges b i w (m + 1) (bitOr x (bitXor y z))
-compared-more {edges} {b} {i} {w} {m} {x} y z h ey ez = record { agree = agree; none = none }
-  where
-    agree : bitOr x (bitXor y z) ≡ 0 → (r : ℕ) → r < m + 1 → getD b (rowWords * r + w) 0 ≡ getD edges (rowWords * (64 * w + r) + i) 0
-    agree e =
-        let zeros = union-none x (bitXor y z) e in
-        below-more (λ r. getD b (rowWords * r + w) 0 ≡ getD edges (rowWords * (64 * w + r) + i) 0) m (h .agree (zeros .0)) (sym ey ∙ difference-none y z (zeros .1) ∙ ez)
-
-    none : ((r : ℕ) → r < m + 1 → getD b (rowWords * r + w) 0 ≡ getD edges (rowWords * (64 * w + r) + i) 0) → bitOr x (bitXor y z) ≡ 0
-    none k =
-        let same : y ≡ z = ey ∙ k m (omega arith) ∙ sym ez in
-        ap₂ bitOr (h .none (λ r l. k r (omega arith))) (ap (λ (t : ℕ). bitXor t z) same ∙ xor-self z)
-
-pub compared-to : {edges b : List ℕ} {i w m k x : ℕ} → Compared edges b i w m x → m ≡ k → Compared edges b i w k x
-compared-to {edges} {b} {i} {w} {x = x} h e = subst (λ (l : ℕ). Compared edges b i w l x) e h
+-- the bits in which the columns of word w differ from word i of the rows that they stand for
+abbrev pub differences : List ℕ → List ℕ → ℕ → ℕ → ℕ → ℕ
+differences edges b i w r = bitXor (getD b (rowWords * r + w) 0) (getD edges (rowWords * (64 * w + r) + i) 0)
 
 module _ {n : ℕ} {edges b : List ℕ} {i w : ℕ} (h : Across edges i w (w + 1) b) where
-  pub compared-tells : {m x : ℕ} → n ≤ 512 → i < 8 → m ≤ 64 → 64 * w + m ≤ n → ((q : ℕ) → q < n → 64 * w ≤ q → q < 64 * w + 64 → q < 64 * w + m)
-      → ((k : ℕ) → getD b k 0 < 2 ^ 64) → ((k : ℕ) → getD edges k 0 < 2 ^ 64) → Compared edges b i w m x → Tells (Even n edges i w (w + 1)) edges (eqb x 0)
-  compared-tells {m} {x} hn hi hm fits within-eight small-b small-e k = record { holds = λ e p q hp hq f l u. even (k .agree (eqb-true x 0 e)) p q hp hq f l u; fails = λ e. not-symmetric edges (λ t. eqb-false x 0 e (k .none (λ r l. equal t r l))) }
+  pub columns-tell : {m x : ℕ} → n ≤ 512 → i < 8 → m ≤ 64 → 64 * w + m ≤ n → ((q : ℕ) → q < n → 64 * w ≤ q → q < 64 * w + 64 → q < 64 * w + m)
+      → ((k : ℕ) → getD b k 0 < 2 ^ 64) → ((k : ℕ) → getD edges k 0 < 2 ^ 64) → Gathered (differences edges b i w) 0 m x → Tells (Even n edges i w (w + 1)) edges (eqb x 0)
+  columns-tell {m} {x} hn hi hm fits within small-b small-e g = record {
+    holds = λ e p q hp hq f l u. even (λ r k. difference-none _ _ (omega (arith, g .each (omega (arith, eqb-true x 0 e)) r k))) p q hp hq f l u;
+    fails = λ e. not-symmetric edges (λ t. eqb-false x 0 e (omega (arith, g .none (λ r k. omega (arith, difference-same _ _ (equal t r k))))));
+  }
     where
       even : ((r : ℕ) → r < m → getD b (rowWords * r + w) 0 ≡ getD edges (rowWords * (64 * w + r) + i) 0) → (p q : ℕ) → p < n → q < n → p / 64 ≡ i → w ≤ q / 64 → q / 64 < w + 1 → edgeBit edges p q ≡ edgeBit edges q p
       even agree p q hp hq f l u =
-          let r = within-eight q hq (omega arith) (omega arith) in
+          let r = within q hq (omega arith) (omega arith) in
           let ep : 64 * i + p % 64 ≡ p = omega arith in
           let eq : 64 * w + q % 64 ≡ q = omega arith in
           ap₂ (edgeBit edges) (sym ep) (sym eq)

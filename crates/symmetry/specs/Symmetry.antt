@@ -13,9 +13,12 @@ use Rattle.model.specs.Tables.{bitAt, edgeBit}
 unfoldable pub symmetric : List ℕ → Bool
 symmetric edges = all (nodes maxNodes) (λ p. all (nodes maxNodes) (λ q. Bool·beq (edgeBit edges p q) (edgeBit edges q p)))
 
--- no bit stands for a number n or above
+-- no bit stands for a number from n to m, and for none from n on
+abbrev pub InsideTo : ℕ → List ℕ → ℕ → Type 0
+InsideTo n edges m = (p q : ℕ) → p < n → q < m → n ≤ q → edgeBit edges p q ≡ false
+
 abbrev pub Inside : ℕ → List ℕ → Type 0
-Inside n edges = (p q : ℕ) → p < n → q < maxNodes → n ≤ q → edgeBit edges p q ≡ false
+Inside n edges = InsideTo n edges maxNodes
 
 -- the places whose digit k is 0
 abbrev pub Zeros : ℕ → ℕ → Type 0
@@ -83,16 +86,10 @@ pub record Across (edges : List ℕ) (i from to : ℕ) (b : List ℕ) : Type 0 w
   pub size : length b ≡ 512
   pub bits : (w r c : ℕ) → from ≤ w → w < to → r < 64 → c < 64 → bitAt (getD b (rowWords * r + w) 0) c ≡ edgeBit edges (64 * i + c) (64 * w + r)
 
--- x has a bit from bit k on exactly if word w of one of the first m rows has
-pub record RowsUnited (edges : List ℕ) (w k m x : ℕ) : Type 0 where
-  pub words : (p : ℕ) → p < m → getD edges (rowWords * p + w) 0 < 2 ^ 64
-  pub below : x / 2 ^ k ≡ 0 → (p : ℕ) → p < m → getD edges (rowWords * p + w) 0 / 2 ^ k ≡ 0
-  pub none : ((p : ℕ) → p < m → getD edges (rowWords * p + w) 0 / 2 ^ k ≡ 0) → x / 2 ^ k ≡ 0
-
--- x is 0 exactly if the first m columns of word w are word i of the rows that they stand for
-pub record Compared (edges b : List ℕ) (i w m x : ℕ) : Type 0 where
-  pub agree : x ≡ 0 → (r : ℕ) → r < m → getD b (rowWords * r + w) 0 ≡ getD edges (rowWords * (64 * w + r) + i) 0
-  pub none : ((r : ℕ) → r < m → getD b (rowWords * r + w) 0 ≡ getD edges (rowWords * (64 * w + r) + i) 0) → x ≡ 0
+-- x has a bit from bit k on exactly if one of the words f 0 to f (m - 1) has
+pub record Gathered (f : ℕ → ℕ) (k m x : ℕ) : Type 0 where
+  pub each : x / 2 ^ k ≡ 0 → (r : ℕ) → r < m → f r / 2 ^ k ≡ 0
+  pub none : ((r : ℕ) → r < m → f r / 2 ^ k ≡ 0) → x / 2 ^ k ≡ 0
 
 -- the bits of strip i in words from..to have their mirrors
 abbrev pub Even : ℕ → List ℕ → ℕ → ℕ → ℕ → Type 0

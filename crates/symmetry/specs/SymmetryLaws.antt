@@ -19,7 +19,7 @@ use Rattle.model.specs.TestLaws.{beq-eq, decide, differ, eq-beq}
 use Rattle.model.specs.ListLaws.{all-elim, all-intro, nodes-in, nodes-out}
 use Rattle.rows.specs.BitLaws.{bit-zero, word-bit}
 use Rattle.search.specs.TwinRowLaws.{words-eq}
-use Rattle.symmetry.specs.Symmetry.{Even, Inside, RowsUnited, Tells, symmetric}
+use Rattle.symmetry.specs.Symmetry.{Even, Gathered, Inside, InsideTo, Tells, symmetric}
 
 -- bits of a shifted word, and beyond a word
 pub bit-shr : (x j c : ℕ) → bitAt (x / 2 ^ j) c ≡ bitAt x (j + c)
@@ -84,11 +84,11 @@ module _ (n : ℕ) (edges : List ℕ) (size : length edges ≡ rowWords * n) whe
           ∙ outside (64 * w + (k + j)) p (omega arith)
       step j (inr s) = bit-beyond x (k + j) small (ltb-false (k + j) 64 s)
 
-  pub united-tells : (k w : ℕ) {x : ℕ} → n ≤ 512 → w < 8 → n ≤ 64 * w + k → RowsUnited edges w k n x
+  pub rows-tell : (k w : ℕ) {x : ℕ} → n ≤ 512 → w < 8 → n ≤ 64 * w + k → ((p : ℕ) → p < n → getD edges (rowWords * p + w) 0 < 2 ^ 64) → Gathered (λ p. getD edges (rowWords * p + w) 0) k n x
       → Tells ((p c : ℕ) → p < n → k ≤ c → c < 64 → edgeBit edges p (64 * w + c) ≡ false) edges (eqb (x / 2 ^ k) 0)
-  united-tells k w {x} hn hw l h = record {
-    holds = λ e p c hp a b. word-below k w p (h .below (eqb-true (x / 2 ^ k) 0 e) p hp) c a b;
-    fails = λ e. not-symmetric edges (λ t. eqb-false (x / 2 ^ k) 0 e (h .none (λ p hp. word-inside k w p t hp hn hw l (h .words p hp))));
+  rows-tell k w {x} hn hw l small h = record {
+    holds = λ e p c hp a b. word-below k w p (h .each (eqb-true (x / 2 ^ k) 0 e) p hp) c a b;
+    fails = λ e. not-symmetric edges (λ t. eqb-false (x / 2 ^ k) 0 e (h .none (λ p hp. word-inside k w p t hp hn hw l (small p hp))));
   }
 
   -- inside, and even strips: every bit has its mirror
@@ -115,10 +115,7 @@ module _ (n : ℕ) (edges : List ℕ) (size : length edges ≡ rowWords * n) whe
   symmetric-by hn inside true h = sym (strips-symmetric hn inside (h .holds refl))
   symmetric-by hn inside false h = sym (h .fails refl)
 
--- no bit stands for a number from n to m
-abbrev pub InsideTo : ℕ → List ℕ → ℕ → Type 0
-InsideTo n edges m = (p q : ℕ) → p < n → q < m → n ≤ q → edgeBit edges p q ≡ false
-
+-- word by word
 pub inside-more : (n : ℕ) (edges : List ℕ) (w k : ℕ) → InsideTo n edges (64 * w) → ((q : ℕ) → n ≤ q → 64 * w ≤ q → 64 * w + k ≤ q)
     → ((p c : ℕ) → p < n → k ≤ c → c < 64 → edgeBit edges p (64 * w + c) ≡ false) → InsideTo n edges (64 * (w + 1))
 inside-more n edges w k before from word p q hp u l = step (decide (ltb q (64 * w)))
@@ -130,24 +127,23 @@ inside-more n edges w k before from word p q hp u l = step (decide (ltb q (64 * 
         let e : 64 * w + (q - 64 * w) ≡ q = omega arith in
         ap (edgeBit edges p) (sym e) ∙ word p (q - 64 * w) hp (omega (arith, from q l b)) (omega arith)
 
--- words united, row by row
-pub union-none : (x y : ℕ) → bitOr x y ≡ 0 → (x ≡ 0) × (y ≡ 0)
+-- words gathered, one after the other
+union-none : (x y : ℕ) → bitOr x y ≡ 0 → (x ≡ 0) × (y ≡ 0)
 union-none x y e = (omega (arith, or-add-and x y, and-le-r x y), omega (arith, or-add-and x y, and-le-l x y))
 
-pub rows-united-none : (edges : List ℕ) (w k : ℕ) → RowsUnited edges w k 0 0
-rows-united-none edges w k = record { words = λ p l. absurd (omega arith); below = λ e p l. absurd (omega arith); none = λ h. zero-div (2 ^ k) }
+pub gathered-none : (f : ℕ → ℕ) (k : ℕ) → Gathered f k 0 0
+gathered-none f k = record { each = λ e r l. absurd (omega arith); none = λ h. zero-div (2 ^ k) }
 
-pub rows-united-more : (edges : List ℕ) (w k m x : ℕ) → getD edges (8 * m + w) 0 < 2 ^ 64 → RowsUnited edges w k m x → RowsUnited edges w k (m + 1) (bitOr x (getD edges (8 * m + w) 0))
-rows-united-more edges w k m x small h = record {
-  words = below-more (λ p. getD edges (8 * p + w) 0 < 2 ^ 64) m (h .words) small;
-  below = λ e.
-      let parts = union-none (x / 2 ^ k) (getD edges (8 * m + w) 0 / 2 ^ k) (sym (or-shr x (getD edges (8 * m + w) 0) k) ∙ e) in
-      below-more (λ p. getD edges (8 * p + w) 0 / 2 ^ k ≡ 0) m (h .below (parts .0)) (parts .1);
-  none = λ f. or-shr x (getD edges (8 * m + w) 0) k ∙ ap₂ bitOr (h .none (λ p l. f p (omega arith))) (f m (omega arith));
+pub gathered-more : {f : ℕ → ℕ} {k m x : ℕ} → Gathered f k m x → Gathered f k (m + 1) (bitOr x (f m))
+gathered-more {f} {k} {m} {x} h = record {
+  each = λ e.
+      let parts = union-none (x / 2 ^ k) (f m / 2 ^ k) (sym (or-shr x (f m) k) ∙ e) in
+      below-more (λ r. f r / 2 ^ k ≡ 0) m (h .each (parts .0)) (parts .1);
+  none = λ s. or-shr x (f m) k ∙ ap₂ bitOr (h .none (λ r l. s r (omega arith))) (s m (omega arith));
 }
 
-pub rows-united-all : {edges : List ℕ} {w k m n x : ℕ} → RowsUnited edges w k m x → m ≡ n → RowsUnited edges w k n x
-rows-united-all {edges} {w} {k} {x = x} h e = subst (λ (p : ℕ). RowsUnited edges w k p x) e h
+pub gathered-all : {f : ℕ → ℕ} {k m n x : ℕ} → Gathered f k m x → m ≡ n → Gathered f k n x
+gathered-all {f} {k} {x = x} h e = subst (λ (i : ℕ). Gathered f k i x) e h
 
 -- what a test tells
 pub tells-yes : {Fact : Type 0} {edges : List ℕ} → Fact → Tells Fact edges true

@@ -1,22 +1,22 @@
 // Whether an edge table is symmetric: by strips of 64 rows, each transposed and held against the words across the diagonal.
 ghost use mathlib.Core.Path.{_≡_};
+ghost use mathlib.Core.Bool.{false};
 ghost use mathlib.Core.List.{List};
 ghost use Prim.Native.Nat.{ℕ, _+_, _*_, _/_, _≤_, _<_};
 ghost use lib.ListN.{length, replicate};
-ghost use mathlib.Core.Bool.{false};
 ghost use Rattle.model.specs.Graph.{maxNodes, rowWords};
 ghost use Rattle.model.specs.Tables.{edgeBit};
 ghost use Rattle.symmetry.specs.Symmetry.{
   Across,
   Crossed,
   EightPut,
+  EightTaken,
   Even,
   Exchanged,
+  Exchanging,
   HalvesCrossed,
   Inside,
-  Exchanging,
   StripAt,
-  EightTaken,
   Tells,
   Turned,
   Zeros,
@@ -233,20 +233,24 @@ fn is_word_below(edges: &[u64], n: usize, w: usize, k: usize) -> bool
     x >> k == 0
 }
 
+// The first bit of word w that stands for no node: n's own in its word, the lowest after that.
+fn first_beyond(n: usize, w: usize) -> usize
+    requires { ⌜ n / 64 ≤ w ⌝ }
+    ensures { λ r. ⌜ (r < 64) × (n ≤ 64 * w + r) × ((q : ℕ) → n ≤ q → 64 * w ≤ q → 64 * w + r ≤ q) ⌝ }
+{
+    if w == rows::word_of(n) {
+        return rows::bit_of(n);
+    }
+    0
+}
+
 // Whether no bit stands for a number n or above.
 fn is_inside(edges: &[u64], n: usize) -> bool
     requires { ⌜ (n ≤ maxNodes) × (length (now edges) ≡ rowWords * n) ⌝ }
     ensures { λ r. ⌜ Tells (Inside n (now (edges .entry))) (now (edges .entry)) r ⌝ }
 {
-    if n == Graph::NODES {
-        return true;
-    }
-    let first = rows::word_of(n);
-    if !is_word_below(edges, n, first, rows::bit_of(n)) {
-        return false;
-    }
-    for w in first + 1..8 {
-        if !is_word_below(edges, n, w, 0) {
+    for w in rows::word_of(n)..8 {
+        if !is_word_below(edges, n, w, first_beyond(n, w)) {
             return false;
         }
     }

@@ -1,14 +1,14 @@
 -- The invariant: the columns before c are compared.
-use mathlib.Core.Path.{refl}
 use Prim.Native.Nat.{_-_, _≤_}
 use native.Mathlib.Omega.{arith}
-use Rattle.symmetry.specs.Symmetry.{Compared}
-use Rattle.symmetry.specs.StripLaws.{compared-more, compared-none, compared-tells, compared-to}
+use Rattle.symmetry.specs.Symmetry.{Gathered}
+use Rattle.symmetry.specs.StripLaws.{columns-tell, differences}
+use Rattle.symmetry.specs.SymmetryLaws.{gathered-all, gathered-more, gathered-none}
 use Rattle.symmetry.proofs.is_across.Statement.{statement}
 use Rattle.symmetry.proofs.is_across.Tie as tie
 
 abbrev Inv-loop : tie.InvT-loop
-Inv-loop edges n i w b x₀ c₀ c-end x c = (c ≤ c-end) × Compared edges b i w c x
+Inv-loop edges n i w b x₀ c₀ c-end x c = (c ≤ c-end) × Gathered (differences edges b i w) 0 c x
 
 abbrev μ-loop : tie.MeasureT-loop
 μ-loop edges n i w b x₀ c₀ c-end x c = c-end - c
@@ -17,7 +17,7 @@ rows-of-requires : tie.Need-rows-of-requires Inv-loop μ-loop
 rows-of-requires c κs = (c .before .before .pre .0, omega arith)
 
 loop-holds : tie.Need-loop-holds Inv-loop μ-loop
-loop-holds c = (omega arith, compared-none _ _ _ _)
+loop-holds c = (omega arith, gathered-none _ _)
 
 mul-x : tie.Need-mul-x Inv-loop μ-loop
 mul-x c = omega arith
@@ -56,14 +56,14 @@ loop-less : tie.Need-loop-less Inv-loop μ-loop
 loop-less c = omega arith
 
 loop-again : tie.Need-loop-again Inv-loop μ-loop
-loop-again c = (omega arith, compared-more _ _ (c .before .before .before .loop .inv .1) refl refl)
+loop-again c = (omega arith, gathered-more (c .before .before .before .loop .inv .1))
 
 returns : tie.Need-returns Inv-loop μ-loop
 returns c =
     let r = c .before .before in
     let s = r .before .before .before in
     let e = r .rows-of .ensures in
-    compared-tells (s .pre .4) (s .pre .0) (omega arith) (e .0) (e .1) (e .2) (λ k. omega (arith, r .before .shared-slice-known2 .given k)) (λ k. omega (arith, r .before .before .shared-slice-known .given k)) (compared-to (c .before .loop .inv .1) (omega arith))
+    columns-tell (s .pre .4) (s .pre .0) (omega arith) (e .0) (e .1) (e .2) (λ k. omega (arith, r .before .shared-slice-known2 .given k)) (λ k. omega (arith, r .before .before .shared-slice-known .given k)) (gathered-all (c .before .loop .inv .1) (omega arith))
 
 pub is-across-spec : {M : Type 1} → statement M
 is-across-spec =

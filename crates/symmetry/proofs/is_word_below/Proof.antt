@@ -1,19 +1,22 @@
 -- The invariant: the rows before p are united.
-use Prim.Native.Nat.{_+_, _*_, _-_, _≤_}
+use Prim.Native.Nat.{ℕ, _+_, _*_, _-_, _^_, _≤_, _<_}
 use native.Mathlib.Omega.{arith}
-use Rattle.symmetry.specs.Symmetry.{RowsUnited}
-use Rattle.symmetry.specs.SymmetryLaws.{rows-united-all, rows-united-more, rows-united-none, united-tells}
+use lib.ListN.{getD}
+use borrow.Author.Count.{below-more}
+use Rattle.model.specs.Graph.{rowWords}
+use Rattle.symmetry.specs.Symmetry.{Gathered}
+use Rattle.symmetry.specs.SymmetryLaws.{gathered-all, gathered-more, gathered-none, rows-tell}
 use Rattle.symmetry.proofs.is_word_below.Statement.{statement}
 use Rattle.symmetry.proofs.is_word_below.Tie as tie
 
 abbrev Inv-loop : tie.InvT-loop
-Inv-loop edges n w k x₀ p₀ x p = (p ≤ n) × RowsUnited edges w k p x
+Inv-loop edges n w k x₀ p₀ x p = (p ≤ n) × ((j : ℕ) → j < p → getD edges (rowWords * j + w) 0 < 2 ^ 64) × Gathered (λ j. getD edges (rowWords * j + w) 0) k p x
 
 abbrev μ-loop : tie.MeasureT-loop
 μ-loop edges n w k x₀ p₀ x p = n - p
 
 loop-holds : tie.Need-loop-holds Inv-loop μ-loop
-loop-holds c = (omega arith, rows-united-none _ _ _)
+loop-holds c = (omega arith, (λ j l. absurd (omega arith)), gathered-none _ _)
 
 mul-x : tie.Need-mul-x Inv-loop μ-loop
 mul-x c = omega arith
@@ -37,7 +40,7 @@ loop-again : tie.Need-loop-again Inv-loop μ-loop
 loop-again c =
     let l = c .before .before .loop in
     let s = c .before .before .before .args in
-    (omega arith, rows-united-more _ (s .w) _ (l .p) _ (omega (arith, c .shared-slice-known .given (8 * l .p + s .w))) (l .inv .1))
+    (omega arith, below-more _ (l .p) (l .inv .1) (omega (arith, c .shared-slice-known .given (8 * l .p + s .w))), gathered-more (l .inv .2))
 
 shr-result : tie.Need-shr-result Inv-loop μ-loop
 shr-result c = omega arith
@@ -45,7 +48,8 @@ shr-result c = omega arith
 returns : tie.Need-returns Inv-loop μ-loop
 returns c =
     let s = c .before .before in
-    united-tells _ _ (s .pre .1) _ _ (s .pre .0) (s .pre .2) (s .pre .4) (rows-united-all (c .before .loop .inv .1) (omega arith))
+    let l = c .before .loop .inv in
+    rows-tell _ _ (s .pre .1) _ _ (s .pre .0) (s .pre .2) (s .pre .4) (λ p h. l .1 p (omega arith)) (gathered-all (l .2) (omega arith))
 
 pub is-word-below-spec : {M : Type 1} → statement M
 is-word-below-spec =
