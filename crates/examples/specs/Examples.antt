@@ -42,13 +42,13 @@ AllHold (c ∷ cs) = Holds c × AllHold cs
 
 -- updates: tie, untie and withhold
 abbrev insert : ℕ → ℕ → Update
-insert u v = record { kind = 1; u = u; v = v }
+insert u v = record { kind = 1; u = u; v = v; wanted = 1 }
 
 abbrev delete : ℕ → ℕ → Update
-delete u v = record { kind = 2; u = u; v = v }
+delete u v = record { kind = 1; u = u; v = v; wanted = 0 }
 
 abbrev hide : ℕ → Update
-hide u = record { kind = 3; u = u; v = 0 }
+hide u = record { kind = 2; u = u; v = 0; wanted = 1 }
 
 -- the graph of n nodes that updates lead to
 abbrev graph : ℕ → List Update → Graph
@@ -173,14 +173,14 @@ examples =
     -- 7. each of 0, 1, 2 tied to each of 3, 4, 5
     ∷ list (release threeByThree) (0x48 ∷ 0x44 ∷ 0x06 ∷ 0x00 ∷ 0x06 ∷ 0x00 ∷ 0x02 ∷ 0x00 ∷ 0x47 ∷ 0x49 ∷ 0x03 ∷ 0x00 ∷ 0x00 ∷ 0x00 ∷ 0x01 ∷ 0x00 ∷ 0x02 ∷ 0x00 ∷ 0x47 ∷ 0x49 ∷ 0x03 ∷ 0x00 ∷ 0x03 ∷ 0x00 ∷ 0x04 ∷ 0x00 ∷ 0x05 ∷ 0x00 ∷ 0x53 ∷ 0x45 ∷ 0x00 ∷ 0x00 ∷ 0x01 ∷ 0x00 ∷ 0x45 ∷ 0x4E ∷ [])
     -- 8. from 7, untie 0 3, then tie 0 3 again
-    ∷ answers (answersOn 6 (tablesOf threeByThree) (2 ∷ 0 ∷ 3 ∷ 1 ∷ 0 ∷ 3 ∷ [])) (pos 2 ∷ negsuc 1 ∷ [])
+    ∷ answers (answersOn 6 (tablesOf threeByThree) (1 ∷ 0 ∷ 3 ∷ 0 ∷ 1 ∷ 0 ∷ 3 ∷ 1 ∷ [])) (pos 2 ∷ negsuc 1 ∷ [])
     ∷ groups (visibleGroups deleted03) ((0 ∷ []) ∷ (1 ∷ 2 ∷ []) ∷ (3 ∷ []) ∷ (4 ∷ 5 ∷ []) ∷ [])
     ∷ groups (officeGroups deleted03) ((0 ∷ []) ∷ (1 ∷ 2 ∷ []) ∷ (3 ∷ []) ∷ (4 ∷ 5 ∷ []) ∷ [])
     ∷ number (superedgeCount deleted03) 3
     ∷ number (size deleted03) 56
     -- 9. from 7, withhold 3, then untie 0 3
     ∷ number (size hidden3) 34
-    ∷ answers (answersOn 6 (tablesOf hidden3) (2 ∷ 0 ∷ 3 ∷ [])) (pos 2 ∷ [])
+    ∷ answers (answersOn 6 (tablesOf hidden3) (1 ∷ 0 ∷ 3 ∷ 0 ∷ [])) (pos 2 ∷ [])
     ∷ list (release hidden3deleted03) (release hidden3)
     ∷ groups (visibleGroups hidden3deleted03) ((0 ∷ 1 ∷ 2 ∷ []) ∷ (4 ∷ 5 ∷ []) ∷ [])
     ∷ groups (officeGroups hidden3deleted03) ((0 ∷ []) ∷ (1 ∷ 2 ∷ []) ∷ (3 ∷ []) ∷ (4 ∷ 5 ∷ []) ∷ [])
@@ -199,16 +199,17 @@ examples =
     ∷ number (tiedCall 1 selfTied 0 0 .result) 12
     ∷ number (groupCall 1 selfTied 0 .result) 12
     ∷ number (releaseCall 1 selfTied (replicate 16 0) .result) 12
-    -- number 13: 5 0 1
-    ∷ answers (answersOn 3 (opened 3) (5 ∷ 0 ∷ 1 ∷ [])) (pos 13 ∷ [])
-    -- number 14: n 3: 1 0 3
-    ∷ answers (answersOn 3 (opened 3) (1 ∷ 0 ∷ 3 ∷ [])) (pos 14 ∷ [])
-    -- number 15: 1 2 2
-    ∷ answers (answersOn 3 (opened 3) (1 ∷ 2 ∷ 2 ∷ [])) (pos 15 ∷ [])
-    -- number 16: 1 0 1 twice
-    ∷ answers (answersOn 3 (opened 3) (1 ∷ 0 ∷ 1 ∷ 1 ∷ 0 ∷ 1 ∷ [])) (pos 1 ∷ pos 16 ∷ [])
-    -- number 17: 4 0 0 in a new bundle
-    ∷ answers (answersOn 3 (opened 3) (4 ∷ 0 ∷ 0 ∷ [])) (pos 17 ∷ [])
+    -- number 11: three numbers
+    ∷ number (applyCall 3 (opened 3) (1 ∷ 0 ∷ 1 ∷ []) (pos 0 ∷ []) .result) 11
+    -- number 13: 5 0 1 1, and 3 0 0 1
+    ∷ answers (answersOn 3 (opened 3) (5 ∷ 0 ∷ 1 ∷ 1 ∷ 3 ∷ 0 ∷ 0 ∷ 1 ∷ [])) (pos 13 ∷ pos 13 ∷ [])
+    -- number 14: n 3: 1 0 3 1, 1 3 0 1 and 2 3 0 1
+    ∷ answers (answersOn 3 (opened 3) (1 ∷ 0 ∷ 3 ∷ 1 ∷ 1 ∷ 3 ∷ 0 ∷ 1 ∷ 2 ∷ 3 ∷ 0 ∷ 1 ∷ [])) (pos 14 ∷ pos 14 ∷ pos 14 ∷ [])
+    -- number 15: 1 2 2 1, 1 0 1 2, 2 0 3 1 and 2 0 0 2
+    ∷ answers (answersOn 3 (opened 3) (1 ∷ 2 ∷ 2 ∷ 1 ∷ 1 ∷ 0 ∷ 1 ∷ 2 ∷ 2 ∷ 0 ∷ 3 ∷ 1 ∷ 2 ∷ 0 ∷ 0 ∷ 2 ∷ [])) (pos 15 ∷ pos 15 ∷ pos 15 ∷ pos 15 ∷ [])
+    -- number 16: 1 0 1 1 twice; 1 0 1 0 and 2 0 0 0 in a new bundle
+    ∷ answers (answersOn 3 (opened 3) (1 ∷ 0 ∷ 1 ∷ 1 ∷ 1 ∷ 0 ∷ 1 ∷ 1 ∷ [])) (pos 1 ∷ pos 16 ∷ [])
+    ∷ answers (answersOn 3 (opened 3) (1 ∷ 0 ∷ 1 ∷ 0 ∷ 2 ∷ 0 ∷ 0 ∷ 0 ∷ [])) (pos 16 ∷ pos 16 ∷ [])
     -- number 18: release of n 0 into 9 bytes
     ∷ number (releaseCall 0 (opened 0) (replicate 9 0) .result) 18
     -- number 19: empty file
@@ -251,4 +252,5 @@ examples =
     ∷ number (keepCall 1 (opened 1) eightKept (name 8) .result) 23
     -- the program
     ∷ list (program (text "3\nt 0 1\nt 1 2\nw 0\n")) (text "change 1: 1\nchange 2: 0\nchange 3: 0\nopen 2 groups 1 joins 0\nC 1 2\n")
+    ∷ list (program (text "2\nt 0 1\nu 0 1\nw 0\no 0\no 0\n")) (text "change 1: 0\nchange 2: 0\nchange 3: 0\nchange 4: 0\nchange 5: 16\nopen 2 groups 1 joins 0\nI 0 1\n")
     ∷ []

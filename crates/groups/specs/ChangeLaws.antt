@@ -5,14 +5,14 @@ use mathlib.Core.Bool.{Bool, true, false}
 use mathlib.Core.List.{List}
 use Prim.Native.Nat.{ℕ, _+_, _*_, _≤_, _<_, min, max}
 use native.Mathlib.Omega.{arith}
-use lib.Dec.{ltb}
+use lib.Dec.{eqb, ltb}
 use lib.ListN.{length}
 use lib.IntN.{subℕ}
 use borrow.Author.Tests.{ltb-true, ltb-false}
 use Rattle.model.specs.Graph.{Graph, Proper, maxNodes, nodeNumbers, rowWords, whole}
 use Rattle.model.specs.Grouping.{similar}
 use Rattle.model.specs.Tables.{Tables, edgesOf, graphOf, keysOf, nodeNumber, tablesOf}
-use Rattle.model.specs.Updates.{Update, answer, onEdge, refusal, updated, wanted}
+use Rattle.model.specs.Updates.{Update, answer, refusal, updated}
 use Rattle.model.specs.TestLaws.{decide}
 use Rattle.model.specs.TableLaws.{edges-in, length-edges, length-keys, length-nodes-of, read-back}
 use Rattle.model.specs.BoundLaws.{withEdges}
@@ -25,38 +25,30 @@ use Rattle.rows.specs.KeyLaws.{keys-updated}
 use Rattle.rings.specs.Steps.{Back, OthersLeft, Sound, Taken}
 use Rattle.rings.specs.UpdateLaws.{sound₀, sound₁, sound₂, sound₃}
 use Rattle.rings.specs.GraphLaws.{EdgeUpdate, Ends, update-answer, update-nodes, update-shift}
-use Rattle.groups.specs.Groups.{Asked, edgeUpdate, similarIn}
-
-edge-kind : (insert : Bool) (u v : ℕ) → onEdge (edgeUpdate insert u v) ≡ true
-edge-kind true u v = refl
-edge-kind false u v = refl
-
-inserts : (insert : Bool) (u v : ℕ) → wanted (edgeUpdate insert u v) ≡ insert
-inserts true u v = refl
-inserts false u v = refl
+use Rattle.groups.specs.Groups.{Asked, change, similarIn}
 
 -- the tables of a graph are read as it
 pub tables-read : {g : Graph} {t : Tables} → Proper g → t ≡ tablesOf g → graphOf (g .nodeCount) t ≡ g
 tables-read {g} h e = ap (graphOf (g .nodeCount)) e ∙ read-back g h
 
-pub asked : {g : Graph} {t : Tables} {u v : ℕ} {insert : Bool} → Proper g → t ≡ tablesOf g → refusal g (edgeUpdate insert u v) ≡ 0 → Asked (g .nodeCount) u v insert t
-asked {g} {t} {u} {v} {insert} h e ok =
+pub asked : {g : Graph} {t : Tables} {u v wanted : ℕ} → Proper g → t ≡ tablesOf g → refusal g (change 1 u v wanted) ≡ 0 → Asked (g .nodeCount) u v wanted t
+asked {g} {t} {u} {v} {wanted} h e ok =
     let r : graphOf (g .nodeCount) t ≡ g = tables-read h e in
-    record { proper = subst Proper (sym r) h; same = e ∙ ap tablesOf (sym r); accepted = ap (λ (x : Graph). refusal x (edgeUpdate insert u v)) r ∙ ok }
+    record { proper = subst Proper (sym r) h; same = e ∙ ap tablesOf (sym r); accepted = ap (λ (x : Graph). refusal x (change 1 u v wanted)) r ∙ ok }
 
-module _ {n u v : ℕ} {insert : Bool} {t : Tables} (a : Asked n u v insert t) where
+module _ {n u v wanted : ℕ} {t : Tables} (a : Asked n u v wanted t) where
   abbrev g : Graph
   g = graphOf n t
 
   abbrev c : Update
-  c = edgeUpdate insert u v
+  c = change 1 u v wanted
 
-  new : Proper (updated (graphOf n t) (edgeUpdate insert u v))
+  new : Proper (updated (graphOf n t) (change 1 u v wanted))
   new = proper-updated g c (a .proper) (a .accepted)
 
   pub asked-ends : (u < n) × (v < n) × (u ≢ v)
   unfolding graphOf
-  asked-ends = (u-inside g c (a .proper) (a .accepted), v-inside g c (a .proper) (a .accepted) (edge-kind insert u v), apart g c (a .proper) (a .accepted) (edge-kind insert u v))
+  asked-ends = (u-inside g c (a .proper) (a .accepted), v-inside g c (a .proper) (a .accepted) refl, apart g c (a .proper) (a .accepted) refl)
 
   pub asked-sizes : (n ≤ maxNodes) × (length (t .edges) ≡ rowWords * n) × (length (t .nodes) ≡ nodeNumbers * n) × (length (t .keys) ≡ 2 * n)
   unfolding graphOf tablesOf
@@ -70,15 +62,15 @@ module _ {n u v : ℕ} {insert : Bool} {t : Tables} (a : Asked n u v insert t) w
   asked-greater e = let h = asked-ends in omega (arith, h .0, h .1)
 
   -- the lesser and the greater of u and v are the edge's ends
-  ends : {x y : ℕ} → x ≡ min u v → y ≡ max u v → Ends (edgeUpdate insert u v) x y
+  ends : {x y : ℕ} → x ≡ min u v → y ≡ max u v → Ends (change 1 u v wanted) x y
   ends {x} {y} e f = step (decide (ltb u v))
     where
       step : (ltb u v ≡ true) ⊎ (ltb u v ≡ false) → ((x ≡ u) × (y ≡ v)) ⊎ ((x ≡ v) × (y ≡ u))
       step (inl t) = let h = ltb-true u v t in inl (omega arith, omega arith)
       step (inr t) = let h = ltb-false u v t in inr (omega arith, omega arith)
 
-  asked-update : {x y : ℕ} → x ≡ min u v → y ≡ max u v → EdgeUpdate (graphOf n t) (edgeUpdate insert u v) x y (t .nodes)
-  asked-update e f = record { proper = a .proper; accepted = a .accepted; edge = edge-kind insert u v; ends = ends e f; table = unfold tablesOf in ap (λ (s : Tables). s .nodes) (a .same) }
+  asked-update : {x y : ℕ} → x ≡ min u v → y ≡ max u v → EdgeUpdate (graphOf n t) (change 1 u v wanted) x y (t .nodes)
+  asked-update e f = record { proper = a .proper; accepted = a .accepted; edge = refl; ends = ends e f; table = unfold tablesOf in ap (λ (s : Tables). s .nodes) (a .same) }
 
   module _ {x y : ℕ} (lx : x ≡ min u v) (my : y ≡ max u v) where
     pub asked₀ : Sound n (t .nodes)
@@ -95,27 +87,27 @@ module _ {n u v : ℕ} {insert : Bool} {t : Tables} (a : Asked n u v insert t) w
         unfolding graphOf
         asked₂ = sound₂ (update-shift (asked-update lx my)) x₁ x₂
 
-        module _ {es ks : List ℕ} (d : Changed u v (t .edges) es) (k : KeysChanged insert u v (t .keys) ks) where
-          edges-after : es ≡ edgesOf (updated (graphOf n t) (edgeUpdate insert u v))
+        module _ {es ks : List ℕ} (d : Changed u v (t .edges) es) (k : KeysChanged (eqb wanted 1) u v (t .keys) ks) where
+          edges-after : es ≡ edgesOf (updated (graphOf n t) (change 1 u v wanted))
           unfolding tablesOf
-          edges-after = edges-updated g c (a .proper) (a .accepted) (edge-kind insert u v) es (subst (λ s. Changed u v s es) (ap (λ (s : Tables). s .edges) (a .same)) d)
+          edges-after = edges-updated g c (a .proper) (a .accepted) refl es (subst (λ s. Changed u v s es) (ap (λ (s : Tables). s .edges) (a .same)) d)
 
-          keys-after : ks ≡ keysOf (updated (graphOf n t) (edgeUpdate insert u v))
+          keys-after : ks ≡ keysOf (updated (graphOf n t) (change 1 u v wanted))
           unfolding tablesOf
           keys-after =
-              keys-updated g c (a .proper) (a .accepted) (edge-kind insert u v) ks
-              (subst (λ b. KeysChanged b u v (keysOf g) ks) (sym (inserts insert u v)) (subst (λ s. KeysChanged insert u v s ks) (ap (λ (s : Tables). s .keys) (a .same)) k))
+              keys-updated g c (a .proper) (a .accepted) refl ks
+              (subst (λ s. KeysChanged (eqb wanted 1) u v s ks) (ap (λ (s : Tables). s .keys) (a .same)) k)
 
           pub asked-ready : Ready n es ks
           unfolding graphOf updated
           asked-ready = rw (edges-after, keys-after) (ready (updated g c) new)
 
-          alike : (p : ℕ) → similarIn n es p ≡ similar (whole (updated (graphOf n t) (edgeUpdate insert u v))) p
+          alike : (p : ℕ) → similarIn n es p ≡ similar (whole (updated (graphOf n t) (change 1 u v wanted))) p
           unfolding graphOf updated
           alike p = ap (λ (s : List ℕ). similarIn n s p) edges-after ∙ ap (λ (f : ℕ → ℕ → Bool). similar (withEdges (whole g) f) p) (edges-in (updated g c) new)
 
           module _ {z₃ : ℕ} {t₃ : List ℕ} (x₃ : Back n x y z₃ (similarIn n es x) t₂ t₃) where
-            back₃ : Back n x y z₃ (similar (whole (updated (graphOf n t) (edgeUpdate insert u v))) x) t₂ t₃
+            back₃ : Back n x y z₃ (similar (whole (updated (graphOf n t) (change 1 u v wanted))) x) t₂ t₃
             back₃ = subst (λ s. Back n x y z₃ s t₂ t₃) (alike x) x₃
 
             pub asked₃ : Sound n t₃
@@ -123,10 +115,10 @@ module _ {n u v : ℕ} {insert : Bool} {t : Tables} (a : Asked n u v insert t) w
             asked₃ = sound₃ (update-shift (asked-update lx my)) x₁ x₂ back₃
 
             module _ {z₄ : ℕ} {t₄ : List ℕ} (x₄ : Back n y y z₄ (similarIn n es y) t₃ t₄) where
-              back₄ : Back n y y z₄ (similar (whole (updated (graphOf n t) (edgeUpdate insert u v))) y) t₃ t₄
+              back₄ : Back n y y z₄ (similar (whole (updated (graphOf n t) (change 1 u v wanted))) y) t₃ t₄
               back₄ = subst (λ s. Back n y y z₄ s t₃ t₄) (alike y) x₄
 
-              pub asked-tables : lent es t₄ ks ≡ tablesOf (updated (graphOf n t) (edgeUpdate insert u v))
+              pub asked-tables : lent es t₄ ks ≡ tablesOf (updated (graphOf n t) (change 1 u v wanted))
               unfolding graphOf tablesOf
               asked-tables =
                   let e₁ = edges-after in
@@ -134,6 +126,6 @@ module _ {n u v : ℕ} {insert : Bool} {t : Tables} (a : Asked n u v insert t) w
                   let e₃ = keys-after in
                   λ i. record { edges = e₁ i; nodes = e₂ i; keys = e₃ i }
 
-              pub asked-answer : {z₁ z₂ : ℕ} → OthersLeft (nodeNumber (t .nodes) x 1) x z₁ → OthersLeft (nodeNumber t₁ y 1) y z₂ → subℕ (z₁ + z₂) (z₃ + z₄) ≡ answer (graphOf n t) (edgeUpdate insert u v)
+              pub asked-answer : {z₁ z₂ : ℕ} → OthersLeft (nodeNumber (t .nodes) x 1) x z₁ → OthersLeft (nodeNumber t₁ y 1) y z₂ → subℕ (z₁ + z₂) (z₃ + z₄) ≡ answer (graphOf n t) (change 1 u v wanted)
               unfolding graphOf
               asked-answer p₁ p₂ = update-answer (asked-update lx my) x₁ x₂ back₃ back₄ p₁ p₂

@@ -27,7 +27,7 @@ ghost use Rattle.rings.specs.Steps.{
   Taken,
   rising,
 };
-ghost use Rattle.groups.specs.Groups.{Asked, edgeUpdate, similarIn};
+ghost use Rattle.groups.specs.Groups.{Asked, change, similarIn};
 use rows::Graph;
 
 // The numbers of a node.
@@ -216,7 +216,7 @@ fn difference(x: usize, y: usize) -> i16
     x as i16 - y as i16
 }
 
-// The edge between u and v inserted or deleted in the three tables: both nodes are taken out, edges and keys changed, and the
+// The edge between u and v as it is wanted, in the three tables: both nodes are taken out, edges and keys changed, and the
 // lesser is put back before the greater. How many groups more there are.
 pub fn update_edge(
     edges: &mut [u64],
@@ -225,17 +225,17 @@ pub fn update_edge(
     n: usize,
     u: usize,
     v: usize,
-    insert: bool,
+    wanted: u16,
 ) -> i16
-    requires { ⌜ Asked n u v insert (lent (now edges) (now nodes) (now keys)) ⌝ }
-    ensures { λ r. ⌜ (lent (now (edges .exit)) (now (nodes .exit)) (now (keys .exit)) ≡ tablesOf (updated (graphOf n (lent (now (edges .entry)) (now (nodes .entry)) (now (keys .entry)))) (edgeUpdate insert u v))) × (r ≡ answer (graphOf n (lent (now (edges .entry)) (now (nodes .entry)) (now (keys .entry)))) (edgeUpdate insert u v)) ⌝ }
+    requires { ⌜ Asked n u v wanted (lent (now edges) (now nodes) (now keys)) ⌝ }
+    ensures { λ r. ⌜ (lent (now (edges .exit)) (now (nodes .exit)) (now (keys .exit)) ≡ tablesOf (updated (graphOf n (lent (now (edges .entry)) (now (nodes .entry)) (now (keys .entry)))) (change 1 u v wanted))) × (r ≡ answer (graphOf n (lent (now (edges .entry)) (now (nodes .entry)) (now (keys .entry)))) (change 1 u v wanted)) ⌝ }
 {
     let a = lesser(u, v);
     let b = greater(u, v);
     let a_left = take_out(nodes, n, a);
     let b_left = take_out(nodes, n, b);
     rows::change_edge(edges, u, v);
-    rows::change_keys(keys, u, v, insert);
+    rows::change_keys(keys, u, v, wanted == 1);
     let a_joined = put_back(edges, nodes, keys, n, a, b);
     let b_joined = put_back(edges, nodes, keys, n, b, b);
     let left = a_left + b_left;

@@ -5,10 +5,10 @@ use mathlib.Core.List.{List, [], _∷_}
 use mathlib.Core.Logic.{_≢_}
 use Prim.Native.Nat.{ℕ, _*_, _%_, _≤_, _<_}
 use native.Mathlib.Omega.{arith}
-use lib.Dec.{eqb, ltb}
+use lib.Dec.{ltb}
 use lib.IntN.{ℤ}
 use lib.ListN.{length}
-use borrow.Author.Tests.{not-true, not-false, eq-eqb, ne-eqb, lt-ltb, le-ltb, ltb-false}
+use borrow.Author.Tests.{not-true, not-false, lt-ltb, le-ltb, ltb-false}
 use Rattle.model.specs.Graph.{emptyGraph, maxNodes, nodeNumbers, whole}
 use Rattle.model.specs.Tables.{Tables, tablesOf, graphOf, holds, edgeBit, edgesIn, nodeNumber, groupIn}
 use Rattle.model.specs.Store.{noStates, storeOf, wrongStore}
@@ -16,15 +16,17 @@ use Rattle.model.specs.Refusals.{firstOf, lengths, wrongSize}
 use Rattle.model.specs.Updates.{updateCount, updateNumbers, wrongBatch}
 use Rattle.model.specs.Calls.{openReasons, openCall, applyReasons, applyRefused, applyCall, neighboursReasons, listRefused, neighboursCall, tiedReasons, tiedRefused, tiedCall, groupReasons, groupRefused, groupCall}
 use Rattle.model.specs.TestLaws.{or-none}
-use Rattle.model.specs.TableLaws.{edge-bit, held-tables, held-proper}
+use Rattle.model.specs.TableLaws.{edge-below, edge-bit, held-tables, held-proper}
 use Rattle.model.specs.RefusalLaws.{call-done, call-refused, first-none}
 use Rattle.index.specs.Index.{opened, applied, tiedOf, grouped}
+use Rattle.rows.specs.Rows.{pairReasons}
+use Rattle.rows.specs.PairLaws.{pair-ends}
 use Rattle.tables.specs.Lent.{tableReasons, Held}
 use Rattle.tables.specs.LentLaws.{sized, table-refused, table-rest, table-held, held-sized}
 use Rattle.updates.specs.Batch.{BatchApplied}
 use Rattle.updates.specs.BatchLaws.{whole-numbers}
 use Rattle.queries.specs.Query.{Reaches, kindBy, leaderAt, ledBy, listed, rowNodes, rowTold}
-use Rattle.queries.specs.QueryLaws.{edge-below, leader-first, row-reached, row-told}
+use Rattle.queries.specs.QueryLaws.{leader-first, row-reached, row-told}
 use Rattle.index.specs.GroupLaws.{l-below, m-below, least-is, leader-told, led-group, kind-told}
 use Rattle.buffers.specs.Scan.{scan}
 use Rattle.model.specs.Grouping.{kindOf}
@@ -129,30 +131,21 @@ module _ (n : ℕ) (t : Tables) (p q r : ℕ) (e : r ≡ firstOf (tableReasons n
   tied-table d = call-refused _ tiedRefused _ r (table-refused n t r e _ d) d
 
   module _ (z : r ≡ 0) where
-    pub tied-first : n ≤ p → tiedOf 14 false ≡ tiedCall n t p q
-    unfolding tiedCall tiedReasons
-    tied-first h = call-refused _ tiedRefused _ 14 (table-rest n t r e z _ ∙ unfold firstOf in rw (le-ltb p n h)) (omega arith)
+    module _ {pair : ℕ} (x : pair ≡ firstOf (pairReasons n p q)) where
+      number : firstOf (tiedReasons n t p q) ≡ pair
+      unfolding tiedReasons pairReasons
+      number = table-rest n t r e z (pairReasons n p q) ∙ sym x
 
-    pub tied-second : p < n → n ≤ q → tiedOf 14 false ≡ tiedCall n t p q
-    unfolding tiedCall tiedReasons
-    tied-second h k = call-refused _ tiedRefused _ 14 (table-rest n t r e z _ ∙ unfold firstOf in rw (lt-ltb p n h, le-ltb q n k)) (omega arith)
+      pub tied-pair : pair ≢ 0 → tiedOf pair false ≡ tiedCall n t p q
+      unfolding tiedCall
+      tied-pair d = call-refused (tiedReasons n t p q) tiedRefused _ pair number d
 
-    module _ (h : p < n) (k : q < n) where
-      pub tied-loop : p ≡ q → tiedOf 15 false ≡ tiedCall n t p q
-      unfolding tiedCall tiedReasons
-      tied-loop d = call-refused _ tiedRefused _ 15 (table-rest n t r e z _ ∙ unfold firstOf in rw (lt-ltb p n h, lt-ltb q n k, eq-eqb p q d)) (omega arith)
-
-      pub tied-done : p ≢ q → {b : Bool} → b ≡ edgeBit (t .edges) p q → tiedOf 0 b ≡ tiedCall n t p q
-      unfolding tiedCall tiedReasons
-      tied-done d {b} w =
-          ap (tiedOf 0) (w ∙ bit)
-          ∙ call-done (tiedReasons n t p q) tiedRefused _ none
-        where
-          none : firstOf (tiedReasons n t p q) ≡ 0
-          none = table-rest n t r e z ((not (ltb p n) || not (ltb q n), 14) ∷ (eqb p q, 15) ∷ []) ∙ unfold firstOf in rw (lt-ltb p n h, lt-ltb q n k, ne-eqb p q d)
-
-          bit : edgeBit (t .edges) p q ≡ graphOf n t .edge p q
-          bit = unfold graphOf edgesIn in rw (lt-ltb p n h, lt-ltb q n k)
+      pub tied-done : pair ≡ 0 → {b : Bool} → b ≡ edgeBit (t .edges) p q → tiedOf 0 b ≡ tiedCall n t p q
+      unfolding tiedCall graphOf edgesIn
+      tied-done d w =
+          let h = pair-ends n p q x d in
+          ap (tiedOf 0) (w ∙ rw (lt-ltb p n (h .0), lt-ltb q n (h .1)))
+          ∙ call-done (tiedReasons n t p q) tiedRefused _ (number ∙ d)
 
 -- group
 module _ (n : ℕ) (t : Tables) (p r : ℕ) (e : r ≡ firstOf (tableReasons n t [])) where

@@ -53,7 +53,7 @@ fn batch_refusal(
     0
 }
 
-// The updates of a batch, three numbers each, in order; each writes its answer. 0, or 11, 12, 18.
+// The updates of a batch, four numbers each, in order; each writes its answer. 0, or 11, 12, 18.
 pub fn apply(
     n: usize,
     edges: &mut [u64],
@@ -121,22 +121,11 @@ pub fn tied(n: usize, edges: &[u64], nodes: &[u16], keys: &[u32], p: u16, q: u16
         };
     }
     let u = p as usize;
-    if u >= n {
-        return IsTied {
-            result: 14,
-            yes: false,
-        };
-    }
     let v = q as usize;
-    if v >= n {
+    let pair = rows::pair_refusal(n, u, v);
+    if pair != 0 {
         return IsTied {
-            result: 14,
-            yes: false,
-        };
-    }
-    if u == v {
-        return IsTied {
-            result: 15,
+            result: pair,
             yes: false,
         };
     }

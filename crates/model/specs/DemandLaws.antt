@@ -24,17 +24,17 @@ use Rattle.model.specs.Reading.{decode, isRelease, summaryBy, summaryIn}
 use Rattle.model.specs.Calls.{Filled, Listed, Measured, Released, applyCall, applyReasons, distanceRefused, dropCall, dropReasons, fileDistanceCall, fileDistanceReasons, fileNeighboursCall, fileNeighboursReasons, fillRefused, groupCall, groupReasons, keepCall, keepReasons, listRefused, listing, neighboursCall, neighboursReasons, onto, openCall, openReasons, readCall, readReasons, releaseCall, releaseReasons, releaseRefused, released, restoreCall, restoreReasons, tiedCall, tiedReasons}
 use Rattle.model.specs.History.{Alike, CallsTold, Room, Source, StoreTold, byHistory, graphOfSource, handedIn, number, opening, roomOf, tablesOfSource}
 use Rattle.model.specs.TestLaws.{differ, fails}
-use Rattle.model.specs.ListLaws.{filter-cong, nodes-ascending}
+use Rattle.model.specs.ListLaws.{Ascending, filter-cong, nodes-ascending, nodes-in}
 use Rattle.model.specs.DistanceLaws.{distance-shortest}
-use Rattle.model.specs.TwinLaws.{similar-sym}
+use Rattle.model.specs.TwinLaws.{Simple, similar-sym}
 use Rattle.model.specs.ClassLaws.{least-in, least-le, least-rel}
 use Rattle.model.specs.HiddenLaws.{seen-equivalence, seen-in}
-use Rattle.model.specs.SummaryLaws.{algorithm1-summarises}
+use Rattle.model.specs.SummaryLaws.{algorithm1-summarises, share-similar, similar-share}
 use Rattle.model.specs.GroupDistanceLaws.{distance-by-groups, summarises-unfolds}
 use Rattle.model.specs.FewestLaws.{fewest}
 use Rattle.model.specs.TableLaws.{groups-told, held-proper, held-tables, proper-holds, proper-simple, read-back, simple-test}
 use Rattle.model.specs.ReleaseLaws.{alike-visible, length-release, non-interference, visible-ascending, visible-simple, alike-node}
-use Rattle.model.specs.UpdateLaws.{answer-accepted, answer-near, update-refused, wanted-there}
+use Rattle.model.specs.UpdateLaws.{answer-accepted, answer-near, update-refused, wanted-holds}
 use Rattle.model.specs.HistoryLaws.{Kept, history-told, lengths-of, lengthsFor, name-stays, opened-size, returned, right-size, size-right}
 use Rattle.model.specs.RefusalLaws.{first-below, judged-refused, judged-result}
 use Rattle.model.specs.ReadingLaws.{marked, summary-encode, told-count, told-similar, told-summarises}
@@ -165,9 +165,19 @@ module _ (g : Graph) (h : Proper g) where
 grouped-exactly : (l : Lengths) (g : Graph) (t : Tables) → Kept l g t → GroupedExactly g t
 grouped-exactly l g t h = record {
   groups = told;
-  exact = rw (told, ap (graphOf (g .nodeCount)) (h .tables) ∙ read-back g (h .proper)) (algorithm1-summarises (whole g) (proper-simple g (h .proper)) (nodes-ascending (g .nodeCount)));
+  shared = λ p q hp hq. let mp = nodes-in n p hp in let mq = nodes-in n q hq in rw told (share-similar (whole g) simple asc p q mp mq, similar-share (whole g) simple asc p q mp mq);
+  exact = rw (told, ap (graphOf n) (h .tables) ∙ read-back g (h .proper)) (algorithm1-summarises (whole g) simple asc);
 }
   where
+    n : ℕ
+    n = g .nodeCount
+
+    simple : Simple (whole g)
+    simple = proper-simple g (h .proper)
+
+    asc : Ascending (nodes (g .nodeCount))
+    asc = nodes-ascending (g .nodeCount)
+
     told : groupsIn (g .nodeCount) (t .nodes) ≡ algorithm1 (whole g)
     told = ap (λ (x : Tables). groupsIn (g .nodeCount) (x .nodes)) (h .tables) ∙ unfold tablesOf in groups-told g (h .proper)
 
@@ -369,7 +379,7 @@ demand2 = record {
       let h = history-told s n cs ok .0 in
       record { back = returned n l w _ _ h name ds z; stays = name-stays n l w _ _ h name ds z };
   grouped = λ x. grouped-exactly (lengths (tablesOfSource x)) (graphOfSource x) (tablesOfSource x) (kept x);
-  answered = λ x c ok. record { effect = wanted-there (graphOfSource x) c; difference = answer-accepted (graphOfSource x) c ok; range = answer-near (graphOfSource x) c (kept x .proper) ok };
+  answered = λ x c ok. record { effect = wanted-holds (graphOfSource x) c (kept x .proper) ok; difference = answer-accepted (graphOfSource x) c ok; range = answer-near (graphOfSource x) c (kept x .proper) ok };
   unfolded = λ x. file-summarises (graphOfSource x) (kept x .proper);
   reading = read-exactly;
   asking = asked-exactly;

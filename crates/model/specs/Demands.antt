@@ -10,13 +10,13 @@ use lib.IntN.{ℤ, pos, subℕ, natAbs}
 use lib.ListN.{length}
 use Rattle.model.specs.Graph.{Graph, Proper, View, emptyGraph, whole}
 use Rattle.model.specs.Lists.{_∈_, filter, nodes}
-use Rattle.model.specs.Grouping.{algorithm1}
-use Rattle.model.specs.Summary.{Summarises, Summary, summaryOf}
+use Rattle.model.specs.Grouping.{algorithm1, similar}
+use Rattle.model.specs.Summary.{Share, Summarises, Summary, summaryOf}
 use Rattle.model.specs.Tables.{Tables, graphOf, groupsIn, tablesOf}
 use Rattle.model.specs.Store.{isKept, keptGraph, placesIn}
 use Rattle.model.specs.Steps.{run}
 use Rattle.model.specs.Refusals.{Reasons, firstOf, lengths, wrongSize}
-use Rattle.model.specs.Updates.{Update, answer, answers, batchGraph, groupCount, refusal, updateReasons, updated, there, wanted}
+use Rattle.model.specs.Updates.{Update, answer, answers, batchGraph, groupCount, refusal, updateReasons, updated, there}
 use Rattle.model.specs.Release.{release, superedgeCount, visible, visibleGroups, visiblePart, isVisible}
 use Rattle.model.specs.Reading.{summaryIn}
 use Rattle.model.specs.Queries.{leaderIn, pairs}
@@ -39,7 +39,7 @@ pub record Demand1 : Type 0 where
   pub batch : (n : ℕ) (t : Tables) (xs : List ℕ) (out : List ℤ) → Refuses (λ (o : Applied). o .result) (applyRefused t out) (11 ∷ 12 ∷ 18 ∷ []) (applyReasons n t xs out) (applyCall n t xs out)
   -- an update of a batch: a refused one only writes its number among the answers
   pub update : (g : Graph) (c : Update) (cs : List Update) → Refuses (λ (o : ℕ × Graph × List ℤ). o .0) (λ r. (r, batchGraph g cs, pos r ∷ answers g cs))
-      (13 ∷ 14 ∷ 15 ∷ 16 ∷ 17 ∷ []) (updateReasons g c) (refusal g c, batchGraph g (c ∷ cs), answers g (c ∷ cs))
+      (13 ∷ 14 ∷ 15 ∷ 16 ∷ []) (updateReasons g c) (refusal g c, batchGraph g (c ∷ cs), answers g (c ∷ cs))
   pub neighbours : (n : ℕ) (t : Tables) (p : ℕ) (out : List ℕ) → Refuses (λ (o : Listed). o .result) (listRefused out) (11 ∷ 12 ∷ 14 ∷ 18 ∷ []) (neighboursReasons n t p out) (neighboursCall n t p out)
   pub tied : (n : ℕ) (t : Tables) (p q : ℕ) → Refuses (λ (o : Tied). o .result) tiedRefused (11 ∷ 12 ∷ 14 ∷ 15 ∷ []) (tiedReasons n t p q) (tiedCall n t p q)
   pub group : (n : ℕ) (t : Tables) (p : ℕ) → Refuses (λ (o : Grouped). o .result) groupRefused (11 ∷ 12 ∷ 14 ∷ []) (groupReasons n t p) (groupCall n t p)
@@ -57,13 +57,14 @@ pub record Demand1 : Type 0 where
 pub record GroupedExactly (g : Graph) (t : Tables) : Type 0 where
   -- the groups are exactly those of Algorithm 1
   pub groups : groupsIn (g .nodeCount) (t .nodes) ≡ algorithm1 (whole g)
+  -- two nodes stand in one of them exactly if line 6 of Algorithm 1 holds for the two
+  pub shared : (p q : ℕ) → p < g .nodeCount → q < g .nodeCount → Share (groupsIn (g .nodeCount) (t .nodes)) p q ↔ (similar (whole g) p q ≡ true)
   -- unfolding them, with the kinds and superedges that the tables tell, gives exactly the edges that the accepted updates leave
   pub exact : Summarises (whole g) (summaryOf (whole (graphOf (g .nodeCount) t)) (groupsIn (g .nodeCount) (t .nodes)))
 
--- what an accepted update wants is there after it, and it answers with the groups after it minus the groups before it, from
--- -2 to 2
+-- what an accepted update wants holds after it, and it answers with the groups after it minus the groups before it, from -2 to 2
 pub record Answered (g : Graph) (c : Update) : Type 0 where
-  pub effect : there (updated g c) c ≡ wanted c
+  pub effect : there (updated g c) c ≡ c .wanted
   pub difference : answer g c ≡ subℕ (groupCount (updated g c)) (groupCount g)
   pub range : natAbs (answer g c) ≤ 2
 

@@ -18,7 +18,7 @@ use Rattle.model.specs.ClassLaws.{Equivalence, least-in, least-le, least
 use Rattle.model.specs.SummaryLaws.{equivalence}
 use Rattle.model.specs.ReleaseLaws.{visible-ascending, visible-simple}
 use Rattle.model.specs.ReadBackLaws.{visible-inside}
-use Rattle.model.specs.TableLaws.{proper-simple}
+use Rattle.model.specs.TableLaws.{edge-below, proper-simple}
 
 pub seen-in : (g : Graph) (p : ℕ) → isVisible g p ≡ true → p ∈ visible g .nodes
 seen-in g p h = filter-intro (isVisible g) (nodes (g .nodeCount)) p (nodes-in (g .nodeCount) p (visible-inside g p h)) h
@@ -114,7 +114,7 @@ module _ (g : Graph) (proper : Proper g) where
   edge-outside p q l = step (decide (g .edge p q))
     where
       step : (g .edge p q ≡ true) ⊎ (g .edge p q ≡ false) → g .edge p q ≡ false
-      step (inl t) = absurd (omega (arith, proper .inside q p (proper .symmetric q p ∙ t)))
+      step (inl t) = absurd (omega (arith, edge-below g proper p q t))
       step (inr t) = t
 
   pub isolated-similar : (p q : ℕ) → Lone p → Lone q → similar (whole g) p q ≡ true

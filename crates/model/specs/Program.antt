@@ -56,24 +56,24 @@ abbrev pub field : List (List ℕ) → ℕ → List ℕ
 field fs i = getD fs i []
 
 unfoldable pub edgeLine : ℕ → List (List ℕ) → Line
-edgeLine kind fs =
+edgeLine wanted fs =
     cond (eqb (length fs) 3 && (isNumber (field fs 1) && isNumber (field fs 2)))
-    (change (record { kind = kind; u = valueOf 0 (field fs 1); v = valueOf 0 (field fs 2) }))
+    (change (record { kind = 1; u = valueOf 0 (field fs 1); v = valueOf 0 (field fs 2); wanted = wanted }))
     illFormed
 
 unfoldable pub markLine : ℕ → List (List ℕ) → Line
-markLine kind fs =
+markLine wanted fs =
     cond (eqb (length fs) 2 && isNumber (field fs 1))
-    (change (record { kind = kind; u = valueOf 0 (field fs 1); v = 0 }))
+    (change (record { kind = 2; u = valueOf 0 (field fs 1); v = 0; wanted = wanted }))
     illFormed
 
 unfoldable pub lineOf : List ℕ → Line
 lineOf line =
     let fs : List (List ℕ) = pieces 0x20 line in
     cond (sameList (field fs 0) (text "t")) (edgeLine 1 fs)
-    (cond (sameList (field fs 0) (text "u")) (edgeLine 2 fs)
-    (cond (sameList (field fs 0) (text "w")) (markLine 3 fs)
-    (cond (sameList (field fs 0) (text "o")) (markLine 4 fs)
+    (cond (sameList (field fs 0) (text "u")) (edgeLine 0 fs)
+    (cond (sameList (field fs 0) (text "w")) (markLine 1 fs)
+    (cond (sameList (field fs 0) (text "o")) (markLine 0 fs)
     illFormed)))
 
 -- the input: refused at a line, or n and its changes

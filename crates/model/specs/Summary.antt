@@ -1,7 +1,7 @@
 -- Document 01, "Unfolding" and "A division": what a summary of a graph is, ours and every rival's.
 use mathlib.Core.Path.{_≡_}
 use mathlib.Core.Bool.{Bool, not, _&&_, _||_, cond}
-use mathlib.Core.List.{List, [], _∷_}
+use mathlib.Core.List.{List, [], _∷_, List·Memᴰ}
 use Prim.Native.Nat.{ℕ, suc, _<_}
 use lib.Dec.{eqb}
 use lib.ListN.{length, getD}
@@ -32,6 +32,10 @@ pub record Summarises (v : View) (d : Summary) : Type 0 where
   pub placed : (p : ℕ) → p ∈ v .nodes → d .groupOf p < d .count
   pub inhabited : (i : ℕ) → i < d .count → (p : ℕ) × (p ∈ v .nodes) × (d .groupOf p ≡ i)
   pub exact : (p q : ℕ) → p ∈ v .nodes → q ∈ v .nodes → reconstruct d p q ≡ v .edge p q
+
+-- p and q stand in one group of a list of groups
+abbrev pub Share : List (List ℕ) → ℕ → ℕ → Type 0
+Share gs p q = (g : List ℕ) × List·Memᴰ g gs × (p ∈ g) × (q ∈ g)
 
 -- the place of p's group in a list of groups
 unfoldable pub position : ℕ → List (List ℕ) → ℕ

@@ -1,7 +1,7 @@
 -- Algorithm 1's groups are the classes of line 6, and their summary reconstructs the edges that they came from.
 use mathlib.Core.Path.{_≡_, refl, sym, ap, _∙_}
 use mathlib.Core.Bool.{Bool, true, false, not, _&&_, _||_, cond, and-false}
-use mathlib.Core.List.{List, [], _∷_, List·Memᴰ, List·Memᴰ·head}
+use mathlib.Core.List.{List, [], _∷_, List·Memᴰ·head}
 use mathlib.Core.Logic.{_⊎_, inl, inr}
 use Prim.Native.Nat.{ℕ, _<_}
 use native.Mathlib.Omega.{arith}
@@ -11,15 +11,11 @@ use borrow.Author.Tests.{eqb-true, eqb-false, lt-leb}
 use Rattle.model.specs.Lists.{_∈_, any}
 use Rattle.model.specs.Graph.{View}
 use Rattle.model.specs.Grouping.{adjacent, algorithm1, clique, closed, falseTwins, group, independent, isClique, kindOf, leaders, least, similar, trueTwins}
-use Rattle.model.specs.Summary.{Summarises, position, reconstruct, summaryOf}
+use Rattle.model.specs.Summary.{Share, Summarises, position, reconstruct, summaryOf}
 use Rattle.model.specs.TestLaws.{and-one, decide, differ, iff-eq, or-cases, or-left, or-same}
 use Rattle.model.specs.ListLaws.{Ascending, any-elim, any-intro, map-in, map-out}
 use Rattle.model.specs.TwinLaws.{Simple, falseTwins-at, falseTwins-no-edge, never-mixed, similar-cases, similar-refl, similar-sym, similar-trans, trueTwins-at, trueTwins-edge}
 use Rattle.model.specs.ClassLaws.{Equivalence, class-group, class-in, class-inhabited, classes, greedy-leaders, group-in, group-out, leader-out, least-in, least-leads, least-rel, length-classes, position-same}
-
--- p and q stand in one group of gs
-abbrev pub Share : List (List ℕ) → ℕ → ℕ → Type 0
-Share gs p q = (g : List ℕ) × List·Memᴰ g gs × (p ∈ g) × (q ∈ g)
 
 module _ (v : View) (g : Simple v) (asc : Ascending (v .nodes)) where
   abbrev r : ℕ → ℕ → Bool

@@ -113,6 +113,10 @@ mark-test true = refl
 mark-test false = refl
 
 -- reading back what a graph wrote
+-- the other end of an edge is a node
+pub edge-below : (g : Graph) → Proper g → (p q : ℕ) → g .edge p q ≡ true → q < g .nodeCount
+edge-below g h p q t = h .inside q p (h .symmetric q p ∙ t)
+
 module _ (b : Graph) (h : Proper b) where
   back-edge : (p q : ℕ) → (ltb p (b .nodeCount) && (ltb q (b .nodeCount) && edgeBit (edgesOf b) p q)) ≡ b .edge p q
   back-edge p q = step (decide (ltb p (b .nodeCount))) (decide (ltb q (b .nodeCount)))
@@ -127,7 +131,7 @@ module _ (b : Graph) (h : Proper b) where
       step : (ltb p (b .nodeCount) ≡ true) ⊎ (ltb p (b .nodeCount) ≡ false) → (ltb q (b .nodeCount) ≡ true) ⊎ (ltb q (b .nodeCount) ≡ false)
           → (ltb p (b .nodeCount) && (ltb q (b .nodeCount) && edgeBit (edgesOf b) p q)) ≡ b .edge p q
       step (inl x) (inl y) = rw (x, y) (edge-bit b p q (ltb-true p (b .nodeCount) x) (omega (arith, ltb-true q (b .nodeCount) y, h .small)))
-      step (inl x) (inr y) = rw (x, y) (outside (λ t. omega (arith, h .inside q p (h .symmetric q p ∙ t), ltb-false q (b .nodeCount) y)))
+      step (inl x) (inr y) = rw (x, y) (outside (λ t. omega (arith, edge-below b h p q t, ltb-false q (b .nodeCount) y)))
       step (inr x) y = rw x (outside (λ t. omega (arith, h .inside p q t, ltb-false p (b .nodeCount) x)))
 
   back-hidden : (mark : ℕ → ℕ) → ((p : ℕ) → p < b .nodeCount → mark p ≡ cond (b .hidden p) 1 0) → (p : ℕ) → (ltb p (b .nodeCount) && eqb (mark p) 1) ≡ b .hidden p

@@ -11,7 +11,7 @@ use lib.ListN.{length, getD, drop}
 use lib.Seq.{drop-cons}
 use borrow.Author.Tests.{eqb-true, eqb-false, eq-eqb, ne-eqb, ltb-true, ltb-false, not-false}
 use Rattle.model.specs.Graph.{Graph, Proper, emptyGraph, maxNodes, whole}
-use Rattle.model.specs.Updates.{Update, answer, answers, batchGraph, groupCount, isPair, onEdge, refusal, updateReasons, updated, there, update, updateCount, updateNumbers, updateRefused, updatesIn, wanted}
+use Rattle.model.specs.Updates.{Update, answer, answers, batchGraph, groupCount, isPair, onEdge, refusal, updateReasons, updated, there, update, updateCount, updateNumbers, updateRefused, updatesIn}
 use Rattle.model.specs.Lists.{all, nodes}
 use Rattle.model.specs.Steps.{Stepped, run}
 use Rattle.model.specs.TestLaws.{and-fst, and-snd, decide, differ, or-cases, or-none}
@@ -27,14 +27,13 @@ proper-empty n h = record { small = h; symmetric = λ p q. refl; irreflexive = �
 
 -- an accepted update
 module _ (g : Graph) (c : Update) (h : Proper g) (ok : refusal g c ≡ 0) where
-  facts : (not (ltb (c .u) (g .nodeCount)) || (onEdge c && not (ltb (c .v) (g .nodeCount))) ≡ false) × (cond (onEdge c) (eqb (c .u) (c .v)) (not (eqb (c .v) 0)) ≡ false) × ((wanted c && there g c) ≡ false) × (not (wanted c || there g c) ≡ false)
+  facts : (not (ltb (c .u) (g .nodeCount)) || (onEdge c && not (ltb (c .v) (g .nodeCount))) ≡ false) × ((ltb 1 (c .wanted) || cond (onEdge c) (eqb (c .u) (c .v)) (not (eqb (c .v) 0))) ≡ false) × (eqb (there g c) (c .wanted) ≡ false)
   unfolding refusal updateReasons
   facts =
       let a = first-none _ 13 _ refl ok in
       let d = first-none _ 14 _ refl (a .1) in
       let e = first-none _ 15 _ refl (d .1) in
-      let f = first-none _ 16 _ refl (e .1) in
-      (d .0, e .0, f .0, first-none _ 17 _ refl (f .1) .0)
+      (d .0, e .0, first-none _ 16 _ refl (e .1) .0)
 
   pub u-inside : c .u < g .nodeCount
   u-inside = ltb-true (c .u) (g .nodeCount) (not-false _ (or-none (not (ltb (c .u) (g .nodeCount))) _ (facts .0) .0))
@@ -43,15 +42,25 @@ module _ (g : Graph) (c : Update) (h : Proper g) (ok : refusal g c ≡ 0) where
   v-inside t = ltb-true (c .v) (g .nodeCount) (not-false _ (sym (ap (λ (x : Bool). x && not (ltb (c .v) (g .nodeCount))) t) ∙ or-none (not (ltb (c .u) (g .nodeCount))) _ (facts .0) .1))
 
   pub apart : onEdge c ≡ true → c .u ≡ c .v → ⊥
-  apart t = eqb-false (c .u) (c .v) (sym (ap (λ (x : Bool). cond x (eqb (c .u) (c .v)) (not (eqb (c .v) 0))) t) ∙ facts .1)
+  apart t = eqb-false (c .u) (c .v) (sym (ap (λ (x : Bool). cond x (eqb (c .u) (c .v)) (not (eqb (c .v) 0))) t) ∙ or-none (ltb 1 (c .wanted)) _ (facts .1) .1)
 
-  -- what is wanted is not there before
-  pub there-before : there g c ≡ not (wanted c)
-  there-before = step (wanted c) (there g c) (facts .2) (facts .3)
+  wanted-below : c .wanted ≤ 1
+  wanted-below = ltb-false 1 (c .wanted) (or-none (ltb 1 (c .wanted)) _ (facts .1) .0)
+
+  pub wanted-bit : cond (eqb (c .wanted) 1) 1 0 ≡ c .wanted
+  wanted-bit = step (decide (eqb (c .wanted) 1))
     where
-      step : (w b : Bool) → (w && b) ≡ false → not (w || b) ≡ false → b ≡ not w
-      step true b x y = x
-      step false b x y = not-false b y
+      step : (eqb (c .wanted) 1 ≡ true) ⊎ (eqb (c .wanted) 1 ≡ false) → cond (eqb (c .wanted) 1) 1 0 ≡ c .wanted
+      step (inl x) = rw x (sym (eqb-true (c .wanted) 1 x))
+      step (inr x) = rw x (omega (arith, wanted-below, eqb-false (c .wanted) 1 x))
+
+  -- an edge is there before exactly if it is not wanted
+  pub edge-before : onEdge c ≡ true → g .edge (c .u) (c .v) ≡ not (eqb (c .wanted) 1)
+  edge-before t = step (g .edge (c .u) (c .v)) (sym (ap (λ (x : Bool). eqb (cond (cond x (g .edge (c .u) (c .v)) (g .hidden (c .u))) 1 0) (c .wanted)) t) ∙ facts .2)
+    where
+      step : (b : Bool) → eqb (cond b 1 0) (c .wanted) ≡ false → b ≡ not (eqb (c .wanted) 1)
+      step true x = rw (ne-eqb (c .wanted) 1 (λ e. eqb-false 1 (c .wanted) x (sym e)))
+      step false x = rw (eq-eqb (c .wanted) 1 (omega (arith, wanted-below, eqb-false 0 (c .wanted) x)))
 
   pair-sym : (p q : ℕ) → isPair (c .u) (c .v) p q ≡ isPair (c .u) (c .v) q p
   pair-sym p q = ap₂ _||_ (and-comm (eqb p (c .u)) (eqb q (c .v))) (and-comm (eqb p (c .v)) (eqb q (c .u))) ∙ or-comm (eqb q (c .v) && eqb p (c .u)) (eqb q (c .u) && eqb p (c .v))
@@ -99,6 +108,15 @@ module _ (g : Graph) (c : Update) (h : Proper g) (ok : refusal g c ≡ 0) where
   unfolding updated
   rows-kept p r x y = rw (ne-eqb p (c .u) x, ne-eqb p (c .v) y, and-false (onEdge c))
 
+  -- what is wanted holds after it
+  pub wanted-holds : there (updated g c) c ≡ c .wanted
+  unfolding updated
+  wanted-holds = rw (eq-eqb (c .u) (c .u) refl, eq-eqb (c .v) (c .v) refl) (step (onEdge c) ∙ wanted-bit)
+    where
+      step : (b : Bool) → _≡_ {A = ℕ} (cond (cond b (cond (b && true) (eqb (c .wanted) 1) (g .edge (c .u) (c .v))) (cond (not b && true) (eqb (c .wanted) 1) (g .hidden (c .u)))) 1 0) (cond (eqb (c .wanted) 1) 1 0)
+      step true = refl
+      step false = refl
+
   pub answer-range : (groupCount (updated g c) ≤ 2 + groupCount g) × (groupCount g ≤ 2 + groupCount (updated g c))
   unfolding groupCount updated
   answer-range = (
@@ -110,18 +128,9 @@ pub updated-count : (g : Graph) (c : Update) → updated g c .nodeCount ≡ g .n
 unfolding updated
 updated-count g c = refl
 
-pub refusal-below : (g : Graph) (c : Update) → refusal g c < 18
+pub refusal-below : (g : Graph) (c : Update) → refusal g c < 17
 unfolding refusal updateReasons all
-refusal-below g c = first-below 18 (updateReasons g c) (omega arith) refl
-
--- what is wanted is there after it
-pub wanted-there : (g : Graph) (c : Update) → there (updated g c) c ≡ wanted c
-unfolding updated
-wanted-there g c = rw (eq-eqb (c .u) (c .u) refl, eq-eqb (c .v) (c .v) refl) (step (onEdge c))
-  where
-    step : (b : Bool) → cond b (cond (b && true) (wanted c) (g .edge (c .u) (c .v))) (cond (not b && true) (wanted c) (g .hidden (c .u))) ≡ wanted c
-    step true = refl
-    step false = refl
+refusal-below g c = first-below 17 (updateReasons g c) (omega arith) refl
 
 -- an update of a batch, accepted and refused
 pub update-accepted : (g : Graph) (c : Update) → refusal g c ≡ 0 → update g c ≡ record { outcome = subℕ (groupCount (updated g c)) (groupCount g); after = updated g c }
@@ -179,12 +188,14 @@ unfolding updatesIn updateCount
 length-updates [] = refl
 length-updates (k ∷ []) = refl
 length-updates (k ∷ (u ∷ [])) = refl
-length-updates (k ∷ (u ∷ (v ∷ rest))) = omega (arith, length-updates rest)
+length-updates (k ∷ (u ∷ (v ∷ []))) = refl
+length-updates (k ∷ (u ∷ (v ∷ (w ∷ rest)))) = omega (arith, length-updates rest)
 
-pub updates-next : (xs : List ℕ) (a : ℕ) → a + updateNumbers ≤ length xs → updatesIn (drop a xs) ≡ (record { kind = getD xs a 0; u = getD xs (a + 1) 0; v = getD xs (a + 2) 0 } ∷ updatesIn (drop (a + updateNumbers) xs))
+pub updates-next : (xs : List ℕ) (a : ℕ) → a + updateNumbers ≤ length xs → updatesIn (drop a xs) ≡ (record { kind = getD xs a 0; u = getD xs (a + 1) 0; v = getD xs (a + 2) 0; wanted = getD xs (a + 3) 0 } ∷ updatesIn (drop (a + updateNumbers) xs))
 unfolding updatesIn
 updates-next xs a h =
     let e₁ : a + 1 ≡ suc a = omega arith in
     let e₂ : a + 2 ≡ suc (suc a) = omega arith in
     let e₃ : a + 3 ≡ suc (suc (suc a)) = omega arith in
-    rw (e₁, e₂, e₃, drop-cons xs a 0 (omega arith), drop-cons xs (suc a) 0 (omega arith), drop-cons xs (suc (suc a)) 0 (omega arith))
+    let e₄ : a + 4 ≡ suc (suc (suc (suc a))) = omega arith in
+    rw (e₁, e₂, e₃, e₄, drop-cons xs a 0 (omega arith), drop-cons xs (suc a) 0 (omega arith), drop-cons xs (suc (suc a)) 0 (omega arith), drop-cons xs (suc (suc (suc a))) 0 (omega arith))

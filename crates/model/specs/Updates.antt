@@ -10,31 +10,27 @@ use Rattle.model.specs.Grouping.{algorithm1}
 use Rattle.model.specs.Refusals.{Reasons, firstOf, judged}
 use Rattle.model.specs.Steps.{Stepped, run}
 
--- kinds: 1 insert (tie), 2 delete (untie), 3 hide (withhold) u, 4 reveal (reopen) u; for 3 and 4, v is 0
+-- kinds: 1 the edge (tie) between u and v, 2 u's mark, where v is 0; wanted is 1 for tied or withheld, 0 for not
 pub record Update : Type 0 where
   pub kind : ℕ
   pub u : ℕ
   pub v : ℕ
+  pub wanted : ℕ
 
 -- about the edge between u and v, or about u's mark
 abbrev pub onEdge : Update → Bool
-onEdge c = eqb (c .kind) 1 || eqb (c .kind) 2
+onEdge c = eqb (c .kind) 1
 
--- wants an edge there, or u hidden
-abbrev pub wanted : Update → Bool
-wanted c = eqb (c .kind) 1 || eqb (c .kind) 3
-
--- an edge is there, or u is hidden
-abbrev pub there : Graph → Update → Bool
-there g c = cond (onEdge c) (g .edge (c .u) (c .v)) (g .hidden (c .u))
+-- what holds, in the number that it is wanted by: 1 if the edge is there, or u is hidden
+abbrev pub there : Graph → Update → ℕ
+there g c = cond (cond (onEdge c) (g .edge (c .u) (c .v)) (g .hidden (c .u))) 1 0
 
 unfoldable pub updateReasons : Graph → Update → Reasons
 updateReasons g c =
-    (not (ltb 0 (c .kind) && ltb (c .kind) 5), 13)
+    (not (onEdge c || eqb (c .kind) 2), 13)
     ∷ (not (ltb (c .u) (g .nodeCount)) || (onEdge c && not (ltb (c .v) (g .nodeCount))), 14)
-    ∷ (cond (onEdge c) (eqb (c .u) (c .v)) (not (eqb (c .v) 0)), 15)
-    ∷ (wanted c && there g c, 16)
-    ∷ (not (wanted c || there g c), 17)
+    ∷ (ltb 1 (c .wanted) || cond (onEdge c) (eqb (c .u) (c .v)) (not (eqb (c .v) 0)), 15)
+    ∷ (eqb (there g c) (c .wanted), 16)
     ∷ []
 
 unfoldable pub refusal : Graph → Update → ℕ
@@ -44,12 +40,12 @@ refusal g c = firstOf (updateReasons g c)
 abbrev pub isPair : ℕ → ℕ → ℕ → ℕ → Bool
 isPair u v p q = (eqb p u && eqb q v) || (eqb p v && eqb q u)
 
--- an accepted update: what is wanted is there after it
+-- an accepted update: what is wanted holds after it
 unfoldable pub updated : Graph → Update → Graph
 updated g c = record {
   nodeCount = g .nodeCount;
-  edge = λ p q. cond (onEdge c && isPair (c .u) (c .v) p q) (wanted c) (g .edge p q);
-  hidden = λ p. cond (not (onEdge c) && eqb p (c .u)) (wanted c) (g .hidden p);
+  edge = λ p q. cond (onEdge c && isPair (c .u) (c .v) p q) (eqb (c .wanted) 1) (g .edge p q);
+  hidden = λ p. cond (not (onEdge c) && eqb p (c .u)) (eqb (c .wanted) 1) (g .hidden p);
 }
 
 -- the groups of the whole graph
@@ -75,9 +71,9 @@ batchGraph g cs = run update g cs .after
 unfoldable pub answers : Graph → List Update → List ℤ
 answers g cs = run update g cs .outcome
 
--- a batch is lent as numbers, three for each update
+-- a batch is lent as numbers, four for each update
 abbrev pub updateNumbers : ℕ
-updateNumbers = 3
+updateNumbers = 4
 
 unfoldable pub updateCount : List ℕ → ℕ
 updateCount xs = length xs / updateNumbers
@@ -86,8 +82,9 @@ unfoldable pub updatesIn : List ℕ → List Update
 updatesIn [] = []
 updatesIn (k ∷ []) = []
 updatesIn (k ∷ (u ∷ [])) = []
-updatesIn (k ∷ (u ∷ (v ∷ rest))) = record { kind = k; u = u; v = v } ∷ updatesIn rest
+updatesIn (k ∷ (u ∷ (v ∷ []))) = []
+updatesIn (k ∷ (u ∷ (v ∷ (w ∷ rest)))) = record { kind = k; u = u; v = v; wanted = w } ∷ updatesIn rest
 
--- 11: not in threes, or over 4,096 updates
+-- 11: not in fours, or over 4,096 updates
 unfoldable pub wrongBatch : List ℕ → Bool
 wrongBatch xs = not (eqb (length xs % updateNumbers) 0) || ltb maxUpdates (updateCount xs)

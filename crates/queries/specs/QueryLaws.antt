@@ -19,7 +19,7 @@ use Rattle.model.specs.Queries.{leaderIn, neighbours, pairs}
 use Rattle.model.specs.Calls.{Listed, listRefused, listing}
 use Rattle.model.specs.TestLaws.{fails}
 use Rattle.model.specs.ListLaws.{filter-elim}
-use Rattle.model.specs.TableLaws.{length-blocks, map-cong}
+use Rattle.model.specs.TableLaws.{edge-below, length-blocks, map-cong}
 use Rattle.rows.specs.BitLaws.{word-bit}
 use Rattle.buffers.specs.Scan.{Counting, scan}
 use Rattle.buffers.specs.ScanLaws.{scan-cong, scan-cut, scan-length, scan-nodes}
@@ -121,10 +121,6 @@ unfolding nodeNumber
 leader-first t q =
     let e : nodeNumbers * q ≡ nodeNumbers * q + 0 = omega arith in
     ap (λ (i : ℕ). getD t i 0) e
-
--- both ends of an edge are nodes
-pub edge-below : (g : Graph) → Proper g → (p q : ℕ) → g .edge p q ≡ true → q < g .nodeCount
-edge-below g h p q t = h .inside q p (h .symmetric q p ∙ t)
 
 -- a row with p's edges in g
 module _ (g : Graph) (h : Proper g) (p : ℕ) (row : List ℕ) (bits : (q : ℕ) → q < maxNodes → edgeBit row 0 q ≡ g .edge p q) where

@@ -14,7 +14,7 @@ use Rattle.model.specs.Lists.{filter, from, nodes}
 use Rattle.model.specs.Graph.{Graph, Proper, whole}
 use Rattle.model.specs.Grouping.{leaders, least, similar}
 use Rattle.model.specs.Tables.{nodeNumber, nodesOf}
-use Rattle.model.specs.Updates.{Update, answer, groupCount, onEdge, refusal, updated, wanted}
+use Rattle.model.specs.Updates.{Update, answer, groupCount, onEdge, refusal, updated}
 use Rattle.model.specs.TestLaws.{decide}
 use Rattle.model.specs.ListLaws.{nodes-ascending}
 use Rattle.model.specs.SummaryLaws.{length-groups}
@@ -127,7 +127,7 @@ module _ {g : Graph} {c : Update} {u v : ℕ} {t : List ℕ} (a : EdgeUpdate g c
         is-nodes (updated g c) new (moved update-shift x₁ x₂ x₃ x₄) (moved-size update-shift x₁ x₂ x₃ x₄)
         (λ p hp. moved-rest update-shift x₁ x₂ x₃ x₄ p 3 hp (omega arith) (omega arith) ∙ ap (λ x. nodeNumber x p 3) (a .table) ∙ mark-at g p hp ∙ marks p)
       where
-        marks : (p : ℕ) → _≡_ {A = ℕ} (cond (g .hidden p) 1 0) (cond (cond (not (onEdge c) && eqb p (c .u)) (wanted c) (g .hidden p)) 1 0)
+        marks : (p : ℕ) → _≡_ {A = ℕ} (cond (g .hidden p) 1 0) (cond (cond (not (onEdge c) && eqb p (c .u)) (eqb (c .wanted) 1) (g .hidden p)) 1 0)
         marks p = rw (a .edge) refl
 
     pub update-answer : {z₁ z₂ : ℕ} → OthersLeft (nodeNumber t u 1) u z₁ → OthersLeft (nodeNumber t₁ v 1) v z₂ → subℕ (z₁ + z₂) (z₃ + z₄) ≡ answer g c

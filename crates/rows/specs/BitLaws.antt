@@ -11,6 +11,7 @@ use lib.Dec.{eqb, ltb, lit<}
 use lib.ListN.{length, getD, set, take, drop, length-set}
 use lib.Pow.{pow-add, pow-lt, shl-exact, shl-shr, mod-pow-add}
 use lib.Seq.{getD-drop, getD-set-other, getD-set-same, getD-take}
+use mir.Val.{boolByte}
 use borrow.Author.Tests.{eqb-true, eqb-false, eq-eqb, ne-eqb, ltb-true, ltb-false}
 use Rattle.model.specs.Tables.{bitAt, edgeBit, word}
 use Rattle.model.specs.TestLaws.{and-fst, decide, iff-eq}
@@ -24,6 +25,11 @@ shift-and-mask q = (refl, and-mask q 6)
 pub bit-tested : (x q : ℕ) {k : ℕ} → k ≡ q % 64 → eqb (bitAnd (x / 2 ^ k) 1) 1 ≡ bitAt x (q % 64)
 unfolding bitAt
 bit-tested x q e = rw (e, and-mask (x / 2 ^ (q % 64)) 1)
+
+-- a `bool` cast to a number
+pub bool-number : (b : Bool) → boolByte b ≡ cond b 1 0
+bool-number true = refl
+bool-number false = refl
 
 -- `1 << k` at 64 bits
 pub one-shl : (k : ℕ) → k < 64 → 1 * 2 ^ k % 18446744073709551616 ≡ 2 ^ k

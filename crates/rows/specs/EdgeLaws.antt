@@ -13,10 +13,10 @@ use borrow.Author.Tests.{eqb-true, ltb-true, ltb-false}
 use Rattle.model.specs.Lists.{nodes}
 use Rattle.model.specs.Graph.{Graph, Proper}
 use Rattle.model.specs.Tables.{bitAt, edgeBit, edgesOf, rowOf, word}
-use Rattle.model.specs.Updates.{Update, isPair, onEdge, refusal, updated, wanted}
+use Rattle.model.specs.Updates.{Update, isPair, onEdge, refusal, updated}
 use Rattle.model.specs.TestLaws.{and-fst, and-snd, decide, or-cases}
 use Rattle.model.specs.TableLaws.{edge-bit, getD-blocks, getD-nodes, length-edges, length-nodes, length-row, row-at}
-use Rattle.model.specs.UpdateLaws.{there-before}
+use Rattle.model.specs.UpdateLaws.{edge-before}
 use Rattle.rows.specs.Rows.{Words, Changed}
 use Rattle.rows.specs.BitLaws.{word-bits, word-cong, word-lt}
 
@@ -59,17 +59,16 @@ module _ (g : Graph) (t : List ℕ) (size : length t ≡ 8 * g .nodeCount) (word
 
 -- an accepted update of an edge
 module _ (g : Graph) (c : Update) (h : Proper g) (ok : refusal g c ≡ 0) (two : onEdge c ≡ true) where
-  -- the edge was there exactly if it is not wanted
-  pub edge-before : g .edge (c .u) (c .v) ≡ not (wanted c)
-  edge-before = sym (ap (λ (x : Bool). cond x (g .edge (c .u) (c .v)) (g .hidden (c .u))) two) ∙ there-before g c h ok
+  abbrev insert : Bool
+  insert = eqb (c .wanted) 1
 
-  edge-pair : (p q : ℕ) → isPair (c .u) (c .v) p q ≡ true → wanted c ≡ not (g .edge p q)
+  edge-pair : (p q : ℕ) → isPair (c .u) (c .v) p q ≡ true → insert ≡ not (g .edge p q)
   edge-pair p q t = step (or-cases (eqb p (c .u) && eqb q (c .v)) (eqb p (c .v) && eqb q (c .u)) t)
     where
-      now : wanted c ≡ not (g .edge (c .u) (c .v))
-      now = sym (Bool·not-not (wanted c)) ∙ sym (ap not edge-before)
+      now : insert ≡ not (g .edge (c .u) (c .v))
+      now = sym (Bool·not-not insert) ∙ sym (ap not (edge-before g c h ok two))
 
-      step : ((eqb p (c .u) && eqb q (c .v)) ≡ true) ⊎ ((eqb p (c .v) && eqb q (c .u)) ≡ true) → wanted c ≡ not (g .edge p q)
+      step : ((eqb p (c .u) && eqb q (c .v)) ≡ true) ⊎ ((eqb p (c .v) && eqb q (c .u)) ≡ true) → insert ≡ not (g .edge p q)
       step (inl x) = rw (eqb-true p (c .u) (and-fst (eqb p (c .u)) _ x), eqb-true q (c .v) (and-snd (eqb p (c .u)) _ x)) now
       step (inr x) = rw (eqb-true p (c .v) (and-fst (eqb p (c .v)) _ x), eqb-true q (c .u) (and-snd (eqb p (c .v)) _ x), h .symmetric (c .v) (c .u)) now
 
@@ -79,7 +78,7 @@ module _ (g : Graph) (c : Update) (h : Proper g) (ok : refusal g c ≡ 0) (two :
   updated-edge p q = step (decide (isPair (c .u) (c .v) p q))
     where
       step : (isPair (c .u) (c .v) p q ≡ true) ⊎ (isPair (c .u) (c .v) p q ≡ false)
-          → cond (onEdge c && isPair (c .u) (c .v) p q) (wanted c) (g .edge p q) ≡ cond (isPair (c .u) (c .v) p q) (not (g .edge p q)) (g .edge p q)
+          → cond (onEdge c && isPair (c .u) (c .v) p q) insert (g .edge p q) ≡ cond (isPair (c .u) (c .v) p q) (not (g .edge p q)) (g .edge p q)
       step (inl x) = rw (two, x) (edge-pair p q x)
       step (inr x) = rw (two, x)
 

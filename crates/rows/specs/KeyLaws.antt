@@ -3,7 +3,7 @@ use mathlib.Core.Path.{_≡_, refl, sym, ap, _∙_}
 use mathlib.Core.Bool.{Bool, true, false, not, cond, _&&_, and-false, or-comm, Bool·not-not}
 use mathlib.Core.List.{List, [], _∷_, List·Memᴰ·head, List·Memᴰ·tail}
 use mathlib.Core.Logic.{_⊎_, inl, inr}
-use Prim.Native.Nat.{ℕ, zero, suc, _+_, _*_, _-_, _/_, _%_, _^_, _≤_, _<_}
+use Prim.Native.Nat.{ℕ, zero, suc, _+_, _*_, _/_, _%_, _^_, _≤_, _<_}
 use native.Mathlib.Nat.{mul-le-mul-left, mul-le-mul-right}
 use native.Mathlib.Omega.{arith}
 use lib.Dec.{eqb}
@@ -14,13 +14,13 @@ use Rattle.model.specs.Lists.{_∈_, filter, nodes}
 use Rattle.model.specs.Graph.{Graph, Proper}
 use Rattle.model.specs.Grouping.{closedKey, cube, openKey, sumCubes}
 use Rattle.model.specs.Tables.{keyPair, keysOf}
-use Rattle.model.specs.Updates.{Update, isPair, onEdge, refusal, updated, wanted}
+use Rattle.model.specs.Updates.{Update, isPair, onEdge, refusal, updated}
 use Rattle.model.specs.TestLaws.{decide}
 use Rattle.model.specs.ListLaws.{Ascending, nodes-ascending, nodes-in}
 use Rattle.model.specs.TableLaws.{getD-blocks, getD-nodes, length-keys, length-nodes}
-use Rattle.model.specs.UpdateLaws.{apart, rows-kept, u-inside, updated-count, v-inside}
+use Rattle.model.specs.UpdateLaws.{apart, edge-before, rows-kept, u-inside, updated-count, v-inside}
 use Rattle.rows.specs.Rows.{KeysChanged, KeysMoved, keyOf, movedKey}
-use Rattle.rows.specs.EdgeLaws.{edge-before, updated-edge}
+use Rattle.rows.specs.EdgeLaws.{updated-edge}
 
 -- squares and cubes of nodes counted from 1
 pub square-le : (x : ℕ) → x ≤ 512 → x * x ≤ 262144
@@ -100,17 +100,20 @@ pair p q = rw (eq-eqb p p refl, eq-eqb q q refl)
 
 -- an accepted update of an edge
 module _ (g : Graph) (c : Update) (h : Proper g) (ok : refusal g c ≡ 0) (two : onEdge c ≡ true) where
+  abbrev insert : Bool
+  insert = eqb (c .wanted) 1
+
   -- at one end p, with the other end q
-  end-key : (p q k : ℕ) → q < g .nodeCount → (p ≡ q → ⊥) → ((a b : ℕ) → isPair (c .u) (c .v) a b ≡ isPair p q a b) → g .edge p q ≡ not (wanted c) → movedKey (wanted c) (keyOf g p k) (cube q) ≡ keyOf (updated g c) p k
+  end-key : (p q k : ℕ) → q < g .nodeCount → (p ≡ q → ⊥) → ((a b : ℕ) → isPair (c .u) (c .v) a b ≡ isPair p q a b) → g .edge p q ≡ not insert → movedKey insert (keyOf g p k) (cube q) ≡ keyOf (updated g c) p k
   end-key p q k inside differ-ends ends was =
-      moved-cubes (g .nodeCount) (g .edge p) (updated g c .edge p) q (wanted c) inside was is same (k * cube p)
+      moved-cubes (g .nodeCount) (g .edge p) (updated g c .edge p) q insert inside was is same (k * cube p)
       ∙ ap (λ (n : ℕ). (sumCubes (filter (updated g c .edge p) (nodes n)) + k * cube p) % 2 ^ 32) (sym (updated-count g c))
     where
       at : (r : ℕ) → updated g c .edge p r ≡ cond (isPair p q p r) (not (g .edge p r)) (g .edge p r)
       at r = updated-edge g c h ok two p r ∙ ap (λ (x : Bool). cond x (not (g .edge p r)) (g .edge p r)) (ends p r)
 
-      is : updated g c .edge p q ≡ wanted c
-      is = at q ∙ ap (λ (x : Bool). cond x (not (g .edge p q)) (g .edge p q)) (pair p q) ∙ ap not was ∙ Bool·not-not (wanted c)
+      is : updated g c .edge p q ≡ insert
+      is = at q ∙ ap (λ (x : Bool). cond x (not (g .edge p q)) (g .edge p q)) (pair p q) ∙ ap not was ∙ Bool·not-not insert
 
       same : (j : ℕ) → (j ≡ q → ⊥) → g .edge p j ≡ updated g c .edge p j
       same j d = sym (at j ∙ ap (λ (x : Bool). cond x (not (g .edge p j)) (g .edge p j)) (no-pair p q j differ-ends d))
@@ -120,14 +123,11 @@ module _ (g : Graph) (c : Update) (h : Proper g) (ok : refusal g c ≡ 0) (two :
       ap (λ (s : ℕ). (s + k * cube p) % 2 ^ 32) (cubes-cong (nodes (g .nodeCount)) (g .edge p) (updated g c .edge p) (λ j m. sym (rows-kept g c h ok p j a b)))
       ∙ ap (λ (n : ℕ). (sumCubes (filter (updated g c .edge p) (nodes n)) + k * cube p) % 2 ^ 32) (sym (updated-count g c))
 
-  pub keys-updated : (t : List ℕ) → KeysChanged (wanted c) (c .u) (c .v) (keysOf g) t → t ≡ keysOf (updated g c)
+  pub keys-updated : (t : List ℕ) → KeysChanged insert (c .u) (c .v) (keysOf g) t → t ≡ keysOf (updated g c)
   keys-updated t r = ext-getD 0 t (keysOf (updated g c)) size at
     where
       size : length t ≡ length (keysOf (updated g c))
       size = r .size ∙ length-keys g ∙ ap (λ (n : ℕ). 2 * n) (sym (updated-count g c)) ∙ sym (length-keys (updated g c))
-
-      insert : Bool
-      insert = wanted c
 
       moved : (p k : ℕ) → (eqb p (c .u) ≡ true) ⊎ (eqb p (c .u) ≡ false) → (eqb p (c .v) ≡ true) ⊎ (eqb p (c .v) ≡ false)
           → cond (eqb p (c .u)) (movedKey insert (keyOf g p k) (cube (c .v))) (cond (eqb p (c .v)) (movedKey insert (keyOf g p k) (cube (c .u))) (keyOf g p k)) ≡ keyOf (updated g c) p k

@@ -7,8 +7,8 @@ ghost use lib.ListN.{length};
 ghost use Rattle.model.specs.Graph.{maxNodes, rowWords};
 ghost use Rattle.model.specs.Grouping.{cube};
 ghost use Rattle.model.specs.Tables.{bitAt, edgeBit};
-ghost use Rattle.model.specs.Refusals.{lengths, wrongSize};
-ghost use Rattle.rows.specs.Rows.{Flipped, Changed, movedKey, KeysMoved, KeysChanged, lent};
+ghost use Rattle.model.specs.Refusals.{firstOf, lengths, wrongSize};
+ghost use Rattle.rows.specs.Rows.{Flipped, Changed, movedKey, KeysMoved, KeysChanged, lent, pairReasons};
 
 // A graph by value: how many nodes it has. Its tables are lent.
 pub struct Graph {
@@ -28,7 +28,7 @@ impl Graph {
     pub const NONE: u16 = 65535;
 
     // The numbers of an update, as a batch lends it.
-    pub const UPDATE_NUMBERS: usize = 3;
+    pub const UPDATE_NUMBERS: usize = 4;
 
     // A graph of n nodes without edges. Its tables are filled by whoever opens it.
     pub fn empty(n: usize) -> Self
@@ -89,6 +89,22 @@ pub fn place(p: usize, q: usize) -> usize
     ensures { λ r. ⌜ r ≡ rowWords * p + q / 64 ⌝ }
 {
     Graph::ROW_WORDS * p + word_of(q)
+}
+
+// Why u and v are no pair of the n nodes, 14 or 15; else 0.
+pub fn pair_refusal(n: usize, u: usize, v: usize) -> u16
+    ensures { λ r. ⌜ r ≡ firstOf (pairReasons n u v) ⌝ }
+{
+    if u >= n {
+        return 14;
+    }
+    if v >= n {
+        return 14;
+    }
+    if u == v {
+        return 15;
+    }
+    0
 }
 
 // Whether there is an edge between p and q.

@@ -34,18 +34,18 @@ numberOf ds = cond (isNumber ds) (Value (valueOf 0 ds)) NoNumber
 
 -- the line that each case is
 unfoldable pub lineIn : Line → ModelLine
-lineIn (Change kind u v) = change (record { kind = kind; u = u; v = v })
+lineIn (Change kind u v wanted) = change (record { kind = kind; u = u; v = v; wanted = wanted })
 lineIn NoChange = illFormed
 
 -- a change with its numbers, if all of them are there
 unfoldable pub edgeChange : ℕ → Number → Number → Line
-edgeChange kind (Value u) (Value v) = Change kind u v
-edgeChange kind (Value u) NoNumber = NoChange
-edgeChange kind NoNumber second = NoChange
+edgeChange wanted (Value u) (Value v) = Change 1 u v wanted
+edgeChange wanted (Value u) NoNumber = NoChange
+edgeChange wanted NoNumber second = NoChange
 
 unfoldable pub markChange : ℕ → Number → Line
-markChange kind (Value u) = Change kind u 0
-markChange kind NoNumber = NoChange
+markChange wanted (Value u) = Change 2 u 0 wanted
+markChange wanted NoNumber = NoChange
 
 -- the input that each case is, its changes in the first numbers of the batch
 unfoldable pub inputIn : Parsed → List ℕ → Input

@@ -13,9 +13,8 @@ use Rattle.model.specs.Lists.{all, sameList}
 use Rattle.model.specs.Program.{Line as ModelLine, edgeLine, field, illFormed, isNumber, lineOf, markLine, pieces, text}
 use Rattle.model.specs.TestLaws.{and-fst, and-one, and-snd, decide}
 use Rattle.text.specs.declared.Line.{Line}
-use Rattle.text.specs.declared.Line.the-variants.{Change, NoChange}
+use Rattle.text.specs.declared.Line.the-variants.{NoChange}
 use Rattle.text.specs.declared.Number.{Number}
-use Rattle.text.specs.declared.Number.the-variants.{Value, NoNumber}
 use Rattle.text.specs.Grammar.{edgeChange, lineIn, markChange, numberOf, upTo}
 use Rattle.text.specs.NumberLaws.{number-digits}
 use Rattle.text.specs.PieceLaws.{pieces-length, pieces-more, pieces-one, upTo-le}
@@ -23,27 +22,6 @@ use Rattle.text.specs.PieceLaws.{pieces-length, pieces-more, pieces-one,
 -- the part of a slice from k on is all that follows
 pub part-from : (k : ℕ) (s : List ℕ) → take (length s - k) (drop k s) ≡ drop k s
 part-from k s = take-all (length s - k) (drop k s) (omega (arith, length-drop k s))
-
--- each case of the two enums, from its equation
-pub edge-first : {a : Number} (kind : ℕ) (b : Number) → a ≡ NoNumber → NoChange ≡ edgeChange kind a b
-unfolding edgeChange
-edge-first kind b e = rw e
-
-pub edge-second : {a b : Number} (kind u : ℕ) → a ≡ Value u → b ≡ NoNumber → NoChange ≡ edgeChange kind a b
-unfolding edgeChange
-edge-second kind u e f = rw (e, f)
-
-pub edge-both : {a b : Number} (kind u v : ℕ) → a ≡ Value u → b ≡ Value v → Change kind u v ≡ edgeChange kind a b
-unfolding edgeChange
-edge-both kind u v e f = rw (e, f)
-
-pub mark-no-number : {a : Number} (kind : ℕ) → a ≡ NoNumber → NoChange ≡ markChange kind a
-unfolding markChange
-mark-no-number kind e = rw e
-
-pub mark-one : {a : Number} (kind u : ℕ) → a ≡ Value u → Change kind u 0 ≡ markChange kind a
-unfolding markChange
-mark-one kind u e = rw e
 
 -- a number has no space
 digits-spaceless : (s : List ℕ) → all s (λ d. leb 0x30 d && leb d 0x39) ≡ true → upTo 0x20 s ≡ length s
@@ -66,44 +44,44 @@ one-field s = go (decide (ltb (upTo 0x20 s) (length s))) (decide (isNumber s))
     go (inl t) (inr n) = rw (pieces-more 0x20 s (ltb-true (upTo 0x20 s) (length s) t), ne-eqb (suc (length (pieces 0x20 (drop (upTo 0x20 s + 1) s)))) 1 (λ e. omega (arith, pieces-length 0x20 (drop (upTo 0x20 s + 1) s)))) (sym n)
 
 -- two numbers after the letter
-pub edge-by : (kind u : ℕ) (s : List ℕ) → u ≡ upTo 0x20 s → (u ≡ length s → ⊥) → lineIn (edgeChange kind (numberOf (take u s)) (numberOf (drop (u + 1) s))) ≡ edgeLine kind ([] ∷ pieces 0x20 s)
-edge-by kind u s e n = rw e (rw (pieces-more 0x20 s (omega (arith, e, n, upTo-le 0x20 s))) (two (take (upTo 0x20 s) s) (drop (upTo 0x20 s + 1) s)))
+pub edge-by : (wanted u : ℕ) (s : List ℕ) → u ≡ upTo 0x20 s → (u ≡ length s → ⊥) → lineIn (edgeChange wanted (numberOf (take u s)) (numberOf (drop (u + 1) s))) ≡ edgeLine wanted ([] ∷ pieces 0x20 s)
+edge-by wanted u s e n = rw e (rw (pieces-more 0x20 s (omega (arith, e, n, upTo-le 0x20 s))) (two (take (upTo 0x20 s) s) (drop (upTo 0x20 s + 1) s)))
   where
     test : (t : List ℕ) (fs : List (List ℕ)) → isNumber t ≡ true → (eqb (length fs) 1 && isNumber (field fs 0)) ≡ false → (eqb (suc (suc (length fs))) 3 && (isNumber t && isNumber (field fs 0))) ≡ false
     test t fs a b = rw (eqb·suc-suc (suc (length fs)) 2, eqb·suc-suc (length fs) 1, a) b
 
-    two : (t d : List ℕ) → lineIn (edgeChange kind (numberOf t) (numberOf d)) ≡ edgeLine kind ([] ∷ (t ∷ pieces 0x20 d))
+    two : (t d : List ℕ) → lineIn (edgeChange wanted (numberOf t) (numberOf d)) ≡ edgeLine wanted ([] ∷ (t ∷ pieces 0x20 d))
     two t d = step (decide (isNumber t)) (decide (isNumber d))
       where
-        step : (isNumber t ≡ true) ⊎ (isNumber t ≡ false) → (isNumber d ≡ true) ⊎ (isNumber d ≡ false) → lineIn (edgeChange kind (numberOf t) (numberOf d)) ≡ edgeLine kind ([] ∷ (t ∷ pieces 0x20 d))
+        step : (isNumber t ≡ true) ⊎ (isNumber t ≡ false) → (isNumber d ≡ true) ⊎ (isNumber d ≡ false) → lineIn (edgeChange wanted (numberOf t) (numberOf d)) ≡ edgeLine wanted ([] ∷ (t ∷ pieces 0x20 d))
         step (inl a) (inl b) = unfold numberOf edgeChange lineIn edgeLine in rw (number-alone d b, a, b)
         step (inl a) (inr b) = unfold numberOf edgeChange lineIn edgeLine in rw (test t (pieces 0x20 d) a (one-field d ∙ b), a, b)
         step (inr a) b = unfold numberOf edgeChange lineIn edgeLine in rw (a, and-false (eqb (suc (suc (length (pieces 0x20 d)))) 3))
 
 -- one number after the letter
-pub mark-by : (kind : ℕ) (s : List ℕ) → lineIn (markChange kind (numberOf s)) ≡ markLine kind ([] ∷ pieces 0x20 s)
+pub mark-by : (wanted : ℕ) (s : List ℕ) → lineIn (markChange wanted (numberOf s)) ≡ markLine wanted ([] ∷ pieces 0x20 s)
 unfolding numberOf markChange lineIn markLine
-mark-by kind s = step (decide (isNumber s))
+mark-by wanted s = step (decide (isNumber s))
   where
     test : (fs : List (List ℕ)) → (eqb (length fs) 1 && isNumber (field fs 0)) ≡ false → (eqb (suc (length fs)) 2 && isNumber (field fs 0)) ≡ false
     test fs b = rw (eqb·suc-suc (length fs) 1) b
 
-    step : (isNumber s ≡ true) ⊎ (isNumber s ≡ false) → lineIn (markChange kind (numberOf s)) ≡ markLine kind ([] ∷ pieces 0x20 s)
+    step : (isNumber s ≡ true) ⊎ (isNumber s ≡ false) → lineIn (markChange wanted (numberOf s)) ≡ markLine wanted ([] ∷ pieces 0x20 s)
     step (inl b) = rw (number-alone s b, b)
     step (inr b) = rw (test (pieces 0x20 s) (one-field s ∙ b), b)
 
 -- no second field
-pub edge-short : (kind u : ℕ) (s : List ℕ) → u ≡ upTo 0x20 s → u ≡ length s → lineIn NoChange ≡ edgeLine kind ([] ∷ pieces 0x20 s)
+pub edge-short : (wanted u : ℕ) (s : List ℕ) → u ≡ upTo 0x20 s → u ≡ length s → lineIn NoChange ≡ edgeLine wanted ([] ∷ pieces 0x20 s)
 unfolding lineIn edgeLine
-edge-short kind u s e h = rw (pieces-one 0x20 s (sym e ∙ h))
+edge-short wanted u s e h = rw (pieces-one 0x20 s (sym e ∙ h))
 
 -- a line by its letter
-unfoldable pub byLetter : ℕ → List (List ℕ) → ModelLine
+abbrev pub byLetter : ℕ → List (List ℕ) → ModelLine
 byLetter b fs =
     cond (eqb b 0x74) (edgeLine 1 ([] ∷ fs))
-    (cond (eqb b 0x75) (edgeLine 2 ([] ∷ fs))
-    (cond (eqb b 0x77) (markLine 3 ([] ∷ fs))
-    (cond (eqb b 0x6F) (markLine 4 ([] ∷ fs))
+    (cond (eqb b 0x75) (edgeLine 0 ([] ∷ fs))
+    (cond (eqb b 0x77) (markLine 1 ([] ∷ fs))
+    (cond (eqb b 0x6F) (markLine 0 ([] ∷ fs))
     illFormed)))
 
 first-piece : (s : List ℕ) → field (pieces 0x20 s) 0 ≡ take (upTo 0x20 s) s
@@ -146,7 +124,7 @@ take-one [] h = absurd (omega arith)
 take-one (x ∷ xs) h = refl
 
 pub line-letter : (u : ℕ) (s : List ℕ) → u ≡ upTo 0x20 s → u ≡ 1 → (length s ≡ 1 → ⊥) → lineOf s ≡ byLetter (getD s 0 0) (pieces 0x20 (drop 2 s))
-unfolding lineOf byLetter sameList text edgeLine markLine
+unfolding lineOf sameList text edgeLine markLine
 line-letter u s e one n = rw (first, and-one (eqb (getD s 0 0) 0x74), and-one (eqb (getD s 0 0) 0x75), and-one (eqb (getD s 0 0) 0x77), and-one (eqb (getD s 0 0) 0x6F))
   where
     at-one : upTo 0x20 s ≡ 1
@@ -159,34 +137,18 @@ line-letter u s e one n = rw (first, and-one (eqb (getD s 0 0) 0x74), and-one (e
     first = pieces-more 0x20 s (rw at-one long) ∙ rw (at-one, take-one s (omega (arith, long)))
 
 -- from what the callees tell
-pub edge-change-told : {a b : Number} {r : Line} (kind u : ℕ) (s : List ℕ) → u ≡ upTo 0x20 s → (u ≡ length s → ⊥) → a ≡ numberOf (take u s) → b ≡ numberOf (take (length s - (u + 1)) (drop (u + 1) s)) → r ≡ edgeChange kind a b
-    → lineIn r ≡ edgeLine kind ([] ∷ pieces 0x20 s)
-edge-change-told kind u s e n x y z = rw (z, x, y, part-from (u + 1) s) (edge-by kind u s e n)
+pub edge-change-told : {a b : Number} {r : Line} (wanted u : ℕ) (s : List ℕ) → u ≡ upTo 0x20 s → (u ≡ length s → ⊥) → a ≡ numberOf (take u s) → b ≡ numberOf (take (length s - (u + 1)) (drop (u + 1) s)) → r ≡ edgeChange wanted a b
+    → lineIn r ≡ edgeLine wanted ([] ∷ pieces 0x20 s)
+edge-change-told wanted u s e n x y z = rw (z, x, y, part-from (u + 1) s) (edge-by wanted u s e n)
 
-pub mark-change-told : {a : Number} {r : Line} (kind : ℕ) (s : List ℕ) → a ≡ numberOf s → r ≡ markChange kind a → lineIn r ≡ markLine kind ([] ∷ pieces 0x20 s)
-mark-change-told kind s x z = rw (z, x) (mark-by kind s)
+pub mark-change-told : {a : Number} {r : Line} (wanted : ℕ) (s : List ℕ) → a ≡ numberOf s → r ≡ markChange wanted a → lineIn r ≡ markLine wanted ([] ∷ pieces 0x20 s)
+mark-change-told wanted s x z = rw (z, x) (mark-by wanted s)
 
 -- from the letter and what its function tells
 module _ (u : ℕ) (s : List ℕ) (e : u ≡ upTo 0x20 s) (one : u ≡ 1) (n : length s ≡ 1 → ⊥) where
-  by : (b : ℕ) → getD s 0 0 ≡ b → byLetter b (pieces 0x20 (take (length s - 2) (drop 2 s))) ≡ lineOf s
-  by b h = rw (part-from 2 s, ← h) (sym (line-letter u s e one n))
-
-  pub line-t : {x : ModelLine} → getD s 0 0 ≡ 0x74 → x ≡ edgeLine 1 ([] ∷ pieces 0x20 (take (length s - 2) (drop 2 s))) → x ≡ lineOf s
-  unfolding byLetter
-  line-t h x = x ∙ by 0x74 h
-
-  pub line-u : {x : ModelLine} → getD s 0 0 ≡ 0x75 → x ≡ edgeLine 2 ([] ∷ pieces 0x20 (take (length s - 2) (drop 2 s))) → x ≡ lineOf s
-  unfolding byLetter
-  line-u h x = x ∙ by 0x75 h
-
-  pub line-w : {x : ModelLine} → getD s 0 0 ≡ 0x77 → x ≡ markLine 3 ([] ∷ pieces 0x20 (take (length s - 2) (drop 2 s))) → x ≡ lineOf s
-  unfolding byLetter
-  line-w h x = x ∙ by 0x77 h
-
-  pub line-o : {x : ModelLine} → getD s 0 0 ≡ 0x6F → x ≡ markLine 4 ([] ∷ pieces 0x20 (take (length s - 2) (drop 2 s))) → x ≡ lineOf s
-  unfolding byLetter
-  line-o h x = x ∙ by 0x6F h
+  pub line-by : {b : ℕ} {x : ModelLine} → getD s 0 0 ≡ b → x ≡ byLetter b (pieces 0x20 (take (length s - 2) (drop 2 s))) → x ≡ lineOf s
+  line-by h x = x ∙ rw (part-from 2 s, ← h) (sym (line-letter u s e one n))
 
   pub line-other : (getD s 0 0 ≡ 0x74 → ⊥) → (getD s 0 0 ≡ 0x75 → ⊥) → (getD s 0 0 ≡ 0x77 → ⊥) → (getD s 0 0 ≡ 0x6F → ⊥) → lineIn NoChange ≡ lineOf s
-  unfolding byLetter lineIn
+  unfolding lineIn
   line-other t h w o = rw (line-letter u s e one n, ne-eqb (getD s 0 0) 0x74 t, ne-eqb (getD s 0 0) 0x75 h, ne-eqb (getD s 0 0) 0x77 w, ne-eqb (getD s 0 0) 0x6F o)

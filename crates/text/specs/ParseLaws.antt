@@ -25,15 +25,15 @@ use Rattle.text.specs.Grammar.{ParsedAs, inputIn, lineIn, numberOf, upTo
 use Rattle.text.specs.LineLaws.{part-from}
 use Rattle.text.specs.PieceLaws.{pieces-more, pieces-one, pieces-some, upTo-le}
 
--- changes as numbers, three for each
+-- changes as numbers, four for each
 unfoldable pub numbers : List Update → List ℕ
 numbers [] = []
-numbers (c ∷ cs) = c .kind ∷ c .u ∷ c .v ∷ numbers cs
+numbers (c ∷ cs) = c .kind ∷ c .u ∷ c .v ∷ c .wanted ∷ numbers cs
 
 numbers-append : (a b : List Update) → numbers (a ++ b) ≡ numbers a ++ numbers b
 unfolding numbers
 numbers-append [] b = refl
-numbers-append (c ∷ cs) b = ap (λ (l : List ℕ). c .kind ∷ c .u ∷ c .v ∷ l) (numbers-append cs b)
+numbers-append (c ∷ cs) b = ap (λ (l : List ℕ). c .kind ∷ c .u ∷ c .v ∷ c .wanted ∷ l) (numbers-append cs b)
 
 numbers-length : (cs : List Update) → length (numbers cs) ≡ updateNumbers * length cs
 unfolding numbers
@@ -142,9 +142,9 @@ module _ {input before after : List ℕ} {all : Input} {n at count : ℕ} (x : R
   reading-ill u e l t c = refused (line-first u e l ∙ rw (← part-line u, ← t, c) (unfold lineIn withLine in refl))
 
   -- a change
-  pub reading-step : {r : Line} {batch : List ℕ} (u kind p q : ℕ) → u ≡ upTo 0x0A (take (length input - at) (drop at input)) → (at + u ≡ length input → ⊥) → (count ≡ maxUpdates → ⊥)
-      → lineIn r ≡ lineOf (take (at + u - at) (drop at input)) → r ≡ Change kind p q → Wrote after (updateNumbers * count) (kind ∷ p ∷ q ∷ []) batch (updateNumbers * (count + 1)) → Reading input before batch all n (at + u + 1) (count + 1)
-  reading-step {r} {batch} u kind p q e l f t y w = record {
+  pub reading-step : {r : Line} {batch : List ℕ} (u kind p q wanted : ℕ) → u ≡ upTo 0x0A (take (length input - at) (drop at input)) → (at + u ≡ length input → ⊥) → (count ≡ maxUpdates → ⊥)
+      → lineIn r ≡ lineOf (take (at + u - at) (drop at input)) → r ≡ Change kind p q wanted → Wrote after (updateNumbers * count) (kind ∷ p ∷ q ∷ wanted ∷ []) batch (updateNumbers * (count + 1)) → Reading input before batch all n (at + u + 1) (count + 1)
+  reading-step {r} {batch} u kind p q wanted e l f t y w = record {
     within = omega (arith, e, l, upTo-le 0x0A (take (length input - at) (drop at input)), ap length (part-from at input), rest-length, x .within);
     few = omega (arith, f, x .few);
     room = x .room;
@@ -155,7 +155,7 @@ module _ {input before after : List ℕ} {all : Input} {n at count : ℕ} (x : R
   }
     where
       c : Update
-      c = record { kind = kind; u = p; v = q }
+      c = record { kind = kind; u = p; v = q; wanted = wanted }
 
       rest : Input
       rest = linesFrom n (count + 1 + 2) (pieces 0x0A (drop (at + u + 1) input))
@@ -190,11 +190,13 @@ pub end-within : (input : List ℕ) (at u : ℕ) → at ≤ length input → u �
 end-within input at u h e = omega (arith, e, upTo-le 0x0A (take (length input - at) (drop at input)), ap length (part-from at input), length-drop at input)
 
 -- one change is written
-pub change-wrote : (batch : List ℕ) (count kind u v : ℕ) → Wrote batch (updateNumbers * count) (kind ∷ u ∷ v ∷ []) (set (set (set batch (updateNumbers * count) kind) (updateNumbers * count + 1) u) (updateNumbers * count + 2) v) (updateNumbers * (count + 1))
-change-wrote batch count kind u v =
+pub change-wrote : (batch : List ℕ) (count kind u v wanted : ℕ)
+    → Wrote batch (updateNumbers * count) (kind ∷ u ∷ v ∷ wanted ∷ []) (set (set (set (set batch (updateNumbers * count) kind) (updateNumbers * count + 1) u) (updateNumbers * count + 2) v) (updateNumbers * count + 3) wanted) (updateNumbers * (count + 1))
+change-wrote batch count kind u v wanted =
     let a : updateNumbers * count + 1 ≡ suc (updateNumbers * count) = omega arith in
     let b : updateNumbers * count + 2 ≡ suc (suc (updateNumbers * count)) = omega arith in
-    rw (a, b) (record { bytes = refl; place = omega arith })
+    let d : updateNumbers * count + 3 ≡ suc (suc (suc (updateNumbers * count))) = omega arith in
+    rw (a, b, d) (record { bytes = refl; place = omega arith })
 
 -- what the case of a number tells
 number-value : (ds : List ℕ) (v : ℕ) → numberOf ds ≡ Value v → (isNumber ds ≡ true) × (valueOf 0 ds ≡ v)

@@ -21,7 +21,12 @@ pub enum Number {
 
 // A line after the first: a change, or an ill-formed line.
 pub enum Line {
-    Change { kind: u16, u: u16, v: u16 },
+    Change {
+        kind: u16,
+        u: u16,
+        v: u16,
+        wanted: u16,
+    },
     NoChange,
 }
 
@@ -97,9 +102,9 @@ fn read_number(s: &[u8]) -> Number
     Number::Value(value as u16)
 }
 
-// An insertion or deletion of the edge between two nodes, if both numbers are there.
-fn edge_change(kind: u16, first: Number, second: Number) -> Line
-    ensures { λ r. ⌜ r ≡ edgeChange kind first second ⌝ }
+// An edge wanted or not, if both numbers are there.
+fn edge_change(wanted: u16, first: Number, second: Number) -> Line
+    ensures { λ r. ⌜ r ≡ edgeChange wanted first second ⌝ }
 {
     let Number::Value(u) = first else {
         return Line::NoChange;
@@ -107,35 +112,45 @@ fn edge_change(kind: u16, first: Number, second: Number) -> Line
     let Number::Value(v) = second else {
         return Line::NoChange;
     };
-    Line::Change { kind, u, v }
+    Line::Change {
+        kind: 1,
+        u,
+        v,
+        wanted,
+    }
 }
 
-// A node hidden or revealed, if its number is there.
-fn mark_change(kind: u16, first: Number) -> Line
-    ensures { λ r. ⌜ r ≡ markChange kind first ⌝ }
+// A mark wanted or not, if its node's number is there.
+fn mark_change(wanted: u16, first: Number) -> Line
+    ensures { λ r. ⌜ r ≡ markChange wanted first ⌝ }
 {
     let Number::Value(u) = first else {
         return Line::NoChange;
     };
-    Line::Change { kind, u, v: 0 }
+    Line::Change {
+        kind: 2,
+        u,
+        v: 0,
+        wanted,
+    }
 }
 
-// What follows the letter and its space in a line that inserts or deletes an edge: two numbers.
-fn edge_line(kind: u16, s: &[u8]) -> Line
-    ensures { λ r. ⌜ lineIn r ≡ edgeLine kind ([] ∷ pieces 0x20 (now (s .entry))) ⌝ }
+// What follows the letter and its space in a line about an edge: two numbers.
+fn edge_line(wanted: u16, s: &[u8]) -> Line
+    ensures { λ r. ⌜ lineIn r ≡ edgeLine wanted ([] ∷ pieces 0x20 (now (s .entry))) ⌝ }
 {
     let end = find(s, b' ');
     if end == s.len() {
         return Line::NoChange;
     }
-    edge_change(kind, read_number(&s[..end]), read_number(&s[end + 1..]))
+    edge_change(wanted, read_number(&s[..end]), read_number(&s[end + 1..]))
 }
 
-// What follows the letter and its space in a line that hides or reveals a node: one number.
-fn mark_line(kind: u16, s: &[u8]) -> Line
-    ensures { λ r. ⌜ lineIn r ≡ markLine kind ([] ∷ pieces 0x20 (now (s .entry))) ⌝ }
+// What follows the letter and its space in a line about a mark: one number.
+fn mark_line(wanted: u16, s: &[u8]) -> Line
+    ensures { λ r. ⌜ lineIn r ≡ markLine wanted ([] ∷ pieces 0x20 (now (s .entry))) ⌝ }
 {
-    mark_change(kind, read_number(s))
+    mark_change(wanted, read_number(s))
 }
 
 // A line after the first, without its line feed.
@@ -151,22 +166,23 @@ fn read_line(s: &[u8]) -> Line
     let letter = s[0];
     match letter {
         b't' => edge_line(1, &s[2..]),
-        b'u' => edge_line(2, &s[2..]),
-        b'w' => mark_line(3, &s[2..]),
-        b'o' => mark_line(4, &s[2..]),
+        b'u' => edge_line(0, &s[2..]),
+        b'w' => mark_line(1, &s[2..]),
+        b'o' => mark_line(0, &s[2..]),
         _ => Line::NoChange,
     }
 }
 
 // A change into the batch, after `count` others.
-fn put_change(batch: &mut [u16], count: usize, kind: u16, u: u16, v: u16)
+fn put_change(batch: &mut [u16], count: usize, kind: u16, u: u16, v: u16, wanted: u16)
     requires { ⌜ (count < maxUpdates) × (updateNumbers * maxUpdates ≤ length (now batch)) ⌝ }
-    ensures { λ _. ⌜ Wrote (now (batch .entry)) (updateNumbers * count) (kind ∷ u ∷ v ∷ []) (now (batch .exit)) (updateNumbers * (count + 1)) ⌝ }
+    ensures { λ _. ⌜ Wrote (now (batch .entry)) (updateNumbers * count) (kind ∷ u ∷ v ∷ wanted ∷ []) (now (batch .exit)) (updateNumbers * (count + 1)) ⌝ }
 {
     let at = Graph::UPDATE_NUMBERS * count;
     batch[at] = kind;
     batch[at + 1] = u;
     batch[at + 2] = v;
+    batch[at + 3] = wanted;
 }
 
 // The lines after the first, from the place `from` on.
@@ -185,17 +201,17 @@ fn read_lines(input: &[u8], from: usize, n: usize, batch: &mut [u16]) -> Parsed
             return Parsed::Refused { line: count + 2 };
         }
         let line = read_line(&input[at..end]);
-        let Line::Change { kind, u, v } = line else {
+        let Line::Change { kind, u, v, wanted } = line else {
             return Parsed::Refused { line: count + 2 };
         };
-        put_change(batch, count, kind, u, v);
+        put_change(batch, count, kind, u, v, wanted);
         count += 1;
         at = end + 1;
     }
     Parsed::Accepted { n, count }
 }
 
-// The program's whole input. Its changes go to the batch, three numbers for each, which has room for 4,096 of them.
+// The program's whole input. Its changes go to the batch, four numbers for each, which has room for 4,096 of them.
 pub fn parse(input: &[u8], batch: &mut [u16]) -> Parsed
     requires { ⌜ updateNumbers * maxUpdates ≤ length (now batch) ⌝ }
     ensures { λ r. ⌜ ParsedAs (inputOf (now (input .entry))) (now (batch .entry)) (now (batch .exit)) r ⌝ }

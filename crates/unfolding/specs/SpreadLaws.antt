@@ -13,7 +13,7 @@ use mir.Val.{boolByte}
 use borrow.Author.Tests.{eqb-false, eqb-true, eq-eqb, le-ltb, lt-ltb, ltb-true, ne-eqb}
 use Rattle.model.specs.Tables.{bitAt, edgeBit}
 use Rattle.model.specs.TestLaws.{and-fst, and-one, decide, differ, iff-eq}
-use Rattle.rows.specs.BitLaws.{bit-pow, bit-zero, flipped-at, one-shl, row-bit}
+use Rattle.rows.specs.BitLaws.{bit-pow, bit-zero, bool-number, flipped-at, one-shl, row-bit}
 use Rattle.buffers.specs.StoreLaws.{stored, stored-size}
 use Rattle.search.specs.Search.{ownBit}
 use Rattle.search.specs.TwinRowLaws.{own-bit}
@@ -25,10 +25,6 @@ use Rattle.unfolding.specs.Unfolding.{FirstsFit, NeighbourRow, Spread, S
 pub join-none : (row : List ℕ) (l : ℕ) → l ≡ 65535 → _≡_ {A = ℕ} 0 (cond (joinBit row l) 1 0)
 unfolding joinBit
 join-none row l e = rw (eq-eqb l 65535 e)
-
-bool-number : (b : Bool) → boolByte b ≡ cond b 1 0
-bool-number true = refl
-bool-number false = refl
 
 pub join-some : (row : List ℕ) (l : ℕ) {x : ℕ} {b : Bool} → x ≡ l → (l ≡ 65535 → ⊥) → b ≡ edgeBit row 0 x → boolByte b ≡ cond (joinBit row l) 1 0
 unfolding joinBit

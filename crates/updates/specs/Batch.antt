@@ -1,13 +1,25 @@
--- A batch under way: what is still to come.
+-- An update of a batch, and a batch under way: what is still to come.
 use mathlib.Core.Path.{_≡_}
-use mathlib.Core.List.{List, _++_}
+use mathlib.Core.Bool.{Bool, cond}
+use mathlib.Core.List.{List, [], _∷_, _++_}
 use Prim.Native.Nat.{ℕ, _+_, _*_}
+use lib.Dec.{eqb, ltb}
 use lib.IntN.{ℤ}
 use lib.ListN.{length, take, drop}
 use Rattle.model.specs.Tables.{Tables, tablesOf, graphOf}
-use Rattle.model.specs.Updates.{Update, answers, batchGraph, updateNumbers, updatesIn}
+use Rattle.model.specs.Updates.{Update, answer, answers, batchGraph, update, updateNumbers, updatesIn}
+use Rattle.model.specs.Refusals.{Reasons}
 use Rattle.model.specs.Calls.{onto}
 use Rattle.tables.specs.Lent.{Held}
+
+-- the reasons against what is wanted: it is more than 1, or holds already
+unfoldable pub wantedReasons : ℕ → Bool → Reasons
+wantedReasons wanted there = (ltb 1 wanted, 15) ∷ (eqb (cond there 1 0) wanted, 16) ∷ []
+
+-- an update made t into after, and was answered r
+pub record Updated (n : ℕ) (c : Update) (t after : Tables) (r : ℤ) : Type 0 where
+  pub tables : after ≡ tablesOf (update (graphOf n t) c .after)
+  pub answered : r ≡ answer (graphOf n t) c
 
 -- the updates from the i-th on
 abbrev pub rest : List ℕ → ℕ → List Update

@@ -18,9 +18,9 @@ use Rattle.model.specs.Calls.{onto}
 use Rattle.model.specs.TestLaws.{decide, or-none}
 use Rattle.model.specs.UpdateLaws.{answers-next, batch-next, proper-stepped, updates-next}
 use Rattle.groups.specs.ChangeLaws.{tables-read}
-use Rattle.updates.specs.Update.{change, Updated}
+use Rattle.groups.specs.Groups.{change}
 use Rattle.tables.specs.Lent.{Held}
-use Rattle.updates.specs.Batch.{rest, written, Underway}
+use Rattle.updates.specs.Batch.{Updated, rest, written, Underway}
 
 drop-all : (xs : List ℕ) (k : ℕ) → length xs ≤ k → drop k xs ≡ []
 drop-all [] zero h = refl
@@ -44,7 +44,7 @@ underway-start {n} {xs} {t} {out} h = record { held = h; graph = refl; told = ap
     none = omega arith
 
 module _ {n : ℕ} {xs : List ℕ} {t₀ : Tables} {out₀ : List ℤ} {i : ℕ} {t : Tables} {out : List ℤ} (w : Underway n xs t₀ out₀ i t out) where
-  pub underway-more : {t₁ : Tables} {a : ℤ} → updateNumbers * i + updateNumbers ≤ length xs → i < length out₀ → Updated n (change (getD xs (updateNumbers * i) 0) (getD xs (updateNumbers * i + 1) 0) (getD xs (updateNumbers * i + 2) 0)) t t₁ a
+  pub underway-more : {t₁ : Tables} {a : ℤ} → updateNumbers * i + updateNumbers ≤ length xs → i < length out₀ → Updated n (change (getD xs (updateNumbers * i) 0) (getD xs (updateNumbers * i + 1) 0) (getD xs (updateNumbers * i + 2) 0) (getD xs (updateNumbers * i + 3) 0)) t t₁ a
       → Underway n xs t₀ out₀ (i + 1) t₁ (set out i a)
   underway-more {t₁} {a} room l u = record {
     held = record { same = u .tables ∙ ap tablesOf (sym now); proper = subst Proper (sym now) (p .0) };
@@ -61,7 +61,7 @@ module _ {n : ℕ} {xs : List ℕ} {t₀ : Tables} {out₀ : List ℤ} {i : ℕ}
       g = graphOf n t
 
       c : Update
-      c = change (getD xs (updateNumbers * i) 0) (getD xs (updateNumbers * i + 1) 0) (getD xs (updateNumbers * i + 2) 0)
+      c = change (getD xs (updateNumbers * i) 0) (getD xs (updateNumbers * i + 1) 0) (getD xs (updateNumbers * i + 2) 0) (getD xs (updateNumbers * i + 3) 0)
 
       p : Proper (update g c .after) × (update g c .after .nodeCount ≡ g .nodeCount)
       p = proper-stepped g c (w .held .proper)
@@ -76,7 +76,7 @@ module _ {n : ℕ} {xs : List ℕ} {t₀ : Tables} {out₀ : List ℤ} {i : ℕ}
       after = let e : updateNumbers * (i + 1) ≡ updateNumbers * i + updateNumbers = omega arith in ap (λ (k : ℕ). updatesIn (drop k xs)) e
 
   -- with the numbers that the code has read, and the answer that it has stored
-  pub underway-next : {t₁ : Tables} {a b : ℤ} {u v : ℕ} → updateNumbers * i + updateNumbers ≤ length xs → i < length out₀ → u ≡ getD xs (updateNumbers * i + 1) 0 → v ≡ getD xs (updateNumbers * i + 2) 0 → Updated n (change (getD xs (updateNumbers * i) 0) u v) t t₁ a → b ≡ a
+  pub underway-next : {t₁ : Tables} {a b : ℤ} {u v : ℕ} → updateNumbers * i + updateNumbers ≤ length xs → i < length out₀ → u ≡ getD xs (updateNumbers * i + 1) 0 → v ≡ getD xs (updateNumbers * i + 2) 0 → Updated n (change (getD xs (updateNumbers * i) 0) u v (getD xs (updateNumbers * i + 3) 0)) t t₁ a → b ≡ a
       → Underway n xs t₀ out₀ (i + 1) t₁ (set out i b)
   underway-next room l eu ev u e = rw e (underway-more room l (rw (eu, ev) at u))
 

@@ -1,4 +1,3 @@
-pub mod Update
 pub mod UpdateLaws
 pub mod Batch
 pub mod BatchLaws

@@ -46,6 +46,6 @@ pub fn run(
         let a = Graph::UPDATE_NUMBERS * i;
         let u = rows::wide(batch[a + 1]);
         let v = rows::wide(batch[a + 2]);
-        answers[i] = update(n, edges, nodes, keys, batch[a], u, v);
+        answers[i] = update(n, edges, nodes, keys, batch[a], u, v, batch[a + 3]);
     }
 }

@@ -1,49 +1,43 @@
 // One update of a batch, on tables that hold a graph.
 ghost use mathlib.Core.Path.{_≡_};
-ghost use Prim.Native.Nat.{_+_, _*_, _≤_, _<_};
+ghost use mathlib.Core.List.{List};
+ghost use Prim.Native.Nat.{ℕ, _+_, _*_, _≤_, _<_};
 ghost use lib.Dec.{eqb};
 ghost use lib.IntN.{pos};
 ghost use lib.ListN.{length, set};
-ghost use mathlib.Core.Bool.{cond};
 ghost use Rattle.model.specs.Graph.{maxNodes, rowWords, nodeNumbers};
-ghost use Rattle.model.specs.Tables.{edgeBit, nodeNumber, graphOf};
+ghost use Rattle.model.specs.Tables.{nodeNumber, graphOf};
+ghost use Rattle.model.specs.Refusals.{firstOf};
 ghost use Rattle.model.specs.Updates.{refusal};
 ghost use Rattle.rows.specs.Rows.{lent};
-ghost use Rattle.tables.specs.Lent.{Sized, Held};
-ghost use Rattle.updates.specs.Update.{Updated, change, edgeRefusal, heldRefusal, markRefusal};
+ghost use Rattle.groups.specs.Groups.{change};
+ghost use Rattle.tables.specs.Lent.{Held};
+ghost use Rattle.updates.specs.Batch.{Updated, wantedReasons};
 use rows::Graph;
 
-// 16 where what is wanted is there already, 17 where what is not wanted is not there, else 0.
-fn held_refusal(wanted: bool, there: bool) -> u16
-    ensures { λ r. ⌜ r ≡ heldRefusal wanted there ⌝ }
+// 15 where more than 1 is wanted, 16 where what is wanted holds already, else 0.
+fn wanted_refusal(wanted: u16, there: bool) -> u16
+    ensures { λ r. ⌜ r ≡ firstOf (wantedReasons wanted there) ⌝ }
 {
-    if wanted {
-        if there {
-            return 16;
-        }
-        return 0;
-    }
-    if there {
-        return 0;
-    }
-    17
-}
-
-// Why an insertion or deletion is refused, or 0.
-fn edge_refusal(edges: &[u64], n: usize, u: usize, v: usize, insert: bool) -> u16
-    requires { ⌜ (n ≤ maxNodes) × (length (now edges) ≡ rowWords * n) ⌝ }
-    ensures { λ r. ⌜ r ≡ edgeRefusal n u v insert (edgeBit (now (edges .entry)) u v) ⌝ }
-{
-    if u >= n {
-        return 14;
-    }
-    if v >= n {
-        return 14;
-    }
-    if u == v {
+    if wanted > 1 {
         return 15;
     }
-    held_refusal(insert, rows::edge(edges, u, v))
+    if there as u16 == wanted {
+        return 16;
+    }
+    0
+}
+
+// Why an update of an edge is refused, or 0.
+fn edge_refusal(edges: &[u64], n: usize, u: usize, v: usize, wanted: u16) -> u16
+    requires { ⌜ (n ≤ maxNodes) × (length (now edges) ≡ rowWords * n) ⌝ }
+    ensures { λ r. ⌜ ((nodes keys : List ℕ) → r ≡ refusal (graphOf n (lent (now (edges .entry)) nodes keys)) (change 1 u v wanted)) ⌝ }
+{
+    let number = rows::pair_refusal(n, u, v);
+    if number != 0 {
+        return number;
+    }
+    wanted_refusal(wanted, rows::edge(edges, u, v))
 }
 
 // Whether u is hidden.
@@ -54,10 +48,10 @@ fn is_hidden(nodes: &[u16], u: usize) -> bool
     groups::number(nodes, u, groups::MARK) == 1
 }
 
-// Why a hiding or revealing is refused, or 0.
-fn mark_refusal(nodes: &[u16], n: usize, u: usize, v: usize, hide: bool) -> u16
+// Why an update of a mark is refused, or 0.
+fn mark_refusal(nodes: &[u16], n: usize, u: usize, v: usize, wanted: u16) -> u16
     requires { ⌜ (n ≤ maxNodes) × (length (now nodes) ≡ nodeNumbers * n) ⌝ }
-    ensures { λ r. ⌜ r ≡ markRefusal n u v hide (eqb (nodeNumber (now (nodes .entry)) u 3) 1) ⌝ }
+    ensures { λ r. ⌜ ((edges keys : List ℕ) → r ≡ refusal (graphOf n (lent edges (now (nodes .entry)) keys)) (change 2 u v wanted)) ⌝ }
 {
     if u >= n {
         return 14;
@@ -65,48 +59,40 @@ fn mark_refusal(nodes: &[u16], n: usize, u: usize, v: usize, hide: bool) -> u16
     if v != 0 {
         return 15;
     }
-    held_refusal(hide, is_hidden(nodes, u))
+    wanted_refusal(wanted, is_hidden(nodes, u))
 }
 
 // Why an update is refused, or 0.
 fn refusal_of(
     edges: &[u64],
     nodes: &[u16],
-    keys: &[u32],
     n: usize,
     kind: u16,
     u: usize,
     v: usize,
+    wanted: u16,
 ) -> u16
-    requires { ⌜ Sized n (lent (now edges) (now nodes) (now keys)) ⌝ }
-    ensures { λ r. ⌜ r ≡ refusal (graphOf n (lent (now (edges .entry)) (now (nodes .entry)) (now (keys .entry)))) (change kind u v) ⌝ }
+    requires { ⌜ (n ≤ maxNodes) × (length (now edges) ≡ rowWords * n) × (length (now nodes) ≡ nodeNumbers * n) ⌝ }
+    ensures { λ r. ⌜ ((keys : List ℕ) → r ≡ refusal (graphOf n (lent (now (edges .entry)) (now (nodes .entry)) keys)) (change kind u v wanted)) ⌝ }
 {
     match kind {
-        1 => edge_refusal(edges, n, u, v, true),
-        2 => edge_refusal(edges, n, u, v, false),
-        3 => mark_refusal(nodes, n, u, v, true),
-        4 => mark_refusal(nodes, n, u, v, false),
+        1 => edge_refusal(edges, n, u, v, wanted),
+        2 => mark_refusal(nodes, n, u, v, wanted),
         _ => 13,
     }
 }
 
 // The mark of u.
-fn set_mark(nodes: &mut [u16], u: usize, hide: bool)
+fn set_mark(nodes: &mut [u16], u: usize, mark: u16)
     requires { ⌜ (u < maxNodes) × (nodeNumbers * u + nodeNumbers ≤ length (now nodes)) ⌝ }
-    ensures { λ _. ⌜ now (nodes .exit) ≡ set (now (nodes .entry)) (nodeNumbers * u + 3) (cond hide 1 0) ⌝ }
+    ensures { λ _. ⌜ now (nodes .exit) ≡ set (now (nodes .entry)) (nodeNumbers * u + 3) mark ⌝ }
 {
-    nodes[Graph::NODE_NUMBERS * u + groups::MARK] = mark_of(hide);
-}
-
-fn mark_of(hide: bool) -> u16
-    ensures { λ r. ⌜ r ≡ cond hide 1 0 ⌝ }
-{
-    if hide { 1 } else { 0 }
+    nodes[Graph::NODE_NUMBERS * u + groups::MARK] = mark;
 }
 
 // A refusal's number as an answer.
 fn refused(number: u16) -> i16
-    requires { ⌜ number < 18 ⌝ }
+    requires { ⌜ number < 17 ⌝ }
     ensures { λ r. ⌜ r ≡ pos number ⌝ }
 {
     number as i16
@@ -121,17 +107,18 @@ pub fn update(
     kind: u16,
     u: usize,
     v: usize,
+    wanted: u16,
 ) -> i16
     requires { ⌜ Held n (lent (now edges) (now nodes) (now keys)) ⌝ }
-    ensures { λ r. ⌜ Updated n (change kind u v) (lent (now (edges .entry)) (now (nodes .entry)) (now (keys .entry))) (lent (now (edges .exit)) (now (nodes .exit)) (now (keys .exit))) r ⌝ }
+    ensures { λ r. ⌜ Updated n (change kind u v wanted) (lent (now (edges .entry)) (now (nodes .entry)) (now (keys .entry))) (lent (now (edges .exit)) (now (nodes .exit)) (now (keys .exit))) r ⌝ }
 {
-    let number = refusal_of(edges, nodes, keys, n, kind, u, v);
+    let number = refusal_of(edges, nodes, n, kind, u, v, wanted);
     if number != 0 {
         return refused(number);
     }
-    if kind < 3 {
-        return groups::update_edge(edges, nodes, keys, n, u, v, kind == 1);
+    if kind == 1 {
+        return groups::update_edge(edges, nodes, keys, n, u, v, wanted);
     }
-    set_mark(nodes, u, kind == 3);
+    set_mark(nodes, u, wanted);
     0
 }

@@ -1,6 +1,6 @@
 -- `text::edge_change` meets its contract.
 use borrow.Author.Needs.{needs}
-use Rattle.text.specs.LineLaws.{edge-both, edge-first, edge-second}
+use Rattle.text.specs.Grammar.{edgeChange}
 use Rattle.text.proofs.edge_change.Statement.{statement}
 use Rattle.text.proofs.edge_change.Tie as tie
 
@@ -11,7 +11,7 @@ enum-told : tie.Need-enum-told
 enum-told c = search needs
 
 returns : tie.Need-returns
-returns c = edge-first _ _ (c .enum-told .given .1)
+returns c = unfold edgeChange in rw (c .enum-told .given .1)
 
 enum-known-second : tie.Need-enum-known-second
 enum-known-second c = search needs
@@ -20,10 +20,10 @@ enum-told-2 : tie.Need-enum-told-2
 enum-told-2 c = search needs
 
 returns-2 : tie.Need-returns-2
-returns-2 c = edge-second _ _ (c .before .before .before .first .given .1) (c .enum-told2 .given .1)
+returns-2 c = unfold edgeChange in rw (c .before .before .before .first .given .1, c .enum-told2 .given .1)
 
 returns-3 : tie.Need-returns-3
-returns-3 c = edge-both _ _ _ (c .before .before .before .before .first .given .1) (c .before .second .given .1)
+returns-3 c = unfold edgeChange in rw (c .before .before .before .before .first .given .1, c .before .second .given .1)
 
 pub edge-change-spec : {M : Type 1} → statement M
 edge-change-spec =

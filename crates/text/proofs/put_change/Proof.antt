@@ -33,11 +33,20 @@ mul-batch-3 c = search needs
 slice-write-batch-3 : tie.Need-slice-write-batch-3
 slice-write-batch-3 c = simp length-set (omega arith)
 
+add-batch-3 : tie.Need-add-batch-3
+add-batch-3 c = search needs
+
+mul-batch-4 : tie.Need-mul-batch-4
+mul-batch-4 c = search needs
+
+slice-write-batch-4 : tie.Need-slice-write-batch-4
+slice-write-batch-4 c = simp length-set (omega arith)
+
 same-length : tie.Need-same-length
 same-length c = search needs
 
 returns : tie.Need-returns
-returns c = change-wrote _ _ _ _ _
+returns c = change-wrote _ _ _ _ _ _
 
 pub put-change-spec : {M : Type 1} → statement M
 put-change-spec =
@@ -52,5 +61,8 @@ put-change-spec =
     add-batch-2
     mul-batch-3
     slice-write-batch-3
+    add-batch-3
+    mul-batch-4
+    slice-write-batch-4
     same-length
     returns)

@@ -1,7 +1,7 @@
 -- `text::read_line` meets its contract.
 use native.Mathlib.Omega.{arith}
 use borrow.Author.Needs.{needs}
-use Rattle.text.specs.LineLaws.{line-not, line-o, line-other, line-short, line-t, line-u, line-w}
+use Rattle.text.specs.LineLaws.{line-by, line-not, line-other, line-short}
 use Rattle.text.specs.PieceLaws.{upTo-le}
 use Rattle.text.proofs.read_line.Statement.{statement}
 use Rattle.text.proofs.read_line.Tie as tie
@@ -67,16 +67,16 @@ mark-line-requires-2 : tie.Need-mark-line-requires-2
 mark-line-requires-2 c κs = search needs
 
 returns-3 : tie.Need-returns-3
-returns-3 c = line-t _ (c .before .before .before .before .before .before .before .before .args .s .now) (c .before .before .before .before .before .before .find .ensures) (c .before .before .before .before .before .if1 .left) (c .before .before .before .before .if2 .left) (c .before .before .match .keys1) (c .edge-line .ensures)
+returns-3 c = line-by _ (c .before .before .before .before .before .before .before .before .args .s .now) (c .before .before .before .before .before .before .find .ensures) (c .before .before .before .before .before .if1 .left) (c .before .before .before .before .if2 .left) (c .before .before .match .keys1) (c .edge-line .ensures)
 
 returns-4 : tie.Need-returns-4
-returns-4 c = line-u _ (c .before .before .before .before .before .before .before .before .args .s .now) (c .before .before .before .before .before .before .find .ensures) (c .before .before .before .before .before .if1 .left) (c .before .before .before .before .if2 .left) (c .before .before .match .keys2) (c .edge-line2 .ensures)
+returns-4 c = line-by _ (c .before .before .before .before .before .before .before .before .args .s .now) (c .before .before .before .before .before .before .find .ensures) (c .before .before .before .before .before .if1 .left) (c .before .before .before .before .if2 .left) (c .before .before .match .keys2) (c .edge-line2 .ensures)
 
 returns-5 : tie.Need-returns-5
-returns-5 c = line-w _ (c .before .before .before .before .before .before .before .before .args .s .now) (c .before .before .before .before .before .before .find .ensures) (c .before .before .before .before .before .if1 .left) (c .before .before .before .before .if2 .left) (c .before .before .match .keys3) (c .mark-line .ensures)
+returns-5 c = line-by _ (c .before .before .before .before .before .before .before .before .args .s .now) (c .before .before .before .before .before .before .find .ensures) (c .before .before .before .before .before .if1 .left) (c .before .before .before .before .if2 .left) (c .before .before .match .keys3) (c .mark-line .ensures)
 
 returns-6 : tie.Need-returns-6
-returns-6 c = line-o _ (c .before .before .before .before .before .before .before .before .args .s .now) (c .before .before .before .before .before .before .find .ensures) (c .before .before .before .before .before .if1 .left) (c .before .before .before .before .if2 .left) (c .before .before .match .keys4) (c .mark-line2 .ensures)
+returns-6 c = line-by _ (c .before .before .before .before .before .before .before .before .args .s .now) (c .before .before .before .before .before .before .find .ensures) (c .before .before .before .before .before .if1 .left) (c .before .before .before .before .if2 .left) (c .before .before .match .keys4) (c .mark-line2 .ensures)
 
 returns-7 : tie.Need-returns-7
 returns-7 c = line-other _ (c .before .before .before .before .before .before .args .s .now) (c .before .before .before .before .find .ensures) (c .before .before .before .if1 .left) (c .before .before .if2 .left) (c .match .rest .0 .0 .0 .1) (c .match .rest .0 .0 .1) (c .match .rest .0 .1) (c .match .rest .1)

@@ -33,8 +33,8 @@ find-requires c κs = search needs
 add-end : tie.Need-add-end Inv-loop μ-loop
 add-end c = omega (arith, end-within (c .before .before .before .before .before .before .args .input .now) _ _ (c .before .before .before .loop .inv .within) (c .find .ensures))
 
-add-t18 : tie.Need-add-t18 Inv-loop μ-loop
-add-t18 c = omega arith
+add-t19 : tie.Need-add-t19 Inv-loop μ-loop
+add-t19 c = omega arith
 
 same-length : tie.Need-same-length Inv-loop μ-loop
 same-length c = wrote-length (c .before .before .before .before .loop .inv .wrote)
@@ -42,8 +42,8 @@ same-length c = wrote-length (c .before .before .before .before .loop .inv .wrot
 returns : tie.Need-returns Inv-loop μ-loop
 returns c = reading-open (c .before .before .before .before .loop .inv) _ (c .before .before .before .loop-test .taken) (c .before .find .ensures) (c .if1 .taken)
 
-add-t19 : tie.Need-add-t19 Inv-loop μ-loop
-add-t19 c = omega arith
+add-t20 : tie.Need-add-t20 Inv-loop μ-loop
+add-t20 c = omega arith
 
 same-length-2 : tie.Need-same-length-2 Inv-loop μ-loop
 same-length-2 c = wrote-length (c .before .before .before .before .before .loop .inv .wrote)
@@ -69,8 +69,8 @@ enum-known-line c = c .match .keys1
 enum-told : tie.Need-enum-told Inv-loop μ-loop
 enum-told c = c .match .keys2
 
-add-t23 : tie.Need-add-t23 Inv-loop μ-loop
-add-t23 c = omega arith
+add-t24 : tie.Need-add-t24 Inv-loop μ-loop
+add-t24 c = omega arith
 
 same-length-3 : tie.Need-same-length-3 Inv-loop μ-loop
 same-length-3 c = wrote-length (c .before .before .before .before .before .before .before .before .before .loop .inv .wrote)
@@ -91,7 +91,7 @@ loop-less : tie.Need-loop-less Inv-loop μ-loop
 loop-less c = omega (arith, end-within (c .before .before .before .before .before .before .before .before .before .before .before .before .before .before .before .before .before .args .input .now) _ _ (c .before .before .before .before .before .before .before .before .before .before .before .before .before .before .loop .inv .within) (c .before .before .before .before .before .before .before .before .before .before .before .find .ensures), c .before .before .before .before .before .before .before .before .before .before .if1 .left, c .before .before .before .before .before .before .before .before .before .before .before .before .before .loop-test .taken)
 
 loop-again : tie.Need-loop-again Inv-loop μ-loop
-loop-again c = reading-step (c .before .before .before .before .before .before .before .before .before .before .before .before .before .before .loop .inv) _ _ _ _ (c .before .before .before .before .before .before .before .before .before .before .before .find .ensures) (c .before .before .before .before .before .before .before .before .before .before .if1 .left) (c .before .before .before .before .before .before .before .before .before .if2 .left) (c .before .before .before .before .before .before .before .read-line .ensures) (c .before .before .before .before .before .line .given .1) (c .before .before .put-change .ensures)
+loop-again c = reading-step (c .before .before .before .before .before .before .before .before .before .before .before .before .before .before .loop .inv) _ _ _ _ _ (c .before .before .before .before .before .before .before .before .before .before .before .find .ensures) (c .before .before .before .before .before .before .before .before .before .before .if1 .left) (c .before .before .before .before .before .before .before .before .before .if2 .left) (c .before .before .before .before .before .before .before .read-line .ensures) (c .before .before .before .before .before .line .given .1) (c .before .before .put-change .ensures)
 
 same-length-4 : tie.Need-same-length-4 Inv-loop μ-loop
 same-length-4 c = wrote-length (c .before .loop .inv .wrote)
@@ -111,10 +111,10 @@ read-lines-spec =
     part-find-end
     find-requires
     add-end
-    add-t18
+    add-t19
     same-length
     returns
-    add-t19
+    add-t20
     same-length-2
     returns-2
     sub-read-line
@@ -123,7 +123,7 @@ read-lines-spec =
     read-line-requires
     enum-known-line
     enum-told
-    add-t23
+    add-t24
     same-length-3
     returns-3
     put-change-requires

@@ -65,18 +65,27 @@ mul-update c = omega arith
 shared-slice-read-update : tie.Need-shared-slice-read-update Inv-loop μ-loop
 shared-slice-read-update c = omega arith
 
-update-requires : tie.Need-update-requires Inv-loop μ-loop
-update-requires c κs = c .before .before .before .before .before .before .before .before .before .loop .inv .0 .held
+add-update : tie.Need-add-update Inv-loop μ-loop
+add-update c = omega arith
 
-mul-t14 : tie.Need-mul-t14 Inv-loop μ-loop
-mul-t14 c =
-    let l = c .before .before .before .before .before .before .before .before .before .before .before .before .before .before .before .before in
+mul-update-2 : tie.Need-mul-update-2 Inv-loop μ-loop
+mul-update-2 c = omega arith
+
+shared-slice-read-update-2 : tie.Need-shared-slice-read-update-2 Inv-loop μ-loop
+shared-slice-read-update-2 c = omega arith
+
+update-requires : tie.Need-update-requires Inv-loop μ-loop
+update-requires c κs = c .before .before .before .before .before .before .before .before .before .before .loop .inv .0 .held
+
+mul-t29 : tie.Need-mul-t29 Inv-loop μ-loop
+mul-t29 c =
+    let l = c .before .before .before .before .before .before .before .before .before .before .before .before .before .before .before .before .before in
     omega (arith, l .loop .inv .1, l .loop .inv .2, l .loop .inv .3)
 
 slice-set-from-answers : tie.Need-slice-set-from-answers Inv-loop μ-loop
 slice-set-from-answers c =
-    let l = c .before .before .before .before .before .before .before .before .before .before .before .before .before .before .before .before in
-    omega (arith, l .loop .inv .0 .size, l .loop .inv .3, c .before .before .before .before .before .before .before .before .before .before .before .before .before .before .before .loop-test .taken)
+    let l = c .before .before .before .before .before .before .before .before .before .before .before .before .before .before .before .before .before in
+    omega (arith, l .loop .inv .0 .size, l .loop .inv .3, c .before .before .before .before .before .before .before .before .before .before .before .before .before .before .before .before .loop-test .taken)
 
 add-i : tie.Need-add-i Inv-loop μ-loop
 add-i c = omega arith
@@ -87,7 +96,7 @@ loop-less c = omega arith
 loop-again : tie.Need-loop-again Inv-loop μ-loop
 loop-again c =
     let u = c .before .before .before .before .before .before in
-    let w = u .before .before .before .before .before in
+    let w = u .before .before .before .before .before .before in
     let l = w .before .before .before .before .before in
     (underway-next (l .loop .inv .0) (omega (arith, l .loop .inv .2, w .before .before .before .before .loop-test .taken)) (omega (arith, l .loop .inv .3, w .before .before .before .before .loop-test .taken)) (w .before .before .wide .ensures) (w .wide2 .ensures) (u .update .ensures) (toZ-ofZ (record { sfits = u .update .ok })), omega (arith, w .before .before .before .before .loop-test .taken), l .loop .inv .2, l .loop .inv .3)
 
@@ -125,8 +134,11 @@ run-spec =
     wide-requires-2
     mul-update
     shared-slice-read-update
+    add-update
+    mul-update-2
+    shared-slice-read-update-2
     update-requires
-    mul-t14
+    mul-t29
     slice-set-from-answers
     add-i
     loop-less
