@@ -10,7 +10,7 @@ import functools
 import os
 import sys
 
-MOST_NODES, MOST_UPDATES, ROW_WORDS, NODE_NUMBERS = 512, 4096, 8, 4
+MOST_NODES, MOST_UPDATES, ROW_WORDS, NODE_NUMBERS, UPDATE_NUMBERS = 512, 4096, 8, 4, 4
 MOST_STATES, NAME_BYTES = 8, 16
 NO_CHAIN = 65535
 
@@ -143,40 +143,38 @@ def places_in(n, store):
     return places if len(set(names)) == len(names) else None
 
 
-def update_refusal(graph, kind, u, v):
-    if kind not in (1, 2, 3, 4):
+def updates_of(batch):
+    """The updates of a batch, the last one shorter where it is not in fours."""
+    return [batch[i:i + UPDATE_NUMBERS] for i in range(0, len(batch), UPDATE_NUMBERS)]
+
+
+def subject(graph, kind, u, v):
+    """What an update is about: a set, and the one that is wanted in it or not."""
+    return (graph.edges, (min(u, v), max(u, v))) if kind == 1 else (graph.hidden, u)
+
+
+def update_refusal(graph, kind, u, v, wanted):
+    if kind not in (1, 2):
         return 13
-    if kind in (1, 2):
-        if u >= graph.n or v >= graph.n:
-            return 14
-        if u == v:
-            return 15
-        there = graph.tied(u, v)
-    else:
-        if u >= graph.n:
-            return 14
-        if v != 0:
-            return 15
-        there = u in graph.hidden
-    if kind in (1, 3):
-        return 16 if there else 0
-    return 0 if there else 17
+    if u >= graph.n or kind == 1 and v >= graph.n:
+        return 14
+    if wanted > 1 or (u == v if kind == 1 else v != 0):
+        return 15
+    members, one = subject(graph, kind, u, v)
+    return 16 if (one in members) == (wanted == 1) else 0
 
 
-def update(graph, kind, u, v):
+def update(graph, kind, u, v, wanted):
     """One update: its answer."""
-    refused = update_refusal(graph, kind, u, v)
+    refused = update_refusal(graph, kind, u, v, wanted)
     if refused:
         return refused
     before = len(groups_of(graph))
-    if kind == 1:
-        graph.edges.add((min(u, v), max(u, v)))
-    elif kind == 2:
-        graph.edges.remove((min(u, v), max(u, v)))
-    elif kind == 3:
-        graph.hidden.add(u)
+    members, one = subject(graph, kind, u, v)
+    if wanted:
+        members.add(one)
     else:
-        graph.hidden.remove(u)
+        members.remove(one)
     return len(groups_of(graph)) - before
 
 
@@ -336,15 +334,15 @@ class Calls:
         return 0
 
     def apply(self, n, tables, batch, answers):
-        if self.wrong_size(n, tables) or len(batch) % 3 or len(batch) // 3 > MOST_UPDATES:
+        updates = updates_of(batch)
+        if self.wrong_size(n, tables) or len(batch) % UPDATE_NUMBERS or len(updates) > MOST_UPDATES:
             return 11
         graph = graph_of(n, tables)
         if graph is None:
             return 12
-        if len(answers) < len(batch) // 3:
+        if len(answers) < len(updates):
             return 18
-        for i in range(len(batch) // 3):
-            answers[i] = update(graph, *batch[3 * i:3 * i + 3])
+        answers[:len(updates)] = [update(graph, *each) for each in updates]
         self.fill(tables, graph)
         return 0
 
@@ -461,8 +459,8 @@ def drawn(seed, times, span):
 
     for _ in range(times):
         k, u, v, some = draw(8), draw(span), draw(span), draw(16)
-        kind = (1, 1, 1, 2, 2, 3, 4, some)[k]
-        found += [kind, u, v if k < 5 or some == 0 else 0]
+        kind, wanted = ((1, 1), (1, 1), (1, 1), (1, 0), (1, 0), (2, 1), (2, 0), (some % 4, some // 4))[k]
+        found += [kind, u, v if k < 5 or some == 0 else 0, wanted]
     return found
 
 
@@ -560,20 +558,20 @@ class IndexScript(Script):
         if i < min(self.room[0], len(self.store)):
             self.store[i] = x
 
-    def update(self, kind, u, v):
-        self.batch += [kind, u, v]
+    def update(self, kind, u, v, wanted):
+        self.batch += [kind, u, v, wanted]
 
     def extra(self, x):
         self.batch += [x]
 
-    def many(self, times, kind, u, v):
-        self.batch += [kind, u, v] * times
+    def many(self, times, kind, u, v, wanted):
+        self.batch += [kind, u, v, wanted] * times
 
-    def block(self, kind, a, b, c, d):
+    def block(self, wanted, a, b, c, d):
         for u in range(a, b):
             for v in range(c, d):
                 if u < v:
-                    self.batch += [kind, u, v]
+                    self.batch += [1, u, v, wanted]
 
     def random(self, seed, times, span):
         self.batch += drawn(seed, times, span)
@@ -614,7 +612,7 @@ class IndexScript(Script):
             u, v = pair_at((i & -i).bit_length() - 1)
             (_, yes), _ = self.on_tables(self.calls.tied, u, v)
             answers = [4660]
-            result, parts = self.on_tables(self.calls.apply, [2 if yes else 1, u, v], answers)
+            result, parts = self.on_tables(self.calls.apply, [1, u, v, int(not yes)], answers)
             h = fold_tables(fold_all(h, [result] + codes(answers)), parts)
         self.say('walk digest', h)
 
@@ -691,8 +689,8 @@ class ReleaseScript(Script):
             h = self.asked(h, bytes(self.bytes), p, 1024)
         self.say('queries digest', h)
 
-    def update(self, kind, u, v):
-        self.applied('update', [kind, u, v], [4660], 1)
+    def update(self, kind, u, v, wanted):
+        self.applied('update', [kind, u, v, wanted], [4660], 1)
 
     def tried(self, tally, file, p):
         """One damaged file: read into tables for six nodes, and asked for the neighbours of p and its distance from node 0."""
@@ -716,13 +714,12 @@ class ReleaseScript(Script):
 
     def mix(self, seed, times, span):
         h = 0
-        updates = drawn(seed, times, span)
-        for i in range(0, len(updates), 3):
+        for batch in updates_of(drawn(seed, times, span)):
             answers, out = [4660], [165] * 512
-            result, _ = self.on_tables(self.calls.apply, updates[i:i + 3], answers)
+            result, _ = self.on_tables(self.calls.apply, batch, answers)
             told, _ = self.on_tables(self.calls.release, out)
             h = fold_all(h, [result] + codes(answers) + list(told) + out)
-            h = self.asked_twice(h, bytes(out[:told[4]]), updates[i + 1])
+            h = self.asked_twice(h, bytes(out[:told[4]]), batch[1])
         self.say('mix digest', h)
 
 

@@ -164,7 +164,7 @@ fn main() {
     let mut nodes = [7u16; 2052];
     let mut keys = [7u32; 1026];
     let mut store = [7u64; 36897];
-    let mut batch = [0u16; 12300];
+    let mut batch = [0u16; 16400];
     run(
         &text[..n],
         &mut set,

@@ -23,9 +23,9 @@ fn high_of(t: usize) -> u16 {
     6
 }
 
-// The update that takes a pair out if it is tied, else puts it in.
-fn toggle_kind(yes: bool) -> u16 {
-    if yes { 2 } else { 1 }
+// What toggles a pair: 0 is wanted if it is tied, else 1.
+fn toggled(yes: bool) -> u16 {
+    if yes { 0 } else { 1 }
 }
 
 // Step i of a walk: the pair at the place of i's lowest bit is toggled, in a batch of its own.
@@ -41,7 +41,7 @@ fn walk_step(
     let u = low_of(t);
     let v = high_of(t);
     let e = index::tied(n, edges, nodes, keys, u, v);
-    let batch = [toggle_kind(e.yes), u, v];
+    let batch = [1, u, v, toggled(e.yes)];
     let d = trial::single::fold_apply(h, n, edges, nodes, keys, &batch);
     fold_tables(d, edges, nodes, keys)
 }

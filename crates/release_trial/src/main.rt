@@ -53,7 +53,7 @@ fn on_tables(
     match command {
         b'r' => calls::read(n, edges, nodes, keys, file),
         b'w' => calls::write(n, edges, nodes, keys, file, line[1]),
-        b'u' => trial::single::update(n, edges, nodes, keys, line[1], line[2], line[3]),
+        b'u' => trial::single::update(n, edges, nodes, keys, line[1], line[2], line[3], line[4]),
         b'm' => sweep::mix(n, edges, nodes, keys, line[1], line[2], line[3]),
         _ => return,
     }

@@ -195,7 +195,7 @@ pub fn mix(
     for i in 0..times {
         let u = trial::draws::update(x, span);
         x = u.next;
-        let batch = [small(u.kind), small(u.u), small(u.v)];
+        let batch = trial::single::batch_of(u.kind, u.u, u.v, u.wanted);
         d = trial::single::fold_apply(d, n, edges, nodes, keys, &batch);
         d = fold_release(d, n, edges, nodes, keys, small(u.u));
     }

@@ -3,6 +3,7 @@ pub struct Drawn {
     pub kind: u64,
     pub u: u64,
     pub v: u64,
+    pub wanted: u64,
     pub next: u64,
 }
 
@@ -18,18 +19,25 @@ fn draw(x: u64, below: u64) -> u64 {
     x / 65536 % below
 }
 
-// A kind of update from a number below 8: 7 gives any number.
+// A kind of update from a number below 8: 7 gives any number below 4.
 fn kind_of(k: u64, any: u64) -> u64 {
     match k {
-        0 | 1 | 2 => 1,
-        3 | 4 => 2,
-        5 => 3,
-        6 => 4,
-        _ => any,
+        0 | 1 | 2 | 3 | 4 => 1,
+        5 | 6 => 2,
+        _ => any % 4,
     }
 }
 
-// The second node of an update: mostly 0 where a node is hidden or revealed.
+// What is wanted, from the same number: 7 gives any number below 4.
+fn wanted_of(k: u64, any: u64) -> u64 {
+    match k {
+        0 | 1 | 2 | 5 => 1,
+        3 | 4 | 6 => 0,
+        _ => any / 4,
+    }
+}
+
+// The second node of an update: mostly 0 where it is no edge.
 fn second_of(k: u64, any: u64, v: u64) -> u64 {
     if k < 5 {
         return v;
@@ -52,6 +60,7 @@ pub fn update(seed: u64, span: u64) -> Drawn {
         kind: kind_of(k, any),
         u: draw(b, span),
         v: second_of(k, any, draw(c, span)),
+        wanted: wanted_of(k, any),
         next: d,
     }
 }

@@ -5,6 +5,11 @@ use crate::digest::wide;
 use crate::say;
 use crate::script::small;
 
+// The batch of one update.
+pub fn batch_of(kind: u64, u: u64, v: u64, wanted: u64) -> [u16; 4] {
+    [small(kind), small(u), small(v), small(wanted)]
+}
+
 // The batch applied, its result and its answer folded.
 pub fn fold_apply(
     h: u64,
@@ -12,7 +17,7 @@ pub fn fold_apply(
     edges: &mut [u64],
     nodes: &mut [u16],
     keys: &mut [u32],
-    batch: &[u16; 3],
+    batch: &[u16; 4],
 ) -> u64 {
     let mut answers = [4660i16; 1];
     let r = index::apply(n, edges, nodes, keys, batch, &mut answers);
@@ -28,8 +33,9 @@ pub fn update(
     kind: u64,
     u: u64,
     v: u64,
+    wanted: u64,
 ) {
-    let batch = [small(kind), small(u), small(v)];
+    let batch = batch_of(kind, u, v, wanted);
     let mut answers = [4660i16; 1];
     let r = index::apply(n, edges, nodes, keys, &batch, &mut answers);
     say::applied(b"update", r, &answers, 1);

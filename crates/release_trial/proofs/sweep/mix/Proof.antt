@@ -18,20 +18,14 @@ loop-holds c = search needs
 update-requires : tie.Need-update-requires Inv-loop μ-loop
 update-requires c κs = search needs
 
-small-requires : tie.Need-small-requires Inv-loop μ-loop
-small-requires c κs = search needs
-
-small-requires-2 : tie.Need-small-requires-2 Inv-loop μ-loop
-small-requires-2 c κs = search needs
-
-small-requires-3 : tie.Need-small-requires-3 Inv-loop μ-loop
-small-requires-3 c κs = search needs
+batch-of-requires : tie.Need-batch-of-requires Inv-loop μ-loop
+batch-of-requires c κs = search needs
 
 fold-apply-requires : tie.Need-fold-apply-requires Inv-loop μ-loop
 fold-apply-requires c κs = search needs
 
-small-requires-4 : tie.Need-small-requires-4 Inv-loop μ-loop
-small-requires-4 c κs = search needs
+small-requires : tie.Need-small-requires Inv-loop μ-loop
+small-requires c κs = search needs
 
 fold-release-requires : tie.Need-fold-release-requires Inv-loop μ-loop
 fold-release-requires c κs = search needs
@@ -68,11 +62,9 @@ mix-spec =
     μ-loop
     loop-holds
     update-requires
-    small-requires
-    small-requires-2
-    small-requires-3
+    batch-of-requires
     fold-apply-requires
-    small-requires-4
+    small-requires
     fold-release-requires
     add-i
     loop-less

@@ -7,10 +7,10 @@ use Rattle.trial.proofs.batch.push_block.Statement.{statement}
 use Rattle.trial.proofs.batch.push_block.Tie as tie
 
 abbrev Inv-loop : tie.InvT-loop
-Inv-loop batch₀ count kind a b c d k₀ u₀ batch k u = length batch ≡ length batch₀
+Inv-loop batch₀ count wanted a b c d k₀ u₀ batch k u = length batch ≡ length batch₀
 
 abbrev μ-loop : tie.MeasureT-loop
-μ-loop batch₀ count kind a b c d k₀ u₀ batch k u = b - u
+μ-loop batch₀ count wanted a b c d k₀ u₀ batch k u = b - u
 
 loop-holds : tie.Need-loop-holds Inv-loop μ-loop
 loop-holds c = search needs

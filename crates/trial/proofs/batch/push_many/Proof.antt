@@ -7,10 +7,10 @@ use Rattle.trial.proofs.batch.push_many.Statement.{statement}
 use Rattle.trial.proofs.batch.push_many.Tie as tie
 
 abbrev Inv-loop : tie.InvT-loop
-Inv-loop batch₀ count times kind u v c₀ i₀ batch c i = length batch ≡ length batch₀
+Inv-loop batch₀ count times kind u v wanted c₀ i₀ batch c i = length batch ≡ length batch₀
 
 abbrev μ-loop : tie.MeasureT-loop
-μ-loop batch₀ count times kind u v c₀ i₀ batch c i = times - i
+μ-loop batch₀ count times kind u v wanted c₀ i₀ batch c i = times - i
 
 loop-holds : tie.Need-loop-holds Inv-loop μ-loop
 loop-holds c = search needs

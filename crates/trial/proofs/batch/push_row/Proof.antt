@@ -7,10 +7,10 @@ use Rattle.trial.proofs.batch.push_row.Statement.{statement}
 use Rattle.trial.proofs.batch.push_row.Tie as tie
 
 abbrev Inv-loop : tie.InvT-loop
-Inv-loop batch₀ count kind u a b c₀ v₀ batch c v = length batch ≡ length batch₀
+Inv-loop batch₀ count wanted u a b c₀ v₀ batch c v = length batch ≡ length batch₀
 
 abbrev μ-loop : tie.MeasureT-loop
-μ-loop batch₀ count kind u a b c₀ v₀ batch c v = b - v
+μ-loop batch₀ count wanted u a b c₀ v₀ batch c v = b - v
 
 loop-holds : tie.Need-loop-holds Inv-loop μ-loop
 loop-holds c = search needs
