@@ -25,6 +25,7 @@ extern "C" {
 enum {
     TEGMULOS_NODES = 512,        /* nodes of a graph */
     TEGMULOS_UPDATES = 4096,     /* updates of a batch */
+    TEGMULOS_UPDATE_NUMBERS = 4, /* numbers of an update */
     TEGMULOS_ROW_WORDS = 8,      /* words of a row */
     TEGMULOS_NODE_NUMBERS = 4,   /* numbers of a node */
     TEGMULOS_STATES = 8,         /* states of a store */
@@ -35,8 +36,8 @@ enum {
 /* Words of a store for n nodes. */
 #define TEGMULOS_STORE_WORDS(n) (1 + TEGMULOS_STATES * (3 + (TEGMULOS_ROW_WORDS + 1) * (n)))
 
-/* The kinds of an update. */
-enum { TEGMULOS_INSERT = 1, TEGMULOS_DELETE = 2, TEGMULOS_HIDE = 3, TEGMULOS_REVEAL = 4 };
+/* The kinds of an update: the edge between u and v, or u's mark. */
+enum { TEGMULOS_EDGE = 1, TEGMULOS_MARK = 2 };
 
 /* The kinds of a group. */
 enum { TEGMULOS_SINGLETON = 0, TEGMULOS_INDEPENDENT = 1, TEGMULOS_CLIQUE = 2 };
@@ -44,13 +45,12 @@ enum { TEGMULOS_SINGLETON = 0, TEGMULOS_INDEPENDENT = 1, TEGMULOS_CLIQUE = 2 };
 /* Results and answers. */
 enum {
     TEGMULOS_DONE = 0,
-    TEGMULOS_WRONG_SIZE = 11,    /* n over 512, a table, store or name of the wrong length, or a batch not in threes or too long */
+    TEGMULOS_WRONG_SIZE = 11,    /* n over 512, a table, store or name of the wrong length, or a batch not in fours or too long */
     TEGMULOS_NO_GRAPH = 12,      /* the tables hold no graph, or the words are no store for n nodes */
-    TEGMULOS_NO_KIND = 13,       /* an update of no kind from 1 to 4 */
+    TEGMULOS_NO_KIND = 13,       /* an update of a kind other than 1 and 2 */
     TEGMULOS_NO_NODE = 14,       /* a node n or above; asked of a file, also a hidden one */
-    TEGMULOS_SAME_NODE = 15,     /* one node where two are asked; a second number that is not 0 in a hide or reveal */
-    TEGMULOS_ALREADY = 16,       /* the edge is there; the node is hidden */
-    TEGMULOS_NOT_THERE = 17,     /* the edge is not there; the node is visible */
+    TEGMULOS_WRONG_VALUE = 15,   /* one node where two are asked; in an update, wanted above 1, or v other than 0 in kind 2 */
+    TEGMULOS_ALREADY_HOLDS = 16, /* what is wanted holds already */
     TEGMULOS_SHORT_BUFFER = 18,  /* a buffer shorter than needed */
     TEGMULOS_NO_RELEASE = 19,    /* the bytes are no graph's release */
     TEGMULOS_OTHER_SIZE = 20,    /* a release, but for another n */
@@ -75,8 +75,9 @@ uint16_t tegmulos_restore(size_t n, uint64_t *edges, size_t edges_len, uint16_t 
 /* The name is struck, and its place cleared. 0, or 11, 12, 21. */
 uint16_t tegmulos_drop(size_t n, uint64_t *store, size_t store_len, const uint8_t *name, size_t name_len);
 
-/* A batch of updates, three numbers each: kind, u, v (v is 0 to hide or reveal). Each writes one answer: the number of its refusal,
- * or how many groups more there are, from -2 to 2. 0, or 11, 12, 18. */
+/* A batch of updates, four numbers each: kind, u, v (0 in kind 2), wanted. What is wanted holds after an accepted one: 1 that the
+ * edge is there or the node hidden, 0 that it is not. Each writes one answer: the number of its refusal, or how many groups more
+ * there are, from -2 to 2. 0, or 11, 12, 18. */
 uint16_t tegmulos_apply(size_t n, uint64_t *edges, size_t edges_len, uint16_t *nodes, size_t nodes_len, uint32_t *keys,
                         size_t keys_len, const uint16_t *batch, size_t batch_len, int16_t *answers, size_t answers_len);
 

@@ -160,13 +160,13 @@ impl Buckets {
         self.enter_closed(a);
     }
 
-    /// An edge inserted or deleted.
-    pub fn update(&mut self, kind: u16, u: u16, v: u16) {
+    /// The edge between u and v as it is wanted, which it is not before.
+    pub fn update(&mut self, u: u16, v: u16, wanted: u16) {
         self.take_out(u);
         self.take_out(v);
         for (p, q) in [(u, v), (v, u)] {
             self.rows[usize::from(p)][usize::from(q / 64)] ^= 1 << (q % 64);
-            let x = if kind == 1 { cube(q) } else { cube(q).wrapping_neg() };
+            let x = if wanted == 1 { cube(q) } else { cube(q).wrapping_neg() };
             self.open[usize::from(p)] = self.open[usize::from(p)].wrapping_add(x);
             self.closed[usize::from(p)] = self.closed[usize::from(p)].wrapping_add(x);
         }

@@ -2,7 +2,7 @@
 
 use crate::calls::{self, Counts, Member};
 use crate::graphs::{self, Lent, Random, Shape, Tables};
-use crate::lent;
+use crate::lent::{self, UPDATES, UPDATE_NUMBERS};
 use std::collections::BTreeMap;
 use std::time::{Duration, Instant};
 
@@ -13,6 +13,10 @@ struct Tally {
     graphs: u64,
     batches: u64,
     updates: u64,
+    /// How often batches gave each number.
+    batch_results: BTreeMap<u16, u64>,
+    /// How often updates gave each answer.
+    answers: BTreeMap<i16, u64>,
     damaged_tables: u64,
     refused_tables: u64,
     queries: u64,
@@ -45,32 +49,53 @@ fn size(random: &mut Random) -> usize {
     }
 }
 
-fn batch(n: usize, random: &mut Random) -> Vec<u16> {
-    let wild = random.below(8) == 0;
-    let mut list = Vec::new();
-    for _ in 0..random.below(if n > 100 { 200 } else { 60 }) {
-        let mut node = || if random.below(40) == 0 { random.next() as u16 } else { random.below(n + 1) as u16 };
-        let (u, v) = (node(), node());
-        let kind = random.below(if wild { 6 } else { 5 }) as u16;
-        let v = if kind > 2 && random.below(10) > 0 { 0 } else { v };
-        list.extend([kind, u, v]);
+/// Mostly 0 to 4, now and then the largest or any.
+fn few(random: &mut Random) -> u16 {
+    match random.below(10) {
+        0 => u16::MAX,
+        1 => random.next() as u16,
+        _ => random.below(5) as u16,
     }
+}
+
+/// Each of its numbers may be one that is refused, alone or with others.
+fn update(n: usize, random: &mut Random) -> [u16; UPDATE_NUMBERS] {
+    let mut node = || if random.below(40) == 0 { random.next() as u16 } else { random.below(n + 1) as u16 };
+    let (u, v) = (node(), node());
+    let kind = if random.below(8) == 0 { few(random) } else { [1, 1, 2][random.below(3)] };
+    let v = if kind != 1 && random.below(8) > 0 { 0 } else { v };
+    let wanted = if random.below(5) == 0 { few(random) } else { random.below(2) as u16 };
+    [kind, u, v, wanted]
+}
+
+/// Now and then not in fours, and at times about as long as a batch may be.
+fn batch(n: usize, random: &mut Random) -> Vec<u16> {
+    let count = match random.below(2000) {
+        0 => UPDATES - 1 + random.below(3),
+        _ => random.below(if n > 100 { 200 } else { 60 }),
+    };
+    let mut list: Vec<u16> = (0..count).flat_map(|_| update(n, random)).collect();
     if random.below(50) == 0 {
-        list.push(1);
+        list.extend(&update(n, random)[1 + random.below(3)..]);
     }
     list
 }
 
 fn apply(t: &mut Tables, random: &mut Random, tally: &mut Tally) {
     let batch = batch(t.n, random);
-    let room = if random.below(20) == 0 { random.below(batch.len() / 3 + 1) } else { batch.len() / 3 + random.below(3) };
+    let count = batch.len() / UPDATE_NUMBERS;
+    let room = if random.below(20) == 0 { random.below(count + 1) } else { count + random.below(3) };
     let mut other = t.clone();
     let (mut x, mut y) = (vec![4660; room], vec![4660; room]);
     let a = calls::apply(t.n, &mut t.edges, &mut t.nodes, &mut t.keys, &batch, &mut x);
     let b = lent::apply(t.n, &mut other.edges, &mut other.nodes, &mut other.keys, &batch, &mut y);
     assert_eq!((a, &x, &*t), (b, &y, &other), "{batch:?}");
     tally.batches += 1;
-    tally.updates += (batch.len() / 3) as u64;
+    tally.updates += count as u64;
+    *tally.batch_results.entry(a).or_default() += 1;
+    if a == 0 {
+        x[..count].iter().for_each(|&answer| *tally.answers.entry(answer).or_default() += 1);
+    }
 }
 
 fn ask(t: &Tables, random: &mut Random, tally: &mut Tally) -> u16 {

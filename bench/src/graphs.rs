@@ -1,7 +1,7 @@
 //! Graphs and batches to measure on, from a seed.
 
 use crate::calls;
-use crate::lent;
+use crate::lent::{self, UPDATES, UPDATE_NUMBERS};
 
 /// The tables of a graph.
 #[derive(Clone, PartialEq, Eq, Debug)]
@@ -93,12 +93,12 @@ pub fn name(k: usize) -> [u8; 16] {
 pub fn build(n: usize, edges: &[(u16, u16)], hide: usize) -> Tables {
     let Lent { mut t, mut store } = Lent::filled(n, 7);
     assert_eq!(calls::open(n, &mut t.edges, &mut t.nodes, &mut t.keys, &mut store), 0);
-    let mut batch: Vec<u16> = edges.iter().flat_map(|&(u, v)| [1, u, v]).collect();
+    let mut batch: Vec<u16> = edges.iter().flat_map(|&(u, v)| [1, u, v, 1]).collect();
     for p in (0..n).step_by(hide) {
-        batch.extend([3, p as u16, 0]);
+        batch.extend([2, p as u16, 0, 1]);
     }
-    for part in batch.chunks(3 * 4096) {
-        let mut answers = vec![0; part.len() / 3];
+    for part in batch.chunks(UPDATE_NUMBERS * UPDATES) {
+        let mut answers = vec![0; part.len() / UPDATE_NUMBERS];
         assert_eq!(calls::apply(n, &mut t.edges, &mut t.nodes, &mut t.keys, part, &mut answers), 0);
     }
     t
@@ -108,14 +108,14 @@ pub fn build(n: usize, edges: &[(u16, u16)], hide: usize) -> Tables {
 pub fn there_and_back(t: &Tables, random: &mut Random) -> Vec<u16> {
     let mut there: Vec<Vec<bool>> = (0..t.n).map(|p| (0..t.n).map(|q| t.edges[8 * p + q / 64] >> (q % 64) & 1 == 1).collect()).collect();
     let mut batch = Vec::new();
-    for _ in 0..2048 {
+    for _ in 0..UPDATES / 2 {
         let p = random.below(t.n);
         let q = (p + 1 + random.below(t.n - 1)) % t.n;
-        let kind = if there[p][q] { 2 } else { 1 };
-        there[p][q] = kind == 1;
-        there[q][p] = kind == 1;
-        batch.push([kind, p as u16, q as u16]);
+        let wanted = !there[p][q];
+        there[p][q] = wanted;
+        there[q][p] = wanted;
+        batch.push([1, p as u16, q as u16, u16::from(wanted)]);
     }
-    let back: Vec<[u16; 3]> = batch.iter().rev().map(|&[kind, p, q]| [3 - kind, p, q]).collect();
+    let back: Vec<[u16; UPDATE_NUMBERS]> = batch.iter().rev().map(|&[kind, p, q, wanted]| [kind, p, q, 1 - wanted]).collect();
     batch.into_iter().chain(back).flatten().collect()
 }

@@ -3,6 +3,10 @@
 use crate::calls::{Counts, Member};
 
 pub const NODES: usize = 512;
+/// The most updates of a batch.
+pub const UPDATES: usize = 4096;
+/// The numbers of an update: kind, u, v, wanted.
+pub const UPDATE_NUMBERS: usize = 4;
 const NONE: u16 = u16::MAX;
 
 type Row = [u64; 8];
@@ -421,7 +425,8 @@ fn find(e: &[u64], v: &[u16], k: &[u32], n: usize, u: usize, w: usize) -> Option
             hit |= (pair[0] == o) | (pair[1] == c);
         }
         if hit {
-            if let Some(q) = (16 * i..16 * i + 16).find(|&q| joined(e, v, k, u, w, q)) {
+            let alike = |&q: &usize| (chunk[2 * (q % 16)] == o) | (chunk[2 * (q % 16) + 1] == c);
+            if let Some(q) = (16 * i..16 * i + 16).filter(alike).find(|&q| joined(e, v, k, u, w, q)) {
                 return Some(q);
             }
         }
@@ -457,12 +462,12 @@ fn put_back(e: &[u64], v: &mut [u16], k: &[u32], n: usize, u: usize, w: usize) -
     -1
 }
 
-fn change(e: &mut [u64], v: &mut [u16], k: &mut [u32], n: usize, u: usize, w: usize, insert: bool) -> i16 {
+fn change(e: &mut [u64], v: &mut [u16], k: &mut [u32], n: usize, u: usize, w: usize, wanted: u16) -> i16 {
     let mut more = take_out(v, u) + take_out(v, w);
     e[8 * u + w / 64] ^= bit(w);
     e[8 * w + u / 64] ^= bit(u);
     for (p, q) in [(u, w), (w, u)] {
-        let x = if insert { cube(q) } else { cube(q).wrapping_neg() };
+        let x = if wanted == 1 { cube(q) } else { cube(q).wrapping_neg() };
         k[2 * p] = k[2 * p].wrapping_add(x);
         k[2 * p + 1] = k[2 * p + 1].wrapping_add(x);
     }
@@ -470,55 +475,42 @@ fn change(e: &mut [u64], v: &mut [u16], k: &mut [u32], n: usize, u: usize, w: us
     more + put_back(e, v, k, n, u.max(w), u.max(w))
 }
 
-fn update(e: &mut [u64], v: &mut [u16], k: &mut [u32], n: usize, kind: u16, u: u16, w: u16) -> i16 {
+fn update(e: &mut [u64], v: &mut [u16], k: &mut [u32], n: usize, &[kind, u, w, wanted]: &[u16; UPDATE_NUMBERS]) -> i16 {
     let (p, q) = (usize::from(u), usize::from(w));
-    match kind {
-        1 | 2 => {
-            if p >= n || q >= n {
-                return 14;
-            }
-            if p == q {
-                return 15;
-            }
-            let there = has(row(e, p), q);
-            if kind == 1 && there {
-                return 16;
-            }
-            if kind == 2 && !there {
-                return 17;
-            }
-            change(e, v, k, n, p, q, kind == 1)
-        }
-        3 | 4 => {
-            if p >= n {
-                return 14;
-            }
-            if w != 0 {
-                return 15;
-            }
-            let mark = 4 - kind;
-            if v[4 * p + 3] == mark {
-                return if kind == 3 { 16 } else { 17 };
-            }
-            v[4 * p + 3] = mark;
-            0
-        }
-        _ => 13,
+    let (beyond, unfit) = match kind {
+        1 => (p >= n || q >= n, p == q),
+        2 => (p >= n, q != 0),
+        _ => return 13,
+    };
+    if beyond {
+        return 14;
     }
+    if unfit || wanted > 1 {
+        return 15;
+    }
+    let there = if kind == 1 { u16::from(has(row(e, p), q)) } else { v[4 * p + 3] };
+    if there == wanted {
+        return 16;
+    }
+    if kind == 1 {
+        return change(e, v, k, n, p, q, wanted);
+    }
+    v[4 * p + 3] = wanted;
+    0
 }
 
 pub fn apply(n: usize, e: &mut [u64], v: &mut [u16], k: &mut [u32], batch: &[u16], answers: &mut [i16]) -> u16 {
-    if !sized(n, e, v, k) || batch.len() % 3 != 0 || batch.len() > 3 * 4096 {
+    if !sized(n, e, v, k) || batch.len() % UPDATE_NUMBERS != 0 || batch.len() > UPDATE_NUMBERS * UPDATES {
         return 11;
     }
     if !holds(e, v, k, n) {
         return 12;
     }
-    if answers.len() < batch.len() / 3 {
+    if answers.len() < batch.len() / UPDATE_NUMBERS {
         return 18;
     }
-    for (three, answer) in batch.chunks_exact(3).zip(answers) {
-        *answer = update(e, v, k, n, three[0], three[1], three[2]);
+    for (four, answer) in batch.as_chunks().0.iter().zip(answers) {
+        *answer = update(e, v, k, n, four);
     }
     0
 }

@@ -11,6 +11,7 @@ mod program;
 use buckets::Buckets;
 use calls::Counts;
 use graphs::{Lent, Random, Shape, Tables};
+use lent::{UPDATES, UPDATE_NUMBERS};
 use std::hint::black_box;
 use std::time::Instant;
 
@@ -69,7 +70,7 @@ fn bucketed(t: &Tables) -> Buckets {
     for p in 0..t.n {
         for q in p + 1..t.n {
             if t.edges[8 * p + q / 64] >> (q % 64) & 1 == 1 {
-                buckets.update(1, p as u16, q as u16);
+                buckets.update(p as u16, q as u16, 1);
             }
         }
     }
@@ -81,18 +82,18 @@ fn updates(t: &Tables, name: &str, random: &mut Random) {
     let n = t.n;
     let batch = graphs::there_and_back(t, random);
     let (mut a, mut b, mut buckets) = (t.clone(), t.clone(), bucketed(t));
-    let (mut x, mut y) = (vec![0; 4096], vec![0; 4096]);
+    let (mut x, mut y) = (vec![0; UPDATES], vec![0; UPDATES]);
     let times = medians(
         || assert_eq!(calls::apply(n, &mut a.edges, &mut a.nodes, &mut a.keys, &batch, &mut x), 0),
         || assert_eq!(lent::apply(n, &mut b.edges, &mut b.nodes, &mut b.keys, &batch, &mut y), 0),
     );
-    line(t, name, "update in a batch of 4,096", times, 4096.0);
+    line(t, name, "update in a batch of 4,096", times, UPDATES as f64);
     let times = medians(
         || assert_eq!(calls::apply(n, &mut a.edges, &mut a.nodes, &mut a.keys, &batch, &mut x), 0),
-        || batch.chunks_exact(3).for_each(|c| buckets.update(c[0], c[1], c[2])),
+        || batch.as_chunks().0.iter().for_each(|&[_, u, v, wanted]| buckets.update(u, v, wanted)),
     );
-    line(t, name, "the same, against hash buckets", times, 4096.0);
-    let ones = [&batch[..3], &batch[batch.len() - 3..]];
+    line(t, name, "the same, against hash buckets", times, UPDATES as f64);
+    let ones = [&batch[..UPDATE_NUMBERS], &batch[batch.len() - UPDATE_NUMBERS..]];
     let times = medians(
         || ones.iter().for_each(|one| assert_eq!(calls::apply(n, &mut a.edges, &mut a.nodes, &mut a.keys, one, &mut x), 0)),
         || ones.iter().for_each(|one| assert_eq!(lent::apply(n, &mut b.edges, &mut b.nodes, &mut b.keys, one, &mut y), 0)),

@@ -2,7 +2,7 @@
 
 use crate::calls::Counts;
 use crate::graphs::{Random, Tables};
-use crate::lent;
+use crate::lent::{self, UPDATES, UPDATE_NUMBERS};
 use std::io::{Read, Write};
 use std::process::{Command, Stdio};
 use std::time::{Duration, Instant};
@@ -14,13 +14,13 @@ fn number(s: &[u8]) -> Option<u16> {
     std::str::from_utf8(s).ok()?.parse().ok()
 }
 
-fn change(line: &[u8]) -> Option<[u16; 3]> {
+fn change(line: &[u8]) -> Option<[u16; UPDATE_NUMBERS]> {
     let words: Vec<&[u8]> = line.split(|&b| b == b' ').collect();
     match words[..] {
-        [b"t", u, v] => Some([1, number(u)?, number(v)?]),
-        [b"u", u, v] => Some([2, number(u)?, number(v)?]),
-        [b"w", u] => Some([3, number(u)?, 0]),
-        [b"o", u] => Some([4, number(u)?, 0]),
+        [b"t", u, v] => Some([1, number(u)?, number(v)?, 1]),
+        [b"u", u, v] => Some([1, number(u)?, number(v)?, 0]),
+        [b"w", u] => Some([2, number(u)?, 0, 1]),
+        [b"o", u] => Some([2, number(u)?, 0, 0]),
         _ => None,
     }
 }
@@ -36,7 +36,7 @@ fn parsed(input: &[u8]) -> Result<(usize, Vec<u16>), usize> {
     let n = lines.first().and_then(|l| number(l)).filter(|&n| n <= 512).ok_or(1usize)?;
     let mut batch = Vec::new();
     for (i, line) in lines.iter().enumerate().skip(1) {
-        if i > 4096 {
+        if i > UPDATES {
             return Err(i + 1);
         }
         batch.extend(change(line).ok_or(i + 1)?);
@@ -71,7 +71,7 @@ fn expected(input: &[u8]) -> String {
     };
     let mut t = Tables::filled(n, 7);
     lent::open(n, &mut t.edges, &mut t.nodes, &mut t.keys, &mut vec![7; lent::store_words(n)]);
-    let mut answers = vec![0; batch.len() / 3];
+    let mut answers = vec![0; batch.len() / UPDATE_NUMBERS];
     lent::apply(n, &mut t.edges, &mut t.nodes, &mut t.keys, &batch, &mut answers);
     let (mut file, mut counts) = (vec![0; 65536], Counts::default());
     assert_eq!(lent::release(n, &t.edges, &t.nodes, &t.keys, &mut file, &mut counts), 0);
@@ -82,7 +82,7 @@ fn expected(input: &[u8]) -> String {
 fn made(random: &mut Random) -> Vec<u8> {
     let n = [3, 8, 30, 512][random.below(4)];
     let mut s = format!("{n}\n");
-    for _ in 0..random.below(if n == 512 { 4096 } else { 60 }) {
+    for _ in 0..random.below(if n == 512 { UPDATES } else { 60 }) {
         let (u, v) = (random.below(n + 1), random.below(n));
         s += &match random.below(6) {
             0..=2 => format!("t {u} {v}\n"),
@@ -109,7 +109,7 @@ fn mutated(s: &mut Vec<u8>, random: &mut Random) {
         }
     }
     match random.below(60) {
-        0 => (0..4097).for_each(|_| s.extend(b"t 0 1\n")),
+        0 => (0..=UPDATES).for_each(|_| s.extend(b"t 0 1\n")),
         1 => s.resize(65530 + random.below(12), b'\n'),
         2 => s.extend((0..random.below(20)).map(|_| random.next() as u8)),
         _ => {}

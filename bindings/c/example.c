@@ -3,7 +3,8 @@
 
 #include "tegmulos.h"
 
-enum { N = 6, UPDATES = 10, STORE = TEGMULOS_STORE_WORDS(N), NAME = TEGMULOS_NAME_BYTES };
+enum { N = 6, STORE = TEGMULOS_STORE_WORDS(N), NAME = TEGMULOS_NAME_BYTES };
+enum { UPDATES = 10, BATCH = TEGMULOS_UPDATE_NUMBERS * UPDATES };
 
 static uint64_t edges[8 * N];
 static uint16_t nodes[4 * N];
@@ -12,8 +13,11 @@ static uint64_t store[STORE];
 static const uint8_t name[NAME] = "first reading";
 
 /* The nine edges, and one node hidden. */
-static const uint16_t batch[3 * UPDATES] = {
-    1, 0, 3, 1, 0, 4, 1, 0, 5, 1, 1, 3, 1, 1, 4, 1, 1, 5, 1, 2, 3, 1, 2, 4, 1, 2, 5, 3, 3, 0,
+static const uint16_t batch[BATCH] = {
+    TEGMULOS_EDGE, 0, 3, 1, TEGMULOS_EDGE, 0, 4, 1, TEGMULOS_EDGE, 0, 5, 1,
+    TEGMULOS_EDGE, 1, 3, 1, TEGMULOS_EDGE, 1, 4, 1, TEGMULOS_EDGE, 1, 5, 1,
+    TEGMULOS_EDGE, 2, 3, 1, TEGMULOS_EDGE, 2, 4, 1, TEGMULOS_EDGE, 2, 5, 1,
+    TEGMULOS_MARK, 3, 0, 1,
 };
 
 static void print_pairs(const char *name, const uint16_t *list, size_t count) {
@@ -31,7 +35,7 @@ int main(void) {
     uint32_t s, bytes;
 
     printf("open: %u\n", tegmulos_open(N, edges, 8 * N, nodes, 4 * N, keys, 2 * N, store, STORE));
-    printf("apply: %u\n", tegmulos_apply(N, edges, 8 * N, nodes, 4 * N, keys, 2 * N, batch, 3 * UPDATES, answers, UPDATES));
+    printf("apply: %u\n", tegmulos_apply(N, edges, 8 * N, nodes, 4 * N, keys, 2 * N, batch, BATCH, answers, UPDATES));
     printf("answers:");
     for (int i = 0; i < UPDATES; i++) {
         printf(" %d", answers[i]);

@@ -13,12 +13,13 @@ fn main() -> Result<(), Refusal> {
     let mut updates = Vec::new();
     for u in 0..3 {
         for v in 3..6 {
-            updates.push(Update::Insert(u, v));
+            updates.push(Update::Edge { u, v, wanted: true });
         }
     }
-    updates.push(Update::Hide(3));
+    updates.push(Update::Mark { u: 3, wanted: true });
     println!("answers: {:?}", index.apply(&updates)?);
-    println!("again: {:?}", index.apply(&[Update::Insert(0, 3), Update::Delete(0, 1), Update::Reveal(0)])?);
+    let (tied, apart) = (Update::Edge { u: 0, v: 3, wanted: true }, Update::Edge { u: 0, v: 1, wanted: false });
+    println!("what holds already: {:?}", index.apply(&[tied, apart, Update::Mark { u: 0, wanted: false }])?);
     println!("0 and 3 tied: {}", index.tied(0, 3)?);
     println!("group of 4: {:?}", index.group(4)?);
     println!("neighbours of 0: {:?}", index.neighbours(0)?);
@@ -30,7 +31,7 @@ fn main() -> Result<(), Refusal> {
     println!("neighbours of 0 in the file: {:?}", file_neighbours(&release.file, 0)?);
     println!("distances of 0 to 1 and 4: {:?} {:?}", file_distance(&release.file, 0, 1)?, file_distance(&release.file, 0, 4)?);
     index.keep(&mut store, &FIRST)?;
-    index.apply(&[Update::Delete(0, 3)])?;
+    index.apply(&[Update::Edge { u: 0, v: 3, wanted: false }])?;
     println!("group of 0 without its edge to the hidden 3: {:?}", index.group(0)?);
     println!("the release, the same: {}", index.release()? == release);
     if let Err(refusal) = index.keep(&mut store, &FIRST) {

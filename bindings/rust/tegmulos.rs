@@ -52,22 +52,18 @@ fn done<T>(result: u16, value: T) -> Result<T, Refusal> {
     }
 }
 
-/// One change of a graph.
+/// What is to hold: whether the edge between u and v is there, or whether u is hidden.
 #[derive(Clone, Copy, Debug, PartialEq, Eq)]
 pub enum Update {
-    Insert(u16, u16),
-    Delete(u16, u16),
-    Hide(u16),
-    Reveal(u16),
+    Edge { u: u16, v: u16, wanted: bool },
+    Mark { u: u16, wanted: bool },
 }
 
 impl Update {
-    fn numbers(self) -> [u16; 3] {
+    fn numbers(self) -> [u16; 4] {
         match self {
-            Update::Insert(u, v) => [1, u, v],
-            Update::Delete(u, v) => [2, u, v],
-            Update::Hide(u) => [3, u, 0],
-            Update::Reveal(u) => [4, u, 0],
+            Update::Edge { u, v, wanted } => [1, u, v, u16::from(wanted)],
+            Update::Mark { u, wanted } => [2, u, 0, u16::from(wanted)],
         }
     }
 }
@@ -164,7 +160,7 @@ impl Index {
         done(result, t)
     }
 
-    /// Updates in order, at most 4,096. Each answer is the number of a refusal, 13 to 17, or how many groups more there are.
+    /// Updates in order, at most 4,096. Each answer is the number of a refusal, 14 to 16, or how many groups more there are.
     pub fn apply(&mut self, updates: &[Update]) -> Result<Vec<i16>, Refusal> {
         let batch: Vec<u16> = updates.iter().flat_map(|u| u.numbers()).collect();
         let mut answers = vec![0; updates.len()];
