@@ -1,5 +1,5 @@
 -- The three tables before, within and after the update of an edge.
-use mathlib.Core.Path.{_≡_, refl, sym, subst, _∙_, ap}
+use mathlib.Core.Path.{_≡_, refl, subst, _∙_, ap}
 use mathlib.Core.Logic.{_≢_, _⊎_, inl, inr}
 use mathlib.Core.Bool.{Bool, true, false}
 use mathlib.Core.List.{List}
@@ -12,7 +12,7 @@ use borrow.Author.Tests.{ltb-true, ltb-false}
 use Rattle.model.specs.Graph.{Graph, Proper, maxNodes, nodeNumbers, rowWords, whole}
 use Rattle.model.specs.Grouping.{similar}
 use Rattle.model.specs.Tables.{Tables, edgesOf, graphOf, keysOf, nodeNumber, tablesOf}
-use Rattle.model.specs.Updates.{Update, answer, refusal, updated}
+use Rattle.model.specs.Updates.{Update, answer, updated}
 use Rattle.model.specs.TestLaws.{decide}
 use Rattle.model.specs.TableLaws.{edges-in, length-edges, length-keys, length-nodes-of, read-back}
 use Rattle.model.specs.BoundLaws.{withEdges}
@@ -30,11 +30,6 @@ use Rattle.groups.specs.Groups.{Asked, change, similarIn}
 -- the tables of a graph are read as it
 pub tables-read : {g : Graph} {t : Tables} → Proper g → t ≡ tablesOf g → graphOf (g .nodeCount) t ≡ g
 tables-read {g} h e = ap (graphOf (g .nodeCount)) e ∙ read-back g h
-
-pub asked : {g : Graph} {t : Tables} {u v wanted : ℕ} → Proper g → t ≡ tablesOf g → refusal g (change 1 u v wanted) ≡ 0 → Asked (g .nodeCount) u v wanted t
-asked {g} {t} {u} {v} {wanted} h e ok =
-    let r : graphOf (g .nodeCount) t ≡ g = tables-read h e in
-    record { proper = subst Proper (sym r) h; same = e ∙ ap tablesOf (sym r); accepted = ap (λ (x : Graph). refusal x (change 1 u v wanted)) r ∙ ok }
 
 module _ {n u v wanted : ℕ} {t : Tables} (a : Asked n u v wanted t) where
   abbrev g : Graph

@@ -12,14 +12,13 @@ use borrow.Author.Tests.{not-true, not-false, lt-ltb, le-ltb, ltb-false}
 use Rattle.model.specs.Graph.{emptyGraph, maxNodes, nodeNumbers, whole}
 use Rattle.model.specs.Tables.{Tables, tablesOf, graphOf, holds, edgeBit, edgesIn, nodeNumber, groupIn}
 use Rattle.model.specs.Store.{noStates, storeOf, wrongStore}
-use Rattle.model.specs.Refusals.{firstOf, lengths, wrongSize}
+use Rattle.model.specs.Refusals.{firstOf, lengths, pairReasons, wrongSize}
 use Rattle.model.specs.Updates.{updateCount, updateNumbers, wrongBatch}
 use Rattle.model.specs.Calls.{openReasons, openCall, applyReasons, applyRefused, applyCall, neighboursReasons, listRefused, neighboursCall, tiedReasons, tiedRefused, tiedCall, groupReasons, groupRefused, groupCall}
 use Rattle.model.specs.TestLaws.{or-none}
 use Rattle.model.specs.TableLaws.{edge-below, edge-bit, held-tables, held-proper}
 use Rattle.model.specs.RefusalLaws.{call-done, call-refused, first-none}
 use Rattle.index.specs.Index.{opened, applied, tiedOf, grouped}
-use Rattle.rows.specs.Rows.{pairReasons}
 use Rattle.rows.specs.PairLaws.{pair-ends}
 use Rattle.tables.specs.Lent.{tableReasons, Held}
 use Rattle.tables.specs.LentLaws.{sized, table-refused, table-rest, table-held, held-sized}
@@ -133,7 +132,7 @@ module _ (n : ℕ) (t : Tables) (p q r : ℕ) (e : r ≡ firstOf (tableReasons n
   module _ (z : r ≡ 0) where
     module _ {pair : ℕ} (x : pair ≡ firstOf (pairReasons n p q)) where
       number : firstOf (tiedReasons n t p q) ≡ pair
-      unfolding tiedReasons pairReasons
+      unfolding tiedReasons
       number = table-rest n t r e z (pairReasons n p q) ∙ sym x
 
       pub tied-pair : pair ≢ 0 → tiedOf pair false ≡ tiedCall n t p q

@@ -10,7 +10,7 @@ use Rattle.model.specs.Graph.{Graph, emptyGraph, whole}
 use Rattle.model.specs.Grouping.{kindOf}
 use Rattle.model.specs.Tables.{Tables, tablesOf, graphOf, groupIn, holds}
 use Rattle.model.specs.Store.{dropping, isFull, isKept, isStore, keeping, keptGraph, noStates, placesIn, storeOf, wrongName, wrongStore}
-use Rattle.model.specs.Refusals.{Reasons, judged, lengths, wrongSize}
+use Rattle.model.specs.Refusals.{Reasons, judged, lengths, pairReasons, wrongSize}
 use Rattle.model.specs.Updates.{updateCount, wrongBatch, updatesIn, batchGraph, answers}
 use Rattle.model.specs.Queries.{neighbours, leaderIn, pairs, kindNumber}
 use Rattle.model.specs.Distance.{distance}
@@ -146,12 +146,7 @@ abbrev pub tiedRefused : ℕ → Tied
 tiedRefused r = record { result = r; yes = false }
 
 unfoldable pub tiedReasons : ℕ → Tables → ℕ → ℕ → Reasons
-tiedReasons n t p q =
-    (wrongSize n (lengths t), 11)
-    ∷ (not (holds n t), 12)
-    ∷ (not (ltb p n) || not (ltb q n), 14)
-    ∷ (eqb p q, 15)
-    ∷ []
+tiedReasons n t p q = (wrongSize n (lengths t), 11) ∷ (not (holds n t), 12) ∷ pairReasons n p q
 
 unfoldable pub tiedCall : ℕ → Tables → ℕ → ℕ → Tied
 tiedCall n t p q =

@@ -13,7 +13,7 @@ use Rattle.model.specs.Graph.{Graph, Proper, View, whole}
 use Rattle.model.specs.Grouping.{algorithm1, least, similar}
 use Rattle.model.specs.Summary.{Summarises, Summary}
 use Rattle.model.specs.Tables.{Tables, graphOf, groupsIn, holds, tablesOf}
-use Rattle.model.specs.Refusals.{Lengths, firstOf, lengths, wrongSize, Reasons, judged}
+use Rattle.model.specs.Refusals.{Lengths, firstOf, lengths, pairReasons, wrongSize, Reasons, judged}
 use Rattle.model.specs.Updates.{Update, answers, batchGraph, refusal, updateReasons}
 use Rattle.model.specs.Release.{release, superedgeCount, superedges, visible, visibleGroups, visiblePart, isVisible, visibleEdge}
 use Rattle.model.specs.Lists.{_∈_, all, nodes}
@@ -85,7 +85,7 @@ unfolding batchGraph answers run
 batch-refused g c cs h = ap (λ (x : Stepped Graph ℤ). (refusal g c, batchGraph (x .after) cs, x .outcome ∷ answers (x .after) cs)) (update-refused g c h)
 
 pub demand1 : Demand1
-unfolding openReasons openCall keepReasons keepCall restoreReasons restoreCall dropReasons dropCall applyReasons applyCall neighboursReasons neighboursCall listing tiedReasons tiedCall groupReasons groupCall releaseReasons releaseCall released readReasons readCall fileNeighboursReasons fileNeighboursCall fileDistanceReasons fileDistanceCall updateReasons refusal
+unfolding openReasons openCall keepReasons keepCall restoreReasons restoreCall dropReasons dropCall applyReasons applyCall neighboursReasons neighboursCall listing tiedReasons pairReasons tiedCall groupReasons groupCall releaseReasons releaseCall released readReasons readCall fileNeighboursReasons fileNeighboursCall fileDistanceReasons fileDistanceCall updateReasons refusal
 demand1 = record {
   opening = λ n t s. refuses _ _ _ _ _ refl (λ r. refl) refl;
   batch = λ n t xs out. refuses _ _ _ _ _ refl (λ r. refl) refl;

@@ -19,6 +19,10 @@ firstOf (t ∷ ts) = cond (t .0) (t .1) (firstOf ts)
 abbrev pub judged : {A : Type 0} → Reasons → (ℕ → A) → A → A
 judged rs refused done = cond (eqb (firstOf rs) 0) done (refused (firstOf rs))
 
+-- two nodes among n: 14 where one is none of them, 15 where it is one node twice
+unfoldable pub pairReasons : ℕ → ℕ → ℕ → Reasons
+pairReasons n p q = (not (ltb p n) || not (ltb q n), 14) ∷ (eqb p q, 15) ∷ []
+
 -- tables by their lengths alone
 pub record Lengths : Type 0 where
   pub edges : ℕ

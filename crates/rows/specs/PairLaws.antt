@@ -5,10 +5,9 @@ use mathlib.Core.Logic.{_≢_}
 use Prim.Native.Nat.{ℕ, _≤_, _<_}
 use lib.Dec.{ltb}
 use borrow.Author.Tests.{eqb-false, eq-eqb, ne-eqb, ltb-true, lt-ltb, le-ltb, not-false}
-use Rattle.model.specs.Refusals.{firstOf}
+use Rattle.model.specs.Refusals.{firstOf, pairReasons}
 use Rattle.model.specs.RefusalLaws.{first-none}
 use Rattle.model.specs.TestLaws.{or-none}
-use Rattle.rows.specs.Rows.{pairReasons}
 
 module _ (n u v : ℕ) where
   pub first-outside : n ≤ u → 14 ≡ firstOf (pairReasons n u v)

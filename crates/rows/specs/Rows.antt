@@ -1,24 +1,19 @@
 -- What a change of an edge does to the edge table and to the keys.
 use mathlib.Core.Path.{_≡_}
-use mathlib.Core.Bool.{Bool, not, cond, _&&_, _||_}
-use mathlib.Core.List.{List, [], _∷_}
+use mathlib.Core.Bool.{Bool, not, cond, _&&_}
+use mathlib.Core.List.{List}
 use Prim.Native.Nat.{ℕ, _+_, _*_, _-_, _%_, _^_, _<_}
-use lib.Dec.{eqb, ltb}
+use lib.Dec.{eqb}
 use lib.ListN.{length, getD}
 use Rattle.model.specs.Lists.{filter, nodes}
 use Rattle.model.specs.Graph.{Graph, maxNodes}
 use Rattle.model.specs.Grouping.{cube, sumCubes}
 use Rattle.model.specs.Tables.{Tables, edgeBit}
-use Rattle.model.specs.Refusals.{Reasons}
 use Rattle.model.specs.Updates.{isPair}
 
 -- three lent tables
 abbrev pub lent : List ℕ → List ℕ → List ℕ → Tables
 lent edges nodes keys = record { edges = edges; nodes = nodes; keys = keys }
-
--- the reasons against two nodes among n: 14 where one is none of them, 15 where it is one node twice
-unfoldable pub pairReasons : ℕ → ℕ → ℕ → Reasons
-pairReasons n u v = (not (ltb u n) || not (ltb v n), 14) ∷ (eqb u v, 15) ∷ []
 
 -- stands for no node, where a node number is kept
 abbrev pub noNode : ℕ

@@ -7,8 +7,8 @@ ghost use lib.ListN.{length};
 ghost use Rattle.model.specs.Graph.{maxNodes, rowWords};
 ghost use Rattle.model.specs.Grouping.{cube};
 ghost use Rattle.model.specs.Tables.{bitAt, edgeBit};
-ghost use Rattle.model.specs.Refusals.{firstOf, lengths, wrongSize};
-ghost use Rattle.rows.specs.Rows.{Flipped, Changed, movedKey, KeysMoved, KeysChanged, lent, pairReasons};
+ghost use Rattle.model.specs.Refusals.{firstOf, lengths, pairReasons, wrongSize};
+ghost use Rattle.rows.specs.Rows.{Flipped, Changed, movedKey, KeysMoved, KeysChanged, lent};
 
 // A graph by value: how many nodes it has. Its tables are lent.
 pub struct Graph {

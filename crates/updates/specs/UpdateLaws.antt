@@ -14,7 +14,7 @@ use mir.Val.{boolByte}
 use borrow.Author.Tests.{eq-eqb, ne-eqb, lt-ltb, le-ltb}
 use Rattle.model.specs.Graph.{Graph, Proper, nodeNumbers, whole}
 use Rattle.model.specs.Tables.{Tables, tablesOf, graphOf, edgeBit, nodeNumber, nodesOf, nodeOf, edgesIn, edgesOf, rowOf, keysOf, keyPair, groupIn}
-use Rattle.model.specs.Refusals.{firstOf}
+use Rattle.model.specs.Refusals.{firstOf, pairReasons}
 use Rattle.model.specs.Updates.{Update, onEdge, updateReasons, refusal, updated, answer, groupCount, there, update}
 use Rattle.model.specs.Grouping.{algorithm1}
 use Rattle.model.specs.BoundLaws.{withEdges}
@@ -23,7 +23,7 @@ use Rattle.model.specs.Steps.{Stepped}
 use Rattle.model.specs.TableLaws.{length-nodes-of, mark-at}
 use Rattle.rings.specs.NodesLaws.{node-at}
 use Rattle.rows.specs.BitLaws.{bool-number}
-use Rattle.rows.specs.Rows.{lent, pairReasons}
+use Rattle.rows.specs.Rows.{lent}
 use Rattle.rows.specs.PairLaws.{pair-ends}
 use Rattle.groups.specs.Groups.{Asked, change}
 use Rattle.updates.specs.Batch.{Updated, wantedReasons}
