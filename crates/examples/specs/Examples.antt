@@ -1,6 +1,6 @@
 -- Document 01's examples with a star, the examples of its table of refusals and the one of the program, and document 02's distances,
--- neighbours with their groups and named states, as one list of equations: on the left what the definitions of `model` give, on the right what
--- the documents say.
+-- neighbours with their groups, named states and frozen ties, with what these leave open, as one list of equations: on the left what the
+-- definitions of `model` give, on the right what the documents say.
 use mathlib.Core.Path.{_≡_}
 use mathlib.Core.Bool.{Bool, false, _&&_}
 use mathlib.Core.List.{List, [], _∷_, map}
@@ -80,6 +80,28 @@ hidden3 = batchGraph threeByThree (hide 3 ∷ [])
 
 unfoldable pub hidden3deleted03 : Graph
 hidden3deleted03 = batchGraph hidden3 (delete 0 3 ∷ [])
+
+unfoldable pub deleted03hidden3 : Graph
+deleted03hidden3 = batchGraph deleted03 (hide 3 ∷ [])
+
+-- graphs alike in what is visible, by twos: with edges of a hidden node, and with fewer or none of them
+unfoldable pub hidden1of2 : Graph
+hidden1of2 = graph 2 (hide 1 ∷ [])
+
+unfoldable pub tied1of2 : Graph
+tied1of2 = graph 2 (insert 0 1 ∷ hide 1 ∷ [])
+
+unfoldable pub hidden2of3 : Graph
+hidden2of3 = graph 3 (hide 2 ∷ [])
+
+unfoldable pub tied2of3 : Graph
+tied2of3 = graph 3 (insert 0 2 ∷ hide 2 ∷ [])
+
+unfoldable pub hidden3of4 : Graph
+hidden3of4 = graph 4 (insert 1 2 ∷ insert 0 3 ∷ hide 3 ∷ [])
+
+unfoldable pub tied3of4 : Graph
+tied3of4 = graph 4 (insert 1 2 ∷ insert 0 3 ∷ insert 2 3 ∷ hide 3 ∷ [])
 
 unfoldable pub equalKeys : Graph
 equalKeys = graph 22 (insert 20 0 ∷ insert 20 11 ∷ insert 21 8 ∷ insert 21 9 ∷ [])
@@ -178,12 +200,14 @@ examples =
     ∷ groups (officeGroups deleted03) ((0 ∷ []) ∷ (1 ∷ 2 ∷ []) ∷ (3 ∷ []) ∷ (4 ∷ 5 ∷ []) ∷ [])
     ∷ number (superedgeCount deleted03) 3
     ∷ number (size deleted03) 56
-    -- 9. from 7, withhold 3, then untie 0 3
+    -- 9. from 7, withhold 3, then untie 0 3, which is refused; untied before 3 was withheld, it is the same release
     ∷ number (size hidden3) 34
-    ∷ answers (answersOn 6 (tablesOf hidden3) (1 ∷ 0 ∷ 3 ∷ 0 ∷ [])) (pos 2 ∷ [])
-    ∷ list (release hidden3deleted03) (release hidden3)
+    ∷ answers (answersOn 6 (tablesOf hidden3) (1 ∷ 0 ∷ 3 ∷ 0 ∷ [])) (pos 24 ∷ [])
+    ∷ number (size hidden3deleted03) 34
     ∷ groups (visibleGroups hidden3deleted03) ((0 ∷ 1 ∷ 2 ∷ []) ∷ (4 ∷ 5 ∷ []) ∷ [])
-    ∷ groups (officeGroups hidden3deleted03) ((0 ∷ []) ∷ (1 ∷ 2 ∷ []) ∷ (3 ∷ []) ∷ (4 ∷ 5 ∷ []) ∷ [])
+    ∷ groups (officeGroups hidden3deleted03) ((0 ∷ 1 ∷ 2 ∷ []) ∷ (3 ∷ 4 ∷ 5 ∷ []) ∷ [])
+    ∷ list (release deleted03hidden3) (release hidden3)
+    ∷ groups (officeGroups deleted03hidden3) ((0 ∷ []) ∷ (1 ∷ 2 ∷ []) ∷ (3 ∷ []) ∷ (4 ∷ 5 ∷ []) ∷ [])
     -- 10. ties 20-0, 20-11, 21-8, 21-9
     ∷ number (openKeyIn equalKeys 20) 1729
     ∷ number (openKeyIn equalKeys 21) 1729
@@ -210,6 +234,21 @@ examples =
     -- number 16: 1 0 1 1 twice; 1 0 1 0 and 2 0 0 0 in a new bundle
     ∷ answers (answersOn 3 (opened 3) (1 ∷ 0 ∷ 1 ∷ 1 ∷ 1 ∷ 0 ∷ 1 ∷ 1 ∷ [])) (pos 1 ∷ pos 16 ∷ [])
     ∷ answers (answersOn 3 (opened 3) (1 ∷ 0 ∷ 1 ∷ 0 ∷ 2 ∷ 0 ∷ 0 ∷ 0 ∷ [])) (pos 16 ∷ pos 16 ∷ [])
+    -- number 24: 1 withheld: 1 0 1 1 and 1 1 0 0; before it 1 1 3 1, 1 1 1 1 and 1 0 1 2; 2 1 0 1 and 2 1 0 0 as ever
+    ∷ answers (answersOn 3 (opened 3) (2 ∷ 1 ∷ 0 ∷ 1 ∷ 1 ∷ 0 ∷ 1 ∷ 1 ∷ 1 ∷ 1 ∷ 0 ∷ 0 ∷ [])) (pos 0 ∷ pos 24 ∷ pos 24 ∷ [])
+    ∷ answers (answersOn 3 (opened 3) (2 ∷ 1 ∷ 0 ∷ 1 ∷ 1 ∷ 1 ∷ 3 ∷ 1 ∷ 1 ∷ 1 ∷ 1 ∷ 1 ∷ 1 ∷ 0 ∷ 1 ∷ 2 ∷ [])) (pos 0 ∷ pos 14 ∷ pos 15 ∷ pos 15 ∷ [])
+    ∷ answers (answersOn 3 (opened 3) (2 ∷ 1 ∷ 0 ∷ 1 ∷ 2 ∷ 1 ∷ 0 ∷ 1 ∷ 2 ∷ 1 ∷ 0 ∷ 0 ∷ 1 ∷ 0 ∷ 1 ∷ 0 ∷ [])) (pos 0 ∷ pos 16 ∷ pos 0 ∷ pos 16 ∷ [])
+    -- who is revealed is told: 1 reopened, then 1 0 1 1
+    ∷ list (release tied1of2) (release hidden1of2)
+    ∷ answers (answersOn 2 (tablesOf hidden1of2) (2 ∷ 1 ∷ 0 ∷ 0 ∷ 1 ∷ 0 ∷ 1 ∷ 1 ∷ [])) (pos 0 ∷ pos 0 ∷ [])
+    ∷ answers (answersOn 2 (tablesOf tied1of2) (2 ∷ 1 ∷ 0 ∷ 0 ∷ 1 ∷ 0 ∷ 1 ∷ 1 ∷ [])) (pos 0 ∷ pos 16 ∷ [])
+    -- accepted answers count groups of the whole bundle: 1 0 1 1 by itself
+    ∷ list (release tied2of3) (release hidden2of3)
+    ∷ answers (answersOn 3 (tablesOf hidden2of3) (1 ∷ 0 ∷ 1 ∷ 1 ∷ [])) (pos 1 ∷ [])
+    ∷ answers (answersOn 3 (tablesOf tied2of3) (1 ∷ 0 ∷ 1 ∷ 1 ∷ [])) (pos 0 ∷ [])
+    ∷ list (release tied3of4) (release hidden3of4)
+    ∷ answers (answersOn 4 (tablesOf hidden3of4) (1 ∷ 0 ∷ 1 ∷ 1 ∷ [])) (pos 2 ∷ [])
+    ∷ answers (answersOn 4 (tablesOf tied3of4) (1 ∷ 0 ∷ 1 ∷ 1 ∷ [])) (negsuc 1 ∷ [])
     -- number 18: release of n 0 into 9 bytes
     ∷ number (releaseCall 0 (opened 0) (replicate 9 0) .result) 18
     -- number 19: empty file

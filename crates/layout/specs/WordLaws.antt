@@ -1,7 +1,7 @@
 -- Laws of superedges found word by word.
 use mathlib.Core.Path.{_≡_, refl, sym, ap, _∙_}
 use mathlib.Core.Bool.{Bool, true, false, not, _&&_, cond, and-false}
-use mathlib.Core.List.{List, [], _∷_, _++_, map, append-assoc}
+use mathlib.Core.List.{List, [], _∷_, _++_, map, append-assoc, map-append}
 use mathlib.Core.Logic.{_⊎_, inl, inr}
 use Prim.Native.Nat.{ℕ, suc, zero, _+_, _*_, _-_, _/_, _%_, _^_, _≤_, _<_}
 use native.Mathlib.Nat.{zero-div, div-mul-le-self, mod-eq-of-lt}
@@ -136,10 +136,6 @@ to-append i (x ∷ xs) b =
     ap (λ (s : List ℕ). superedgeRecord (i, x) ++ s) (to-append i xs b)
     ∙ sym (append-assoc (superedgeRecord (i, x)) (concat (map (λ j. superedgeRecord (i, j)) xs)) (concat (map (λ j. superedgeRecord (i, j)) b)))
 
-map-split : (f : ℕ → ℕ) (a b : List ℕ) → map f (a ++ b) ≡ map f a ++ map f b
-map-split f [] b = refl
-map-split f (x ∷ xs) b = ap (λ (l : List ℕ). f x ∷ l) (map-split f xs b)
-
 module _ (edges set position : List ℕ) (i p q : ℕ) where
   pub records-end : 512 ≤ q → laterRecords edges set position i p q ≡ []
   unfolding laterRecords superedgesTo concat
@@ -150,7 +146,7 @@ module _ (edges set position : List ℕ) (i p q : ℕ) where
     unfolding laterRecords positionsOf
     records-word =
         ap (λ (l : List ℕ). superedgesTo i (map (λ x. getD position x 0) l)) (word-split edges set p q w at inside)
-        ∙ ap (superedgesTo i) (map-split (λ x. getD position x 0) (bitsFrom (64 * w) (laterWord edges set p q)) (scan (markedEdge edges set p) 512 (64 * w + 64)))
+        ∙ ap (superedgesTo i) (map-append (λ x. getD position x 0) (bitsFrom (64 * w) (laterWord edges set p q)) (scan (markedEdge edges set p) 512 (64 * w + 64)))
         ∙ to-append i (map (λ x. getD position x 0) (bitsFrom (64 * w) (laterWord edges set p q))) (map (λ x. getD position x 0) (scan (markedEdge edges set p) 512 (64 * w + 64)))
 
     pub records-room : {s₀ : List ℕ} {at₀ : ℕ} {all s : List ℕ} {to : ℕ} → Left s₀ at₀ all s to (laterRecords edges set position i p q) → at₀ + length all ≤ length s₀ → to + length (superedgesTo i (positionsOf position (64 * w) (laterWord edges set p q))) ≤ length s

@@ -181,7 +181,7 @@ module _ {n : ℕ} {edges marks : List ℕ} (d : Drawn n edges marks) where
 
     masked-alike : Alike (markedGraph n masked marks) (markedGraph n edges marks)
     unfolding markedGraph
-    masked-alike = record { nodeCount = refl; hidden = λ p h. refl; edge = λ p q x y. rw masked-edge (both p q (told p x) (told q y)) }
+    masked-alike = record { marks = record { nodeCount = refl; hidden = λ p h. refl }; edge = λ p q x y. rw masked-edge (both p q (told p x) (told q y)) }
       where
         told : (p : ℕ) → isVisible (markedGraph n masked marks) p ≡ true → isVisible (markedGraph n edges marks) p ≡ true
         told p x = visible-is n edges marks p ∙ sym (visible-is n masked marks p) ∙ x

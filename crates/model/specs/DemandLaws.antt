@@ -1,27 +1,27 @@
 -- The demands hold.
 use mathlib.Core.Path.{_≡_, refl, sym, ap, ap₂, _∙_}
 use mathlib.Core.Bool.{Bool, true, false, not, _&&_, _||_, cond}
-use mathlib.Core.List.{List, _∷_, map}
+use mathlib.Core.List.{List, [], _∷_, _++_, map, map-append}
 use mathlib.Core.Logic.{_↔_}
 use Prim.Native.Nat.{ℕ, _*_, _≤_, _<_}
 use native.Mathlib.Omega.{arith}
 use lib.Dec.{eqb, ltb}
 use lib.IntN.{ℤ, pos}
-use lib.ListN.{length}
-use borrow.Author.Tests.{eqb-true, eq-eqb, ne-eqb, lt-ltb, le-ltb, eqb-false}
+use lib.ListN.{length, drop}
+use borrow.Author.Tests.{eqb-true, eq-eqb, ne-eqb, lt-ltb, le-ltb, ltb-true, eqb-false}
 use Rattle.model.specs.Graph.{Graph, Proper, View, whole}
 use Rattle.model.specs.Grouping.{algorithm1, least, similar}
 use Rattle.model.specs.Summary.{Summarises, Summary}
-use Rattle.model.specs.Tables.{Tables, graphOf, groupsIn, holds, tablesOf}
+use Rattle.model.specs.Tables.{Tables, graphOf, groupsIn, tablesOf}
 use Rattle.model.specs.Refusals.{Lengths, firstOf, lengths, pairReasons, wrongSize, Reasons, judged}
-use Rattle.model.specs.Updates.{Update, answers, batchGraph, refusal, updateReasons}
+use Rattle.model.specs.Updates.{RevealsNobody, Update, answers, batchGraph, refusal, refusalIn, updateCount, updateReasons, updatesIn, wrongBatch}
 use Rattle.model.specs.Release.{release, superedgeCount, superedges, visible, visibleGroups, visiblePart, isVisible, visibleEdge}
 use Rattle.model.specs.Lists.{_∈_, all, nodes}
 use Rattle.model.specs.Steps.{Stepped, run}
 use Rattle.model.specs.Queries.{leaderIn, neighbours}
 use Rattle.model.specs.Distance.{distance, distanceBy}
 use Rattle.model.specs.Reading.{decode, isRelease, summaryBy, summaryIn}
-use Rattle.model.specs.Calls.{Filled, Listed, Measured, Released, applyCall, applyReasons, distanceRefused, dropCall, dropReasons, fileDistanceCall, fileDistanceReasons, fileNeighboursCall, fileNeighboursReasons, fillRefused, groupCall, groupReasons, keepCall, keepReasons, listRefused, listing, neighboursCall, neighboursReasons, onto, openCall, openReasons, readCall, readReasons, releaseCall, releaseReasons, releaseRefused, released, restoreCall, restoreReasons, tiedCall, tiedReasons}
+use Rattle.model.specs.Calls.{Filled, Listed, Measured, Released, applyCall, applyReasons, applyRefused, distanceRefused, dropCall, dropReasons, fileDistanceCall, fileDistanceReasons, fileNeighboursCall, fileNeighboursReasons, fillRefused, groupCall, groupReasons, keepCall, keepReasons, listRefused, listing, neighboursCall, neighboursReasons, onto, openCall, openReasons, readCall, readReasons, releaseCall, releaseReasons, releaseRefused, released, restoreCall, restoreReasons, tiedCall, tiedReasons}
 use Rattle.model.specs.History.{Alike, CallsTold, Room, Source, StoreTold, byHistory, graphOfSource, handedIn, number, opening, roomOf, tablesOfSource}
 use Rattle.model.specs.TestLaws.{differ, fails}
 use Rattle.model.specs.ListLaws.{Ascending, filter-cong, nodes-ascending, nodes-in}
@@ -32,15 +32,16 @@ use Rattle.model.specs.HiddenLaws.{seen-equivalence, seen-in}
 use Rattle.model.specs.SummaryLaws.{algorithm1-summarises, share-similar, similar-share}
 use Rattle.model.specs.GroupDistanceLaws.{distance-by-groups, summarises-unfolds}
 use Rattle.model.specs.FewestLaws.{fewest}
-use Rattle.model.specs.TableLaws.{groups-told, held-proper, held-tables, proper-holds, proper-simple, read-back, simple-test}
+use Rattle.model.specs.TableLaws.{groups-told, held-proper, held-tables, proper-simple, read-back, simple-test}
 use Rattle.model.specs.ReleaseLaws.{alike-visible, length-release, non-interference, visible-ascending, visible-simple, alike-node}
-use Rattle.model.specs.UpdateLaws.{answer-accepted, answer-near, update-refused, wanted-holds}
-use Rattle.model.specs.HistoryLaws.{Kept, history-told, lengths-of, lengthsFor, name-stays, opened-size, returned, right-size, size-right}
-use Rattle.model.specs.RefusalLaws.{first-below, judged-refused, judged-result}
+use Rattle.model.specs.UpdateLaws.{answer-accepted, answer-near, answer-told, length-answers, mark-answer, proper-batch, reveal-accepted, update-refused, wanted-holds}
+use Rattle.model.specs.FrozenLaws.{batch-alike, frozen-refused}
+use Rattle.model.specs.HistoryLaws.{Kept, history-told, kept-graph, kept-holds, kept-size, lengths-of, lengthsFor, name-stays, opened-size, returned, right-size}
+use Rattle.model.specs.RefusalLaws.{first-passes, judged-refused, judged-related, judged-result}
 use Rattle.model.specs.ReadingLaws.{marked, summary-encode, told-count, told-similar, told-summarises}
 use Rattle.model.specs.ReadBackLaws.{decode-release, only-releases, release-is, visible-alike, visible-proper}
 use Rattle.model.specs.ProgramLaws.{program-fits}
-use Rattle.model.specs.Demands.{AskedExactly, Demand1, Demand2, Demand3, DistanceTold, GroupedExactly, LeastOf, MeasuredExactly, NoRelease, ReadExactly, Refuses, visibleNeighbours}
+use Rattle.model.specs.Demands.{AppliedAlike, AskedExactly, Demand1, Demand2, Demand3, DistanceTold, GroupedExactly, LeastOf, MeasuredExactly, NoRelease, ReadExactly, Refuses, visibleNeighbours}
 
 -- what a source's tables hold
 pub kept : (x : Source) → Kept (lengths (tablesOfSource x)) (graphOfSource x) (tablesOfSource x)
@@ -103,20 +104,19 @@ demand1 = record {
   program = program-fits;
 }
 
--- the release call on tables that hold a graph
+-- calls on tables that hold a graph
 module _ (l : Lengths) (g : Graph) (t : Tables) (h : Kept l g t) where
   abbrev file : List ℕ
   file = release g
 
+  -- why a batch is refused
+  apply-why : (xs : List ℕ) (out : List ℤ) → firstOf (applyReasons (g .nodeCount) t xs out) ≡ firstOf ((wrongBatch xs, 11) ∷ (ltb (length out) (updateCount xs), 18) ∷ [])
+  unfolding applyReasons firstOf
+  apply-why xs out = rw (kept-size h, kept-holds h (g .nodeCount) refl)
+
   pub release-told : (out : List ℕ) → releaseCall (g .nodeCount) t out ≡ cond (ltb (length out) (length file)) (releaseRefused out 18) (released g out)
   unfolding releaseCall releaseReasons firstOf
-  release-told out =
-      rw (
-        ap (wrongSize (g .nodeCount)) (ap lengths (h .tables) ∙ lengths-of g) ∙ size-right (g .nodeCount) (h .proper .small),
-        ap (holds (g .nodeCount)) (h .tables) ∙ proper-holds g (h .proper),
-        ap (graphOf (g .nodeCount)) (h .tables) ∙ read-back g (h .proper),
-      )
-      (step (ltb (length out) (length file)))
+  release-told out = rw (kept-size h, kept-holds h (g .nodeCount) refl, kept-graph h (g .nodeCount) refl) (step (ltb (length out) (length file)))
     where
       step : (b : Bool) → cond (eqb (cond b 18 0) 0) (released g out) (releaseRefused out (cond b 18 0)) ≡ cond b (releaseRefused out 18) (released g out)
       step true = refl
@@ -205,7 +205,7 @@ unfolding firstOf
 only-19 file rest less = (λ z. no-release file .0 (first (isRelease file) z), λ z. rw (no-release file .1 z))
   where
     first : (a : Bool) → firstOf ((not a, 19) ∷ rest) ≡ 19 → a ≡ false
-    first true z = absurd (omega (arith, first-below 19 rest (omega arith) less))
+    first true z = absurd (omega (arith, ltb-true (firstOf rest) 19 (first-passes (λ r. ltb r 19) rest refl less)))
     first false z = refl
 
 -- a file read into tables of the right size
@@ -379,7 +379,7 @@ demand2 = record {
       let h = history-told s n cs ok .0 in
       record { back = returned n l w _ _ h name ds z; stays = name-stays n l w _ _ h name ds z };
   grouped = λ x. grouped-exactly (lengths (tablesOfSource x)) (graphOfSource x) (tablesOfSource x) (kept x);
-  answered = λ x c ok. record { effect = wanted-holds (graphOfSource x) c (kept x .proper) ok; difference = answer-accepted (graphOfSource x) c ok; range = answer-near (graphOfSource x) c (kept x .proper) ok };
+  answered = λ x c ok. record { effect = wanted-holds (graphOfSource x) c (kept x .proper) ok; difference = answer-accepted (graphOfSource x) c ok; range = answer-near (graphOfSource x) c (kept x .proper) ok; mark = λ e. mark-answer (graphOfSource x) c e ok };
   unfolded = λ x. file-summarises (graphOfSource x) (kept x .proper);
   reading = read-exactly;
   asking = asked-exactly;
@@ -392,6 +392,32 @@ unfolding released visibleGroups superedgeCount
 released-alike a b h out =
     let seen = alike-visible a b h in
     rw (seen, ap (λ (v : View). v .nodes) seen, ap (λ (v : View). v .edge) seen, non-interference a b h)
+
+-- one batch on tables of two graphs alike in what is visible
+module _ (a b : Graph) (s t : Tables) (ks : Kept (lengths s) a s) (kt : Kept (lengths t) b t) (h : Alike a b) (xs : List ℕ) (nobody : RevealsNobody a (updatesIn xs)) (out : List ℤ) where
+  abbrev cs : List Update
+  cs = updatesIn xs
+
+  alike-told : (map refusalIn (answers a cs) ≡ map refusalIn (answers b cs)) × Alike (batchGraph a cs) (batchGraph b cs)
+  alike-told = batch-alike a b (ks .proper) (kt .proper) h cs nobody
+
+  told-on : (g : Graph) → map refusalIn (onto (answers g cs) out) ≡ map refusalIn (answers g cs) ++ map refusalIn (drop (length cs) out)
+  told-on g = map-append refusalIn (answers g cs) (drop (length (answers g cs)) out) ∙ ap (λ (k : ℕ). map refusalIn (answers g cs) ++ map refusalIn (drop k out)) (length-answers cs g)
+
+  after-back : (g : Graph) → Proper g → a .nodeCount ≡ g .nodeCount → graphOf (a .nodeCount) (tablesOf (batchGraph g cs)) ≡ batchGraph g cs
+  after-back g k e = let p = proper-batch cs g k in ap (λ (n : ℕ). graphOf n (tablesOf (batchGraph g cs))) (e ∙ sym (p .1)) ∙ read-back (batchGraph g cs) (p .0)
+
+  pub applied-alike : AppliedAlike (a .nodeCount) (applyCall (a .nodeCount) s xs out) (applyCall (b .nodeCount) t xs out)
+  unfolding applyCall
+  applied-alike =
+      judged-related (AppliedAlike (a .nodeCount)) (applyReasons (a .nodeCount) s xs out) (applyReasons (b .nodeCount) t xs out) (applyRefused s out) (applyRefused t out) _ _
+      (apply-why (lengths s) a s ks xs out ∙ sym (apply-why (lengths t) b t kt xs out))
+      (λ z. record { result = refl; refusals = refl; after = rw (kept-graph ks (a .nodeCount) refl, kept-graph kt (a .nodeCount) (h .marks .nodeCount)) h })
+      (λ z. rw (kept-graph ks (a .nodeCount) refl, kept-graph kt (b .nodeCount) refl) (record {
+        result = refl;
+        refusals = told-on a ∙ ap (λ (x : List ℕ). x ++ map refusalIn (drop (length cs) out)) (alike-told .0) ∙ sym (told-on b);
+        after = rw (after-back a (ks .proper) refl, after-back b (kt .proper) (h .marks .nodeCount)) (alike-told .1);
+      }))
 
 pub demand3 : Demand3
 demand3 = record {
@@ -410,4 +436,8 @@ demand3 = record {
       release-told (lengths (tablesOfSource x)) (graphOfSource x) (tablesOfSource x) (kept x) out
       ∙ ap₂ (λ (s : List ℕ) (r : Released). cond (ltb (length out) (length s)) (releaseRefused out 18) r) (non-interference (graphOfSource x) (graphOfSource y) h) (released-alike (graphOfSource x) (graphOfSource y) h out)
       ∙ sym (release-told (lengths (tablesOfSource y)) (graphOfSource y) (tablesOfSource y) (kept y) out);
+  frozen = frozen-refused;
+  revealed = λ x p. reveal-accepted (graphOfSource x) (kept x .proper) p;
+  batches = λ x y h xs nobody out. applied-alike (graphOfSource x) (graphOfSource y) (tablesOfSource x) (tablesOfSource y) (kept x) (kept y) h xs nobody out;
+  told = λ x c. answer-told (graphOfSource x) c (kept x .proper);
 }

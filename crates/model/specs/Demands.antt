@@ -16,13 +16,13 @@ use Rattle.model.specs.Tables.{Tables, graphOf, groupsIn, tablesOf}
 use Rattle.model.specs.Store.{isKept, keptGraph, placesIn}
 use Rattle.model.specs.Steps.{run}
 use Rattle.model.specs.Refusals.{Reasons, firstOf, lengths, wrongSize}
-use Rattle.model.specs.Updates.{Update, answer, answers, batchGraph, groupCount, refusal, updateReasons, updated, there}
+use Rattle.model.specs.Updates.{RevealsNobody, Update, answer, answers, batchGraph, groupCount, isFrozen, onEdge, refusal, refusalIn, there, updateReasons, updated, updatesIn}
 use Rattle.model.specs.Release.{release, superedgeCount, visible, visibleGroups, visiblePart, isVisible}
 use Rattle.model.specs.Reading.{summaryIn}
 use Rattle.model.specs.Queries.{leaderIn, pairs}
 use Rattle.model.specs.Distance.{Shortest, distance, distanceBy, isJoined}
 use Rattle.model.specs.Calls.{Applied, Filled, Grouped, Listed, Measured, Opened, Released, Stored, Tied, applyCall, applyReasons, applyRefused, distanceRefused, dropCall, dropReasons, fileDistanceCall, fileDistanceReasons, fileNeighboursCall, fileNeighboursReasons, fillRefused, groupCall, groupReasons, groupRefused, keepCall, keepReasons, listRefused, neighboursCall, neighboursReasons, onto, openCall, openReasons, openRefused, readCall, readReasons, releaseCall, releaseReasons, releaseRefused, released, restoreCall, restoreReasons, storeRefused, tiedCall, tiedReasons, tiedRefused}
-use Rattle.model.specs.History.{Alike, Call, CallsTold, Source, State, StoreTold, callStep, graphOfSource, history, keep, number, opening, restore, spare, tablesOfSource}
+use Rattle.model.specs.History.{Alike, Call, CallsTold, SameHidden, Source, State, StoreTold, callStep, graphOfSource, history, keep, number, opening, restore, spare, tablesOfSource}
 use Rattle.model.specs.Program.{accepted, inputOf, maxBytes}
 
 -- DEMAND 1. A call is refused by the listed numbers, each for its listed reason.
@@ -39,7 +39,7 @@ pub record Demand1 : Type 0 where
   pub batch : (n : ℕ) (t : Tables) (xs : List ℕ) (out : List ℤ) → Refuses (λ (o : Applied). o .result) (applyRefused t out) (11 ∷ 12 ∷ 18 ∷ []) (applyReasons n t xs out) (applyCall n t xs out)
   -- an update of a batch: a refused one only writes its number among the answers
   pub update : (g : Graph) (c : Update) (cs : List Update) → Refuses (λ (o : ℕ × Graph × List ℤ). o .0) (λ r. (r, batchGraph g cs, pos r ∷ answers g cs))
-      (13 ∷ 14 ∷ 15 ∷ 16 ∷ []) (updateReasons g c) (refusal g c, batchGraph g (c ∷ cs), answers g (c ∷ cs))
+      (13 ∷ 14 ∷ 15 ∷ 24 ∷ 16 ∷ []) (updateReasons g c) (refusal g c, batchGraph g (c ∷ cs), answers g (c ∷ cs))
   pub neighbours : (n : ℕ) (t : Tables) (p : ℕ) (out : List ℕ) → Refuses (λ (o : Listed). o .result) (listRefused out) (11 ∷ 12 ∷ 14 ∷ 18 ∷ []) (neighboursReasons n t p out) (neighboursCall n t p out)
   pub tied : (n : ℕ) (t : Tables) (p q : ℕ) → Refuses (λ (o : Tied). o .result) tiedRefused (11 ∷ 12 ∷ 14 ∷ 15 ∷ []) (tiedReasons n t p q) (tiedCall n t p q)
   pub group : (n : ℕ) (t : Tables) (p : ℕ) → Refuses (λ (o : Grouped). o .result) groupRefused (11 ∷ 12 ∷ 14 ∷ []) (groupReasons n t p) (groupCall n t p)
@@ -67,6 +67,8 @@ pub record Answered (g : Graph) (c : Update) : Type 0 where
   pub effect : there (updated g c) c ≡ c .wanted
   pub difference : answer g c ≡ subℕ (groupCount (updated g c)) (groupCount g)
   pub range : natAbs (answer g c) ≤ 2
+  -- an update of a mark leaves the groups as they are
+  pub mark : onEdge c ≡ false → answer g c ≡ pos 0
 
 -- the bytes are no graph's release, for any n to 512
 abbrev pub NoRelease : List ℕ → Type 0
@@ -167,9 +169,27 @@ pub record Faithful (x : Source) (g : Graph) (t : Tables) : Type 0 where
   -- every other division of these nodes that unfolds to the same edges has at least as many groups
   pub fewest : (d : Summary) → Summarises (visible g) d → length (visibleGroups g) ≤ d .count
 
+-- what one batch did to tables of two graphs alike in what is visible
+pub record AppliedAlike (n : ℕ) (a b : Applied) : Type 0 where
+  pub result : a .result ≡ b .result
+  -- the same updates are refused, by the same numbers
+  pub refusals : map refusalIn (a .answers) ≡ map refusalIn (b .answers)
+  -- and the graphs are alike in what is visible afterwards
+  pub after : Alike (graphOf n (a .tables)) (graphOf n (b .tables))
+
 pub record Demand3 : Type 0 where
   pub each : (x : Source) → Faithful x (graphOfSource x) (tablesOfSource x)
   -- two sources with equally many nodes, the same ones hidden and the same edges among the rest: their releases are alike in
   -- every number and every byte, and a buffer is too short for the one exactly when it is too short for the other
   pub alike : (x y : Source) → Alike (graphOfSource x) (graphOfSource y) → (out : List ℕ)
       → releaseCall (graphOfSource x .nodeCount) (tablesOfSource x) out ≡ releaseCall (graphOfSource y .nodeCount) (tablesOfSource y) out
+  -- an update of an edge that names a hidden node is refused, and by which number does not depend on any edge
+  pub frozen : (a b : Graph) → SameHidden a b → (c : Update) → isFrozen a c ≡ true → (refusal a c ≡ 0 → ⊥) × (refusal a c ≡ refusal b c)
+  -- marks are not frozen: whoever is hidden can be revealed
+  pub revealed : (x : Source) (p : ℕ) → graphOfSource x .hidden p ≡ true → refusal (graphOfSource x) (record { kind = 2; u = p; v = 0; wanted = 0 }) ≡ 0
+  -- one batch that reveals nobody does not tell two sources apart that are alike in what is visible, but for the numbers from -2 to 2
+  -- that accepted updates answer: these count groups of the whole graph
+  pub batches : (x y : Source) → Alike (graphOfSource x) (graphOfSource y) → (xs : List ℕ) → RevealsNobody (graphOfSource x) (updatesIn xs) → (out : List ℤ)
+      → AppliedAlike (graphOfSource x .nodeCount) (applyCall (graphOfSource x .nodeCount) (tablesOfSource x) xs out) (applyCall (graphOfSource y .nodeCount) (tablesOfSource y) xs out)
+  -- the number of a refusal is told by the answer
+  pub told : (x : Source) (c : Update) → refusalIn (answer (graphOfSource x) c) ≡ refusal (graphOfSource x) c

@@ -157,8 +157,12 @@ abbrev pub CallsTold : Source → Type 0
 CallsTold (byHistory s n cs ok) = history s n cs .outcome ≡ plain s n cs .outcome
 CallsTold (handedIn t n w h) = Unit {0}
 
--- equally many nodes, the same ones hidden, and the same edges among the rest
-pub record Alike (a b : Graph) : Type 0 where
+-- equally many nodes, and the same ones hidden
+pub record SameHidden (a b : Graph) : Type 0 where
   pub nodeCount : a .nodeCount ≡ b .nodeCount
   pub hidden : (p : ℕ) → p < a .nodeCount → a .hidden p ≡ b .hidden p
+
+-- these, and the same edges among the rest
+pub record Alike (a b : Graph) : Type 0 where
+  pub marks : SameHidden a b
   pub edge : (p q : ℕ) → isVisible a p ≡ true → isVisible a q ≡ true → a .edge p q ≡ b .edge p q

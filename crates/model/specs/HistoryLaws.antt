@@ -54,6 +54,18 @@ pub record Kept (l : Lengths) (g : Graph) (t : Tables) : Type 0 where
   pub proper : Proper g
   pub fits : l ≡ lengthsFor (g .nodeCount)
 
+-- they have the right size, hold a graph, and are read as that one
+module _ {l : Lengths} {g : Graph} {t : Tables} (h : Kept l g t) where
+  pub kept-size : wrongSize (g .nodeCount) (lengths t) ≡ false
+  kept-size = ap (wrongSize (g .nodeCount)) (ap lengths (h .tables) ∙ lengths-of g) ∙ size-right (g .nodeCount) (h .proper .small)
+
+  module _ (n : ℕ) (e : n ≡ g .nodeCount) where
+    pub kept-holds : holds n t ≡ true
+    kept-holds = ap₂ holds e (h .tables) ∙ proper-holds g (h .proper)
+
+    pub kept-graph : graphOf n t ≡ g
+    kept-graph = ap₂ graphOf e (h .tables) ∙ read-back g (h .proper)
+
 -- a store s of length k for n nodes has these places
 pub record StoreKept (k n : ℕ) (xs : List Place) (s : List ℕ) : Type 0 where
   pub words : s ≡ storeOf n xs
@@ -115,12 +127,6 @@ module _ (l : Room) (s : State) (p : Plain) (h : Agrees l s p) where
 
   -- read with the right n
   module _ (n : ℕ) (e : n ≡ p .graph .nodeCount) where
-    holds-n : holds n (s .tables) ≡ true
-    holds-n = ap₂ holds e (h .tables .tables) ∙ proper-holds g (h .tables .proper)
-
-    graph-n : graphOf n (s .tables) ≡ p .graph
-    graph-n = ap₂ graphOf e (h .tables .tables) ∙ read-back g (h .tables .proper)
-
     store-n : isStore n (s .store) ≡ true
     store-n = ap₂ isStore e (h .store .words) ∙ sound-store (g .nodeCount) xs (h .store .sound)
 
@@ -149,7 +155,7 @@ module _ (l : Room) (s : State) (p : Plain) (h : Agrees l s p) where
           → firstOf ((wrongSize n (l .tables) || wrongBatch cs, 11) ∷ (not (holds n t), 12) ∷ (ltb (length out) (updateCount cs), 18) ∷ [])
           ≡ firstOf (batchWhy l n cs out)
       step (inl w) = rw w
-      step (inr w) = rw (holds-n n (by-tables n w))
+      step (inr w) = rw (kept-holds (h .tables) n (by-tables n w))
 
   batch-told : (n : ℕ) (cs : List ℕ) (out : List ℤ) → Told (batch n cs out)
   unfolding callStep plainStep applyCall
@@ -166,7 +172,7 @@ module _ (l : Room) (s : State) (p : Plain) (h : Agrees l s p) where
           (record { outcome = record { result = 0; answers = onto (answers g (updatesIn cs)) out }; after = record { graph = batchGraph g (updatesIn cs); places = xs } })
       done ok =
           let w = or-none (wrongSize n (l .tables)) _ (first-none _ 11 _ refl ok .0) .0 in
-          let q : graphOf n t ≡ g = graph-n n (by-tables n w) in
+          let q : graphOf n t ≡ g = kept-graph (h .tables) n (by-tables n w) in
           let k = proper-batch (updatesIn cs) g (h .tables .proper) in (
             record {
               tables = record {
@@ -187,7 +193,7 @@ module _ (l : Room) (s : State) (p : Plain) (h : Agrees l s p) where
           → firstOf ((wrongSize n (l .tables) || wrongName n (l .store) name, 11) ∷ (not (holds n t) || not (isStore n st), 12) ∷ (isKept name (placesIn n st), 22) ∷ (isFull (placesIn n st), 23) ∷ [])
           ≡ firstOf (keepWhy l xs n name)
       step (inl w) = rw w
-      step (inr w) = let e = by-tables n w in rw (holds-n n e, store-n n e, places-n n e)
+      step (inr w) = let e = by-tables n w in rw (kept-holds (h .tables) n e, store-n n e, places-n n e)
 
   keep-told : (n : ℕ) (name : List ℕ) → Told (keep n name)
   unfolding callStep plainStep keepCall
@@ -208,7 +214,7 @@ module _ (l : Room) (s : State) (p : Plain) (h : Agrees l s p) where
             record {
               tables = h .tables;
               store = record {
-                words = ap (λ (m : ℕ). storeOf m (keeping name (graphOf n t) (placesIn n st))) e ∙ ap₂ (λ (d : Graph) (ys : List Place). storeOf (g .nodeCount) (keeping name d ys)) (graph-n n e) (places-n n e);
+                words = ap (λ (m : ℕ). storeOf m (keeping name (graphOf n t) (placesIn n st))) e ∙ ap₂ (λ (d : Graph) (ys : List Place). storeOf (g .nodeCount) (keeping name d ys)) (kept-graph (h .tables) n e) (places-n n e);
                 sound = sound-keeping name g (g .nodeCount) xs (right-name n (l .store) name (w .1) .1) (h .tables .proper) refl (b .0) (h .store .sound);
                 fits = h .store .fits;
               };

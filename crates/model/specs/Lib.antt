@@ -30,6 +30,7 @@ pub mod StoreLaws
 pub mod ReleaseLaws
 pub mod BoundLaws
 pub mod UpdateLaws
+pub mod FrozenLaws
 pub mod HistoryLaws
 pub mod ReadingLaws
 pub mod ReadBackLaws

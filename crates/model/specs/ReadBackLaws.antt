@@ -58,8 +58,7 @@ module _ (b : Graph) (h : Proper b) where
 pub visible-alike : (b : Graph) → Alike (visiblePart b) b
 unfolding visiblePart visibleEdge
 visible-alike b = record {
-  nodeCount = refl;
-  hidden = λ p l. ap (λ (t : Bool). t && b .hidden p) (lt-ltb p (b .nodeCount) l);
+  marks = record { nodeCount = refl; hidden = λ p l. ap (λ (t : Bool). t && b .hidden p) (lt-ltb p (b .nodeCount) l) };
   edge = λ p q x y. ap₂ (λ (s t : Bool). s && (t && b .edge p q)) (sym (same p) ∙ x) (sym (same q) ∙ y);
 }
   where

@@ -3,9 +3,9 @@ use mathlib.Core.Path.{_≡_, refl, sym, ap, _∙_}
 use mathlib.Core.Bool.{Bool, true, false}
 use mathlib.Core.List.{[], _∷_, map}
 use mathlib.Core.Logic.{_⊎_, inl, inr}
-use Prim.Native.Nat.{ℕ, _<_}
-use lib.Dec.{eqb, ltb}
-use borrow.Author.Tests.{eqb-true, eqb-false, eq-eqb, ne-eqb, ltb-true}
+use Prim.Native.Nat.{ℕ}
+use lib.Dec.{eqb}
+use borrow.Author.Tests.{eqb-true, eqb-false, eq-eqb, ne-eqb}
 use Rattle.model.specs.Lists.{all}
 use Rattle.model.specs.Refusals.{Reasons, firstOf, judged}
 use Rattle.model.specs.TestLaws.{and-fst, and-snd, decide}
@@ -16,12 +16,18 @@ unfolding firstOf
 first-none true r ts z h = absurd (eqb-false r 0 z h)
 first-none false r ts z h = (refl, h)
 
--- a bound of the numbers bounds what is given
-pub first-below : (b : ℕ) (rs : Reasons) → 0 < b → all (map (λ (r : Bool × ℕ). r .1) rs) (λ r. ltb r b) ≡ true → firstOf rs < b
+-- the same is given, if the first reason is the same, and the rest where it does not hold
+pub first-same : {t s : Bool} (r : ℕ) (ts ss : Reasons) → t ≡ s → (t ≡ false → firstOf ts ≡ firstOf ss) → firstOf ((t, r) ∷ ts) ≡ firstOf ((s, r) ∷ ss)
+unfolding firstOf
+first-same {t = true} r ts ss e k = rw (← e)
+first-same {t = false} r ts ss e k = rw (← e) (k refl)
+
+-- a test that 0 and the numbers pass is passed by what is given
+pub first-passes : (P : ℕ → Bool) (rs : Reasons) → P 0 ≡ true → all (map (λ (r : Bool × ℕ). r .1) rs) P ≡ true → P (firstOf rs) ≡ true
 unfolding firstOf all
-first-below b [] h k = h
-first-below b ((true, r) ∷ ts) h k = ltb-true r b (and-fst (ltb r b) _ k)
-first-below b ((false, r) ∷ ts) h k = first-below b ts h (and-snd (ltb r b) _ k)
+first-passes P [] h k = h
+first-passes P ((true, r) ∷ ts) h k = and-fst (P r) _ k
+first-passes P ((false, r) ∷ ts) h k = first-passes P ts h (and-snd (P r) _ k)
 
 module _ {A : Type 0} (rs : Reasons) (refused : ℕ → A) (done : A) where
   pub judged-done : firstOf rs ≡ 0 → judged rs refused done ≡ done

@@ -23,10 +23,10 @@ use Rattle.model.specs.SummaryLaws.{algorithm1-classes, equivalence}
 module _ (a b : Graph) (h : Alike a b) where
   pub alike-node : (p : ℕ) → isVisible a p ≡ isVisible b p
   unfolding isVisible
-  alike-node p = rw (← h .nodeCount) (step (decide (ltb p (a .nodeCount))))
+  alike-node p = rw (← h .marks .nodeCount) (step (decide (ltb p (a .nodeCount))))
     where
       step : (ltb p (a .nodeCount) ≡ true) ⊎ (ltb p (a .nodeCount) ≡ false) → (ltb p (a .nodeCount) && not (a .hidden p)) ≡ (ltb p (a .nodeCount) && not (b .hidden p))
-      step (inl t) = rw (h .hidden p (ltb-true p (a .nodeCount) t))
+      step (inl t) = rw (h .marks .hidden p (ltb-true p (a .nodeCount) t))
       step (inr t) = rw t
 
   alike-edge : (p q : ℕ) → visibleEdge a p q ≡ visibleEdge b p q
@@ -39,11 +39,11 @@ module _ (a b : Graph) (h : Alike a b) where
       step false s y t = refl
 
   pub alike-visible : visible a ≡ visible b
-  alike-visible = rw (fun-ext alike-node, fun-ext (λ p. fun-ext (alike-edge p)), h .nodeCount)
+  alike-visible = rw (fun-ext alike-node, fun-ext (λ p. fun-ext (alike-edge p)), h .marks .nodeCount)
 
   pub non-interference : release a ≡ release b
   unfolding release
-  non-interference = ap₂ (λ (n : ℕ) (v : View). encode n v (algorithm1 v)) (h .nodeCount) alike-visible
+  non-interference = ap₂ (λ (n : ℕ) (v : View). encode n v (algorithm1 v)) (h .marks .nodeCount) alike-visible
 
 -- the length of the records
 pub length-u16s : (l : List ℕ) → length (concat (map u16 l)) ≡ 2 * length l

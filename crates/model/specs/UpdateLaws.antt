@@ -1,51 +1,66 @@
 -- Updates keep a graph proper, leave the rows of other nodes as they are, and move the number of groups by at most two.
-use mathlib.Core.Path.{_≡_, refl, sym, ap, ap₂, _∙_}
+use mathlib.Core.Path.{_≡_, refl, sym, ap, ap₂, _∙_, fun-ext}
 use mathlib.Core.Bool.{Bool, true, false, not, _&&_, _||_, cond, and-false, and-comm, or-comm}
 use mathlib.Core.List.{List, [], _∷_}
 use mathlib.Core.Logic.{_⊎_, inl, inr}
-use Prim.Native.Nat.{ℕ, suc, _+_, _≤_, _<_}
+use Prim.Native.Nat.{ℕ, suc, _+_, _-_, _≤_, _<_}
 use native.Mathlib.Omega.{arith}
 use lib.Dec.{eqb, ltb}
-use lib.IntN.{ℤ, subℕ, natAbs}
+use lib.IntN.{ℤ, pos, subℕ, natAbs}
 use lib.ListN.{length, getD, drop}
 use lib.Seq.{drop-cons}
-use borrow.Author.Tests.{eqb-true, eqb-false, eq-eqb, ne-eqb, ltb-true, ltb-false, not-false}
+use borrow.Author.Tests.{eqb-true, eqb-false, eq-eqb, ne-eqb, lt-ltb, le-ltb, ltb-true, ltb-false, not-false}
 use Rattle.model.specs.Graph.{Graph, Proper, emptyGraph, maxNodes, whole}
-use Rattle.model.specs.Updates.{Update, answer, answers, batchGraph, groupCount, isPair, onEdge, refusal, updateReasons, updated, there, update, updateCount, updateNumbers, updateRefused, updatesIn}
+use Rattle.model.specs.Updates.{Update, answer, answers, batchGraph, groupCount, isFrozen, isPair, onEdge, refusal, refusalIn, updateReasons, updated, there, update, updateCount, updateNumbers, updateRefused, updatesIn}
+use Rattle.model.specs.Grouping.{algorithm1}
+use Rattle.model.specs.Refusals.{firstOf}
 use Rattle.model.specs.Lists.{all, nodes}
 use Rattle.model.specs.Steps.{Stepped, run}
 use Rattle.model.specs.TestLaws.{and-fst, and-snd, decide, differ, or-cases, or-none}
-use Rattle.model.specs.RefusalLaws.{first-below, first-none, judged-done, judged-refused, judged-related}
+use Rattle.model.specs.RefusalLaws.{first-none, first-passes, judged-done, judged-refused, judged-related}
 use Rattle.model.specs.StepLaws.{run-keeps, run-length}
 use Rattle.model.specs.ListLaws.{nodes-ascending}
 use Rattle.model.specs.TableLaws.{proper-simple}
-use Rattle.model.specs.BoundLaws.{at-most-two}
+use Rattle.model.specs.BoundLaws.{at-most-two, withEdges}
 
 pub proper-empty : (n : ℕ) → n ≤ maxNodes → Proper (emptyGraph n)
 unfolding emptyGraph
 proper-empty n h = record { small = h; symmetric = λ p q. refl; irreflexive = λ p. refl; inside = λ p q t. differ t refl; held = λ p t. differ t refl }
 
--- an accepted update
-module _ (g : Graph) (c : Update) (h : Proper g) (ok : refusal g c ≡ 0) where
-  facts : (not (ltb (c .u) (g .nodeCount)) || (onEdge c && not (ltb (c .v) (g .nodeCount))) ≡ false) × ((ltb 1 (c .wanted) || cond (onEdge c) (eqb (c .u) (c .v)) (not (eqb (c .v) 0))) ≡ false) × (eqb (there g c) (c .wanted) ≡ false)
+-- the nodes of an update that is not refused with 14
+module _ (n : ℕ) (c : Update) (h : (not (ltb (c .u) n) || (onEdge c && not (ltb (c .v) n))) ≡ false) where
+  pub below-u : c .u < n
+  below-u = ltb-true (c .u) n (not-false _ (or-none (not (ltb (c .u) n)) _ h .0))
+
+  pub below-v : onEdge c ≡ true → c .v < n
+  below-v t = ltb-true (c .v) n (not-false _ (sym (ap (λ (x : Bool). x && not (ltb (c .v) n)) t) ∙ or-none (not (ltb (c .u) n)) _ h .1))
+
+-- what is known of an accepted update
+module _ (g : Graph) (c : Update) (ok : refusal g c ≡ 0) where
+  facts : (not (ltb (c .u) (g .nodeCount)) || (onEdge c && not (ltb (c .v) (g .nodeCount))) ≡ false) × ((ltb 1 (c .wanted) || cond (onEdge c) (eqb (c .u) (c .v)) (not (eqb (c .v) 0))) ≡ false) × (isFrozen g c ≡ false) × (eqb (there g c) (c .wanted) ≡ false)
   unfolding refusal updateReasons
   facts =
       let a = first-none _ 13 _ refl ok in
       let d = first-none _ 14 _ refl (a .1) in
       let e = first-none _ 15 _ refl (d .1) in
-      (d .0, e .0, first-none _ 16 _ refl (e .1) .0)
+      let f = first-none _ 24 _ refl (e .1) in
+      (d .0, e .0, f .0, first-none _ 16 _ refl (f .1) .0)
 
+  pub not-frozen : isFrozen g c ≡ false
+  not-frozen = facts .2
+
+module _ (g : Graph) (c : Update) (h : Proper g) (ok : refusal g c ≡ 0) where
   pub u-inside : c .u < g .nodeCount
-  u-inside = ltb-true (c .u) (g .nodeCount) (not-false _ (or-none (not (ltb (c .u) (g .nodeCount))) _ (facts .0) .0))
+  u-inside = below-u (g .nodeCount) c (facts g c ok .0)
 
   pub v-inside : onEdge c ≡ true → c .v < g .nodeCount
-  v-inside t = ltb-true (c .v) (g .nodeCount) (not-false _ (sym (ap (λ (x : Bool). x && not (ltb (c .v) (g .nodeCount))) t) ∙ or-none (not (ltb (c .u) (g .nodeCount))) _ (facts .0) .1))
+  v-inside = below-v (g .nodeCount) c (facts g c ok .0)
 
   pub apart : onEdge c ≡ true → c .u ≡ c .v → ⊥
-  apart t = eqb-false (c .u) (c .v) (sym (ap (λ (x : Bool). cond x (eqb (c .u) (c .v)) (not (eqb (c .v) 0))) t) ∙ or-none (ltb 1 (c .wanted)) _ (facts .1) .1)
+  apart t = eqb-false (c .u) (c .v) (sym (ap (λ (x : Bool). cond x (eqb (c .u) (c .v)) (not (eqb (c .v) 0))) t) ∙ or-none (ltb 1 (c .wanted)) _ (facts g c ok .1) .1)
 
   wanted-below : c .wanted ≤ 1
-  wanted-below = ltb-false 1 (c .wanted) (or-none (ltb 1 (c .wanted)) _ (facts .1) .0)
+  wanted-below = ltb-false 1 (c .wanted) (or-none (ltb 1 (c .wanted)) _ (facts g c ok .1) .0)
 
   pub wanted-bit : cond (eqb (c .wanted) 1) 1 0 ≡ c .wanted
   wanted-bit = step (decide (eqb (c .wanted) 1))
@@ -56,7 +71,7 @@ module _ (g : Graph) (c : Update) (h : Proper g) (ok : refusal g c ≡ 0) where
 
   -- an edge is there before exactly if it is not wanted
   pub edge-before : onEdge c ≡ true → g .edge (c .u) (c .v) ≡ not (eqb (c .wanted) 1)
-  edge-before t = step (g .edge (c .u) (c .v)) (sym (ap (λ (x : Bool). eqb (cond (cond x (g .edge (c .u) (c .v)) (g .hidden (c .u))) 1 0) (c .wanted)) t) ∙ facts .2)
+  edge-before t = step (g .edge (c .u) (c .v)) (sym (ap (λ (x : Bool). eqb (cond (cond x (g .edge (c .u) (c .v)) (g .hidden (c .u))) 1 0) (c .wanted)) t) ∙ facts g c ok .3)
     where
       step : (b : Bool) → eqb (cond b 1 0) (c .wanted) ≡ false → b ≡ not (eqb (c .wanted) 1)
       step true x = rw (ne-eqb (c .wanted) 1 (λ e. eqb-false 1 (c .wanted) x (sym e)))
@@ -128,9 +143,23 @@ pub updated-count : (g : Graph) (c : Update) → updated g c .nodeCount ≡ g .n
 unfolding updated
 updated-count g c = refl
 
-pub refusal-below : (g : Graph) (c : Update) → refusal g c < 17
+-- marks are not frozen
+pub reveal-accepted : (g : Graph) → Proper g → (p : ℕ) → g .hidden p ≡ true → refusal g (record { kind = 2; u = p; v = 0; wanted = 0 }) ≡ 0
+unfolding refusal updateReasons firstOf
+reveal-accepted g h p t = rw (lt-ltb p (g .nodeCount) (h .held p t), t)
+
+-- the numbers of refusals are below 25, and none is an accepted update's answer
+pub refusal-below : (g : Graph) (c : Update) → refusal g c < 25
 unfolding refusal updateReasons all
-refusal-below g c = first-below 17 (updateReasons g c) (omega arith) refl
+refusal-below g c = ltb-true (refusal g c) 25 (first-passes (λ r. ltb r 25) (updateReasons g c) refl refl)
+
+refusal-above : (g : Graph) (c : Update) → (refusal g c ≡ 0 → ⊥) → 2 < refusal g c
+unfolding refusal updateReasons all
+refusal-above g c d = step (or-cases (eqb (refusal g c) 0) _ (first-passes (λ r. eqb r 0 || ltb 2 r) (updateReasons g c) refl refl))
+  where
+    step : (eqb (refusal g c) 0 ≡ true) ⊎ (ltb 2 (refusal g c) ≡ true) → 2 < refusal g c
+    step (inl t) = absurd (d (eqb-true (refusal g c) 0 t))
+    step (inr t) = ltb-true 2 (refusal g c) t
 
 -- an update of a batch, accepted and refused
 pub update-accepted : (g : Graph) (c : Update) → refusal g c ≡ 0 → update g c ≡ record { outcome = subℕ (groupCount (updated g c)) (groupCount g); after = updated g c }
@@ -181,6 +210,35 @@ answer-accepted g c ok = ap (λ (x : Stepped Graph ℤ). x .outcome) (update-acc
 
 pub answer-near : (g : Graph) (c : Update) → Proper g → refusal g c ≡ 0 → natAbs (answer g c) ≤ 2
 answer-near g c h ok = rw (answer-accepted g c ok) (near (groupCount (updated g c)) (groupCount g) (answer-range g c h ok .0) (answer-range g c h ok .1))
+
+-- the answer tells the number of the refusal
+none-told : (z : ℤ) → natAbs z ≤ 2 → refusalIn z ≡ 0
+unfolding refusalIn
+none-told z h = rw (le-ltb 2 (natAbs z) h)
+
+number-told : (r : ℕ) → 2 < r → refusalIn (pos r) ≡ r
+unfolding refusalIn
+number-told r h = rw (lt-ltb 2 r h)
+
+pub answer-told : (g : Graph) (c : Update) → Proper g → refusalIn (answer g c) ≡ refusal g c
+answer-told g c h = step (decide (eqb (refusal g c) 0))
+  where
+    step : (eqb (refusal g c) 0 ≡ true) ⊎ (eqb (refusal g c) 0 ≡ false) → refusalIn (answer g c) ≡ refusal g c
+    step (inl t) = let z = eqb-true (refusal g c) 0 t in none-told (answer g c) (answer-near g c h z) ∙ sym z
+    step (inr t) = let z = eqb-false (refusal g c) 0 t in ap (λ (x : Stepped Graph ℤ). refusalIn (x .outcome)) (update-refused g c z) ∙ number-told (refusal g c) (refusal-above g c z)
+
+-- an update of a mark leaves the edges, so the groups of the whole graph stay
+module _ (g : Graph) (c : Update) (no-edge : onEdge c ≡ false) where
+  pub mark-edges : updated g c .edge ≡ g .edge
+  unfolding updated
+  mark-edges = fun-ext (λ p. fun-ext (λ q. rw no-edge))
+
+  pub mark-answer : refusal g c ≡ 0 → answer g c ≡ pos 0
+  unfolding groupCount updated
+  mark-answer ok = answer-accepted g c ok ∙ ap (λ (e : ℕ → ℕ → Bool). subℕ (length (algorithm1 (withEdges (whole g) e))) (groupCount g)) mark-edges ∙ none (groupCount g)
+    where
+      none : (x : ℕ) → subℕ x x ≡ pos 0
+      none x = let z : x - x ≡ 0 = omega arith in rw (le-ltb x x (omega arith), z)
 
 -- the updates in a list of numbers: how many, and the next one
 pub length-updates : (xs : List ℕ) → length (updatesIn xs) ≡ updateCount xs

@@ -1,10 +1,11 @@
 -- Document 01, "Sheets": updates (changes), their refusals and effects, the answers, and batches (sheets) of them.
-use mathlib.Core.Bool.{Bool, not, _&&_, _||_, cond}
+use mathlib.Core.Path.{_≡_}
+use mathlib.Core.Bool.{Bool, true, not, _&&_, _||_, cond}
 use mathlib.Core.List.{List, [], _∷_}
 use Prim.Native.Nat.{ℕ, _%_, _/_}
 use lib.Dec.{eqb, ltb}
-use lib.ListN.{length}
-use lib.IntN.{ℤ, pos, subℕ}
+use lib.ListN.{length, take}
+use lib.IntN.{ℤ, pos, subℕ, natAbs}
 use Rattle.model.specs.Graph.{Graph, maxUpdates, whole}
 use Rattle.model.specs.Grouping.{algorithm1}
 use Rattle.model.specs.Refusals.{Reasons, firstOf, judged}
@@ -25,11 +26,16 @@ onEdge c = eqb (c .kind) 1
 abbrev pub there : Graph → Update → ℕ
 there g c = cond (cond (onEdge c) (g .edge (c .u) (c .v)) (g .hidden (c .u))) 1 0
 
+-- about the edge between u and v where one of the two is hidden: such edges are frozen
+abbrev pub isFrozen : Graph → Update → Bool
+isFrozen g c = onEdge c && (g .hidden (c .u) || g .hidden (c .v))
+
 unfoldable pub updateReasons : Graph → Update → Reasons
 updateReasons g c =
     (not (onEdge c || eqb (c .kind) 2), 13)
     ∷ (not (ltb (c .u) (g .nodeCount)) || (onEdge c && not (ltb (c .v) (g .nodeCount))), 14)
     ∷ (ltb 1 (c .wanted) || cond (onEdge c) (eqb (c .u) (c .v)) (not (eqb (c .v) 0)), 15)
+    ∷ (isFrozen g c, 24)
     ∷ (eqb (there g c) (c .wanted), 16)
     ∷ []
 
@@ -70,6 +76,14 @@ batchGraph g cs = run update g cs .after
 
 unfoldable pub answers : Graph → List Update → List ℤ
 answers g cs = run update g cs .outcome
+
+-- whoever is hidden before the batch is hidden after each of its updates
+abbrev pub RevealsNobody : Graph → List Update → Type 0
+RevealsNobody g cs = (p k : ℕ) → g .hidden p ≡ true → batchGraph g (take k cs) .hidden p ≡ true
+
+-- the number of a refused update, told by its answer; 0 for those of accepted updates, which are from -2 to 2
+unfoldable pub refusalIn : ℤ → ℕ
+refusalIn z = cond (ltb 2 (natAbs z)) (natAbs z) 0
 
 -- a batch is lent as numbers, four for each update
 abbrev pub updateNumbers : ℕ

@@ -3,18 +3,22 @@ use mathlib.Core.Path.{_≡_}
 use mathlib.Core.Bool.{Bool, cond}
 use mathlib.Core.List.{List, [], _∷_, _++_}
 use Prim.Native.Nat.{ℕ, _+_, _*_}
-use lib.Dec.{eqb, ltb}
+use lib.Dec.{eqb}
 use lib.IntN.{ℤ}
 use lib.ListN.{length, take, drop}
-use Rattle.model.specs.Tables.{Tables, tablesOf, graphOf}
+use Rattle.model.specs.Tables.{Tables, tablesOf, graphOf, nodeNumber}
 use Rattle.model.specs.Updates.{Update, answer, answers, batchGraph, update, updateNumbers, updatesIn}
 use Rattle.model.specs.Refusals.{Reasons}
 use Rattle.model.specs.Calls.{onto}
 use Rattle.tables.specs.Lent.{Held}
 
--- the reasons against what is wanted: it is more than 1, or holds already
-unfoldable pub wantedReasons : ℕ → Bool → Reasons
-wantedReasons wanted there = (ltb 1 wanted, 15) ∷ (eqb (cond there 1 0) wanted, 16) ∷ []
+-- the last reason: what is wanted holds already
+unfoldable pub heldReasons : ℕ → Bool → Reasons
+heldReasons wanted there = (eqb (cond there 1 0) wanted, 16) ∷ []
+
+-- u is hidden by a node table
+abbrev pub isMarked : List ℕ → ℕ → Bool
+isMarked nodes u = eqb (nodeNumber nodes u 3) 1
 
 -- an update made t into after, and was answered r
 pub record Updated (n : ℕ) (c : Update) (t after : Tables) (r : ℤ) : Type 0 where

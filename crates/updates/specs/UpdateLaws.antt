@@ -1,24 +1,22 @@
 -- Updates of the tables are the model's.
-use mathlib.Core.Path.{_≡_, refl, sym, ap, subst, _∙_, fun-ext}
-use mathlib.Core.Bool.{Bool, true, false, cond, not, _||_, or-false, or-true}
-use mathlib.Core.List.{List, [], _∷_}
+use mathlib.Core.Path.{_≡_, refl, sym, ap, subst, _∙_}
+use mathlib.Core.Bool.{Bool, true, false, cond, not, _||_, or-true}
+use mathlib.Core.List.{List}
 use mathlib.Core.Logic.{_≢_}
 use Prim.Native.Nat.{ℕ, suc, zero, _+_, _*_, _-_, _/_, _%_, _≤_, _<_}
 use native.Mathlib.Omega.{arith}
 use native.Mathlib.Decide.{ℕ-discrete}
 use lib.Dec.{eqb, ltb}
-use lib.IntN.{ℤ, pos, subℕ}
+use lib.IntN.{ℤ, pos}
 use lib.ListN.{length, getD, set, length-set}
 use lib.Seq.{getD-set-same, getD-set-other, ext-getD}
 use mir.Val.{boolByte}
 use borrow.Author.Tests.{eq-eqb, ne-eqb, lt-ltb, le-ltb}
-use Rattle.model.specs.Graph.{Graph, Proper, nodeNumbers, whole}
+use Rattle.model.specs.Graph.{Graph, Proper, nodeNumbers}
 use Rattle.model.specs.Tables.{Tables, tablesOf, graphOf, edgeBit, nodeNumber, nodesOf, nodeOf, edgesIn, edgesOf, rowOf, keysOf, keyPair, groupIn}
 use Rattle.model.specs.Refusals.{firstOf, pairReasons}
-use Rattle.model.specs.Updates.{Update, onEdge, updateReasons, refusal, updated, answer, groupCount, there, update}
-use Rattle.model.specs.Grouping.{algorithm1}
-use Rattle.model.specs.BoundLaws.{withEdges}
-use Rattle.model.specs.UpdateLaws.{answer-accepted, u-inside, updated-count, refusal-below, update-accepted, update-refused as model-refused, wanted-bit}
+use Rattle.model.specs.Updates.{Update, onEdge, updateReasons, refusal, updated, answer, update}
+use Rattle.model.specs.UpdateLaws.{mark-answer, mark-edges, u-inside, updated-count, refusal-below, update-accepted, update-refused as model-refused, wanted-bit}
 use Rattle.model.specs.Steps.{Stepped}
 use Rattle.model.specs.TableLaws.{length-nodes-of, mark-at}
 use Rattle.rings.specs.NodesLaws.{node-at}
@@ -26,89 +24,90 @@ use Rattle.rows.specs.BitLaws.{bool-number}
 use Rattle.rows.specs.Rows.{lent}
 use Rattle.rows.specs.PairLaws.{pair-ends}
 use Rattle.groups.specs.Groups.{Asked, change}
-use Rattle.updates.specs.Batch.{Updated, wantedReasons}
+use Rattle.updates.specs.Batch.{Updated, heldReasons, isMarked}
 use Rattle.tables.specs.Lent.{Held}
 
 -- the reasons of an edge's and of a mark's update, by what the code has found in the tables
 module _ (n u v w : ℕ) (es ns ks : List ℕ) where
-  pub edge-pair : {r : ℕ} → r ≡ firstOf (pairReasons n u v) → r ≢ 0 → r ≡ refusal (graphOf n (lent es ns ks)) (change 1 u v w)
+  abbrev byEdge : ℕ
+  byEdge = refusal (graphOf n (lent es ns ks)) (change 1 u v w)
+
+  abbrev byMark : ℕ
+  byMark = refusal (graphOf n (lent es ns ks)) (change 2 u v w)
+
+  pub edge-pair : {r : ℕ} → r ≡ firstOf (pairReasons n u v) → r ≢ 0 → r ≡ byEdge
   unfolding refusal updateReasons firstOf graphOf pairReasons
-  edge-pair e d = e ∙ step (ltb u n) (ltb v n) (eqb u v) (λ z. d (e ∙ z))
+  edge-pair e d = e ∙ step (ltb u n) (ltb v n) (eqb u v) _ (λ z. d (e ∙ z))
     where
-      x : ℕ
-      x = firstOf ((eqb (there (graphOf n (lent es ns ks)) (change 1 u v w)) w, 16) ∷ [])
+      step : (a b c : Bool) (x : ℕ) → (_≡_ {A = ℕ} (cond (not a || not b) 14 (cond c 15 0)) 0 → ⊥) → _≡_ {A = ℕ} (cond (not a || not b) 14 (cond c 15 0)) (cond (not a || not b) 14 (cond (ltb 1 w || c) 15 x))
+      step false b c x h = refl
+      step true false c x h = refl
+      step true true true x h = rw (or-true (ltb 1 w))
+      step true true false x h = absurd (h refl)
 
-      step : (a b c : Bool) → (_≡_ {A = ℕ} (cond (not a || not b) 14 (cond c 15 0)) 0 → ⊥) → _≡_ {A = ℕ} (cond (not a || not b) 14 (cond c 15 0)) (cond (not a || not b) 14 (cond (ltb 1 w || c) 15 x))
-      step false b c h = refl
-      step true false c h = refl
-      step true true true h = rw (or-true (ltb 1 w))
-      step true true false h = absurd (h refl)
+  -- two nodes
+  module _ {r : ℕ} (e : r ≡ firstOf (pairReasons n u v)) (z : r ≡ 0) where
+    pub edge-more : 1 < w → 15 ≡ byEdge
+    unfolding refusal updateReasons firstOf graphOf
+    edge-more h = let p = pair-ends n u v e z in rw (lt-ltb u n (p .0), lt-ltb v n (p .1), lt-ltb 1 w h)
 
-  pub edge-wanted : {r : ℕ} → r ≡ firstOf (pairReasons n u v) → r ≡ 0 → firstOf (wantedReasons w (edgeBit es u v)) ≡ refusal (graphOf n (lent es ns ks)) (change 1 u v w)
-  unfolding refusal updateReasons firstOf graphOf edgesIn wantedReasons
-  edge-wanted e z = let p = pair-ends n u v e z in rw (lt-ltb u n (p .0), lt-ltb v n (p .1), ne-eqb u v (p .2), or-false (ltb 1 w))
+    pub edge-frozen : w ≤ 1 → (isMarked ns u || isMarked ns v) ≡ true → 24 ≡ byEdge
+    unfolding refusal updateReasons firstOf graphOf
+    edge-frozen h f = let p = pair-ends n u v e z in rw (lt-ltb u n (p .0), lt-ltb v n (p .1), ne-eqb u v (p .2), le-ltb 1 w h, f)
 
-  pub mark-u : n ≤ u → 14 ≡ refusal (graphOf n (lent es ns ks)) (change 2 u v w)
+    pub edge-held : w ≤ 1 → (isMarked ns u || isMarked ns v) ≡ false → firstOf (heldReasons w (edgeBit es u v)) ≡ byEdge
+    unfolding refusal updateReasons firstOf graphOf edgesIn heldReasons
+    edge-held h f = let p = pair-ends n u v e z in rw (lt-ltb u n (p .0), lt-ltb v n (p .1), ne-eqb u v (p .2), le-ltb 1 w h, f)
+
+  pub mark-u : n ≤ u → 14 ≡ byMark
   unfolding refusal updateReasons firstOf graphOf
   mark-u h = rw (le-ltb u n h)
 
-  pub mark-v : u < n → v ≢ 0 → 15 ≡ refusal (graphOf n (lent es ns ks)) (change 2 u v w)
+  pub mark-v : u < n → v ≢ 0 → 15 ≡ byMark
   unfolding refusal updateReasons firstOf graphOf
   mark-v h k = rw (lt-ltb u n h, ne-eqb v 0 k, or-true (ltb 1 w))
 
-  pub mark-wanted : u < n → v ≡ 0 → firstOf (wantedReasons w (eqb (nodeNumber ns u 3) 1)) ≡ refusal (graphOf n (lent es ns ks)) (change 2 u v w)
-  unfolding refusal updateReasons firstOf graphOf wantedReasons
-  mark-wanted h k = rw (lt-ltb u n h, eq-eqb v 0 k, or-false (ltb 1 w))
+  pub mark-more : u < n → 1 < w → 15 ≡ byMark
+  unfolding refusal updateReasons firstOf graphOf
+  mark-more h k = rw (lt-ltb u n h, lt-ltb 1 w k)
+
+  pub mark-held : u < n → v ≡ 0 → w ≤ 1 → firstOf (heldReasons w (isMarked ns u)) ≡ byMark
+  unfolding refusal updateReasons firstOf graphOf heldReasons
+  mark-held h k l = rw (lt-ltb u n h, eq-eqb v 0 k, le-ltb 1 w l)
 
 pub other-kind : (g : Graph) (k u v w : ℕ) → k ≢ 1 → k ≢ 2 → 13 ≡ refusal g (change k u v w)
 unfolding refusal updateReasons firstOf
 other-kind g k u v w a b = rw (ne-eqb k 1 a, ne-eqb k 2 b)
 
--- what is wanted: more than 1, what holds already, or neither
+-- what is wanted holds already, or does not
 module _ (w : ℕ) (there : Bool) where
-  pub wanted-more : 1 < w → 15 ≡ firstOf (wantedReasons w there)
-  unfolding firstOf wantedReasons
-  wanted-more h = rw (lt-ltb 1 w h)
+  pub held-already : boolByte there ≡ w → 16 ≡ firstOf (heldReasons w there)
+  unfolding firstOf heldReasons
+  held-already e = rw (eq-eqb (cond there 1 0) w (sym (bool-number there) ∙ e))
 
-  pub wanted-held : w ≤ 1 → boolByte there ≡ w → 16 ≡ firstOf (wantedReasons w there)
-  unfolding firstOf wantedReasons
-  wanted-held h e = rw (le-ltb 1 w h, eq-eqb (cond there 1 0) w (sym (bool-number there) ∙ e))
-
-  pub wanted-new : w ≤ 1 → boolByte there ≢ w → 0 ≡ firstOf (wantedReasons w there)
-  unfolding firstOf wantedReasons
-  wanted-new h d = rw (le-ltb 1 w h, ne-eqb (cond there 1 0) w (λ e. d (bool-number there ∙ e)))
+  pub held-not : boolByte there ≢ w → 0 ≡ firstOf (heldReasons w there)
+  unfolding firstOf heldReasons
+  held-not d = rw (ne-eqb (cond there 1 0) w (λ e. d (bool-number there ∙ e)))
 
 -- an accepted update of a mark: the mark alone is written
 module _ (g : Graph) (c : Update) (h : Proper g) (ok : refusal g c ≡ 0) (no-edge : onEdge c ≡ false) where
-  same-edges : updated g c .edge ≡ g .edge
-  unfolding updated
-  same-edges = fun-ext (λ p. fun-ext (λ q. rw no-edge))
-
-  -- the groups of the whole graph stay
-  answer-mark : answer g c ≡ pos 0
-  unfolding groupCount updated
-  answer-mark = answer-accepted g c ok ∙ ap (λ (e : ℕ → ℕ → Bool). subℕ (length (algorithm1 (withEdges (whole g) e))) (groupCount g)) same-edges ∙ none (groupCount g)
-    where
-      none : (x : ℕ) → subℕ x x ≡ pos 0
-      none x = let z : x - x ≡ 0 = omega arith in rw (le-ltb x x (omega arith), z)
-
   -- a graph with these edges, for what the tables tell of edges alone
   abbrev with : (ℕ → ℕ → Bool) → Graph
   with e = record { nodeCount = g .nodeCount; edge = e; hidden = g .hidden }
 
   edges-kept : edgesOf g ≡ edgesOf (updated g c)
   unfolding edgesOf rowOf updated
-  edges-kept = ap (λ (e : ℕ → ℕ → Bool). edgesOf (with e)) (sym same-edges)
+  edges-kept = ap (λ (e : ℕ → ℕ → Bool). edgesOf (with e)) (sym (mark-edges g c no-edge))
 
   keys-kept : keysOf g ≡ keysOf (updated g c)
   unfolding keysOf keyPair updated
-  keys-kept = ap (λ (e : ℕ → ℕ → Bool). keysOf (with e)) (sym same-edges)
+  keys-kept = ap (λ (e : ℕ → ℕ → Bool). keysOf (with e)) (sym (mark-edges g c no-edge))
 
   group-kept : (p k : ℕ) → k < 3 → getD (nodeOf g p) k 0 ≡ getD (nodeOf (updated g c) p) k 0
   unfolding nodeOf groupIn updated
-  group-kept p zero l = ap (λ (e : ℕ → ℕ → Bool). getD (nodeOf (with e) p) 0 0) (sym same-edges)
-  group-kept p (suc zero) l = ap (λ (e : ℕ → ℕ → Bool). getD (nodeOf (with e) p) 1 0) (sym same-edges)
-  group-kept p (suc (suc zero)) l = ap (λ (e : ℕ → ℕ → Bool). getD (nodeOf (with e) p) 2 0) (sym same-edges)
+  group-kept p zero l = ap (λ (e : ℕ → ℕ → Bool). getD (nodeOf (with e) p) 0 0) (sym (mark-edges g c no-edge))
+  group-kept p (suc zero) l = ap (λ (e : ℕ → ℕ → Bool). getD (nodeOf (with e) p) 1 0) (sym (mark-edges g c no-edge))
+  group-kept p (suc (suc zero)) l = ap (λ (e : ℕ → ℕ → Bool). getD (nodeOf (with e) p) 2 0) (sym (mark-edges g c no-edge))
   group-kept p (suc (suc (suc k))) l = absurd (omega arith)
 
   -- the mark of p after it
@@ -169,7 +168,7 @@ module _ (n k u v w r : ℕ) (t : Tables) (h : Held n t) (e : r ≡ refusal (gra
   abbrev c : Update
   c = change k u v w
 
-  pub number-small : r < 17
+  pub number-small : r < 25
   number-small = rw e (refusal-below g c)
 
   pub update-refused : r ≢ 0 → {a : ℤ} → a ≡ pos r → Updated n (change k u v w) t t a
@@ -197,7 +196,7 @@ module _ (n k u v w r : ℕ) (t : Tables) (h : Held n t) (e : r ≡ refusal (gra
 
     pub mark-updated : k ≢ 1 → {ns : List ℕ} → ns ≡ set (t .nodes) (nodeNumbers * u + 3) w → Updated n (change k u v w) t (lent (t .edges) ns (t .keys)) (pos 0)
     unfolding tablesOf
-    mark-updated q {ns} x = done (written ∙ marked g c (h .proper) none (ne-eqb k 1 q)) (sym (answer-mark g c (h .proper) none (ne-eqb k 1 q)))
+    mark-updated q {ns} x = done (written ∙ marked g c (h .proper) none (ne-eqb k 1 q)) (sym (mark-answer g c (ne-eqb k 1 q) none))
       where
         written : lent (t .edges) ns (t .keys) ≡ lent (edgesOf g) (set (nodesOf g) (nodeNumbers * u + 3) w) (keysOf g)
         written =

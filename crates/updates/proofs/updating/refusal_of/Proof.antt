@@ -14,7 +14,7 @@ mark-refusal-requires : tie.Need-mark-refusal-requires
 mark-refusal-requires c κs = search needs
 
 returns : tie.Need-returns
-returns c ks = rw (c .before .match .keys1) (c .edge-refusal .ensures _ ks)
+returns c ks = rw (c .before .match .keys1) (c .edge-refusal .ensures ks)
 
 returns-2 : tie.Need-returns-2
 returns-2 c ks = rw (c .before .match .keys2) (c .mark-refusal .ensures _ ks)

@@ -1,0 +1,98 @@
+-- Edges of hidden nodes are frozen: what the refusals of an update and of a batch do not depend on.
+use mathlib.Core.Path.{_≡_, refl, sym, ap, ap₂, _∙_}
+use mathlib.Core.Bool.{Bool, true, false, not, _&&_, _||_, cond}
+use mathlib.Core.List.{List, [], _∷_, map}
+use Prim.Native.Nat.{ℕ, suc, _<_}
+use lib.Dec.{eqb, ltb}
+use lib.ListN.{take}
+use borrow.Author.Tests.{lt-ltb, ltb-true, not-true}
+use Rattle.model.specs.Graph.{Graph, Proper}
+use Rattle.model.specs.Steps.{run}
+use Rattle.model.specs.Updates.{RevealsNobody, Update, answers, batchGraph, isFrozen, isPair, onEdge, refusal, refusalIn, update, updateReasons, updateRefused, updated}
+use Rattle.model.specs.Release.{isVisible}
+use Rattle.model.specs.History.{Alike, SameHidden}
+use Rattle.model.specs.TestLaws.{and-fst, and-snd, and-true, differ, fails, or-none}
+use Rattle.model.specs.RefusalLaws.{first-same, judged-related}
+use Rattle.model.specs.UpdateLaws.{answer-told, below-u, below-v, not-frozen, proper-stepped}
+
+-- on graphs with equally many nodes and the same ones hidden
+module _ (a b : Graph) (h : SameHidden a b) (c : Update) where
+  -- an update is refused by the same number, if an edge that is looked at is the same
+  same-refusal : (isFrozen a c ≡ false → onEdge c ≡ true → c .u < a .nodeCount → c .v < a .nodeCount → a .edge (c .u) (c .v) ≡ b .edge (c .u) (c .v)) → refusal a c ≡ refusal b c
+  unfolding refusal updateReasons
+  same-refusal same =
+      first-same 13 _ _ refl
+      (λ k. first-same 14 _ _ (ap (λ (n : ℕ). not (ltb (c .u) n) || (onEdge c && not (ltb (c .v) n))) (h .nodeCount))
+      (λ t. first-same 15 _ _ refl
+      (λ w. first-same 24 _ _ (frozen (below-u _ c t) (below-v _ c t) _ refl)
+      (λ f. first-same 16 _ _ (ap (λ (x : Bool). eqb (cond x 1 0) (c .wanted)) (told (below-u _ c t) (below-v _ c t) f _ refl))
+      (λ z. refl)))))
+    where
+      frozen : c .u < a .nodeCount → (onEdge c ≡ true → c .v < a .nodeCount) → (x : Bool) → onEdge c ≡ x → (x && (a .hidden (c .u) || a .hidden (c .v))) ≡ (x && (b .hidden (c .u) || b .hidden (c .v)))
+      frozen lu lv true e = ap₂ _||_ (h .hidden (c .u) lu) (h .hidden (c .v) (lv e))
+      frozen lu lv false e = refl
+
+      told : c .u < a .nodeCount → (onEdge c ≡ true → c .v < a .nodeCount) → isFrozen a c ≡ false → (x : Bool) → onEdge c ≡ x → cond x (a .edge (c .u) (c .v)) (a .hidden (c .u)) ≡ cond x (b .edge (c .u) (c .v)) (b .hidden (c .u))
+      told lu lv f true e = same f e lu (lv e)
+      told lu lv f false e = h .hidden (c .u) lu
+
+  pub frozen-refused : isFrozen a c ≡ true → (refusal a c ≡ 0 → ⊥) × (refusal a c ≡ refusal b c)
+  frozen-refused f = (λ ok. differ f (not-frozen a c ok), same-refusal (λ z. differ f z))
+
+-- alike, with the same edges among all that were not hidden at first; whoever was is hidden still
+record Since (was : ℕ → Bool) (a b : Graph) : Type 0 where
+  marks : SameHidden a b
+  stays : (p : ℕ) → was p ≡ true → a .hidden p ≡ true
+  edge : (p q : ℕ) → p < a .nodeCount → q < a .nodeCount → was p ≡ false → was q ≡ false → a .edge p q ≡ b .edge p q
+
+module _ (was : ℕ → Bool) where
+  not-then : (a b : Graph) → Since was a b → (p : ℕ) → a .hidden p ≡ false → was p ≡ false
+  not-then a b h p z = fails (was p) (λ t. differ (h .stays p t) z)
+
+  since-refusal : (a b : Graph) → Since was a b → (c : Update) → refusal a c ≡ refusal b c
+  since-refusal a b h c =
+      same-refusal a b (h .marks) c
+      (λ f e x y. let z = or-none (a .hidden (c .u)) _ (sym (ap (λ (o : Bool). o && (a .hidden (c .u) || a .hidden (c .v))) e) ∙ f) in h .edge (c .u) (c .v) x y (not-then a b h (c .u) (z .0)) (not-then a b h (c .v) (z .1)))
+
+  -- after an update they are alike, if it reveals nobody
+  since-next : (a b : Graph) → Since was a b → (c : Update) → ((p : ℕ) → was p ≡ true → update a c .after .hidden p ≡ true) → Since was (update a c .after) (update b c .after)
+  unfolding update refusal updated
+  since-next a b h c still =
+      judged-related (λ x y. ((p : ℕ) → was p ≡ true → x .after .hidden p ≡ true) → Since was (x .after) (y .after)) (updateReasons a c) (updateReasons b c) (updateRefused a) (updateRefused b) _ _ (since-refusal a b h c)
+      (λ z s. h)
+      (λ z s. record {
+        marks = record { nodeCount = h .marks .nodeCount; hidden = λ p l. ap (λ (x : Bool). cond (not (onEdge c) && eqb p (c .u)) (eqb (c .wanted) 1) x) (h .marks .hidden p l) };
+        stays = s;
+        edge = λ p q x y k m. ap (λ (e : Bool). cond (onEdge c && isPair (c .u) (c .v) p q) (eqb (c .wanted) 1) e) (h .edge p q x y k m);
+      })
+      still
+
+  since-batch : (cs : List Update) (a b : Graph) → Proper a → Proper b → Since was a b → ((p k : ℕ) → was p ≡ true → batchGraph a (take k cs) .hidden p ≡ true)
+      → (map refusalIn (answers a cs) ≡ map refusalIn (answers b cs)) × Since was (batchGraph a cs) (batchGraph b cs)
+  unfolding batchGraph answers run
+  since-batch [] a b pa pb h still = (refl, h)
+  since-batch (c ∷ cs) a b pa pb h still =
+      let r = since-batch cs (update a c .after) (update b c .after) (proper-stepped a c pa .0) (proper-stepped b c pb .0) (since-next a b h c (λ p. still p 1)) (λ p k. still p (suc k)) in
+      (ap₂ _∷_ (answer-told a c pa ∙ since-refusal a b h c ∙ sym (answer-told b c pb)) (r .0), r .1)
+
+-- graphs alike in what is visible, given one batch that reveals nobody, refuse the same updates by the same numbers and are alike afterwards
+pub batch-alike : (a b : Graph) → Proper a → Proper b → Alike a b → (cs : List Update) → RevealsNobody a cs
+    → (map refusalIn (answers a cs) ≡ map refusalIn (answers b cs)) × Alike (batchGraph a cs) (batchGraph b cs)
+unfolding isVisible
+batch-alike a b pa pb h cs nobody = (r .0, record { marks = r .1 .marks; edge = λ p q x y. r .1 .edge p q (inside p x) (inside q y) (not-then _ _ _ (r .1) p (seen p x)) (not-then _ _ _ (r .1) q (seen q y)) })
+  where
+    start : Since (a .hidden) a b
+    start = record {
+      marks = h .marks;
+      stays = λ p t. t;
+      edge = λ p q x y s t. h .edge p q (and-true (lt-ltb p (a .nodeCount) x) (ap not s)) (and-true (lt-ltb q (a .nodeCount) y) (ap not t));
+    }
+
+    r : (map refusalIn (answers a cs) ≡ map refusalIn (answers b cs)) × Since (a .hidden) (batchGraph a cs) (batchGraph b cs)
+    r = since-batch (a .hidden) cs a b pa pb start nobody
+
+    inside : (p : ℕ) → isVisible (batchGraph a cs) p ≡ true → p < batchGraph a cs .nodeCount
+    inside p x = ltb-true p _ (and-fst (ltb p (batchGraph a cs .nodeCount)) _ x)
+
+    seen : (p : ℕ) → isVisible (batchGraph a cs) p ≡ true → batchGraph a cs .hidden p ≡ false
+    seen p x = not-true _ (and-snd (ltb p (batchGraph a cs .nodeCount)) _ x)
