@@ -160,6 +160,8 @@ def update_refusal(graph, kind, u, v, wanted):
         return 14
     if wanted > 1 or (u == v if kind == 1 else v != 0):
         return 15
+    if kind == 1 and graph.hidden & {u, v}:
+        return 24
     members, one = subject(graph, kind, u, v)
     return 16 if (one in members) == (wanted == 1) else 0
 
@@ -459,7 +461,7 @@ def drawn(seed, times, span):
 
     for _ in range(times):
         k, u, v, some = draw(8), draw(span), draw(span), draw(16)
-        kind, wanted = ((1, 1), (1, 1), (1, 1), (1, 0), (1, 0), (2, 1), (2, 0), (some % 4, some // 4))[k]
+        kind, wanted = ((1, 1), (1, 1), (1, 1), (1, 0), (1, 0), (2, int(some % 3 == 0)), (2, 0), (some % 4, some // 4))[k]
         found += [kind, u, v if k < 5 or some == 0 else 0, wanted]
     return found
 

@@ -28,11 +28,20 @@ fn kind_of(k: u64, any: u64) -> u64 {
     }
 }
 
+// A wanted mark: one in three hides, so that most nodes stay visible.
+fn mark_of(any: u64) -> u64 {
+    if any % 3 == 0 {
+        return 1;
+    }
+    0
+}
+
 // What is wanted, from the same number: 7 gives any number below 4.
 fn wanted_of(k: u64, any: u64) -> u64 {
     match k {
-        0 | 1 | 2 | 5 => 1,
+        0 | 1 | 2 => 1,
         3 | 4 | 6 => 0,
+        5 => mark_of(any),
         _ => any / 4,
     }
 }
