@@ -1,4 +1,5 @@
-//! Random and mutated inputs for every call, the library against the calls in Rust: no crash and no disagreement.
+//! Random and mutated inputs for every call, the library against the calls in Rust: no crash and no disagreement; and the library on
+//! tables alike in what is visible.
 
 use crate::calls::{self, Counts, Member};
 use crate::graphs::{self, Lent, Random, Shape, Tables};
@@ -19,6 +20,12 @@ struct Tally {
     answers: BTreeMap<i16, u64>,
     damaged_tables: u64,
     refused_tables: u64,
+    /// Pairs of tables alike in what is visible, given one batch.
+    pairs: u64,
+    /// How many of their updates were refused, by the same number in both.
+    refused_alike: u64,
+    /// How many were accepted with other answers, which count groups of the whole graph.
+    answered_apart: u64,
     queries: u64,
     releases: u64,
     files: u64,
@@ -58,13 +65,14 @@ fn few(random: &mut Random) -> u16 {
     }
 }
 
-/// Each of its numbers may be one that is refused, alone or with others.
+/// Each of its numbers may be one that is refused, alone or with others. One mark in four hides, so that most nodes stay visible.
 fn update(n: usize, random: &mut Random) -> [u16; UPDATE_NUMBERS] {
     let mut node = || if random.below(40) == 0 { random.next() as u16 } else { random.below(n + 1) as u16 };
     let (u, v) = (node(), node());
     let kind = if random.below(8) == 0 { few(random) } else { [1, 1, 2][random.below(3)] };
     let v = if kind != 1 && random.below(8) > 0 { 0 } else { v };
-    let wanted = if random.below(5) == 0 { few(random) } else { random.below(2) as u16 };
+    let one_in = if kind == 1 { 2 } else { 4 };
+    let wanted = if random.below(5) == 0 { few(random) } else { u16::from(random.below(one_in) == 0) };
     [kind, u, v, wanted]
 }
 
@@ -96,6 +104,63 @@ fn apply(t: &mut Tables, random: &mut Random, tally: &mut Tally) {
     if a == 0 {
         x[..count].iter().for_each(|&answer| *tally.answers.entry(answer).or_default() += 1);
     }
+}
+
+fn hidden_nodes(t: &Tables) -> Vec<u16> {
+    (0..t.n).filter(|&p| t.is_hidden(p)).map(|p| p as u16).collect()
+}
+
+/// The library's result and answers for a batch.
+fn answers_to(t: &mut Tables, batch: &[u16]) -> (u16, Vec<i16>) {
+    let mut answers = vec![0; batch.len() / UPDATE_NUMBERS];
+    let result = calls::apply(t.n, &mut t.edges, &mut t.nodes, &mut t.keys, batch, &mut answers);
+    (result, answers)
+}
+
+/// Tables alike in what is visible: the hidden nodes revealed, some of their edges flipped, and hidden again.
+fn alike(t: &Tables, hidden: &[u16], random: &mut Random) -> Tables {
+    let mark = |wanted| hidden.iter().flat_map(move |&p| [2, p, 0, wanted]);
+    let mut batch: Vec<u16> = mark(0).collect();
+    for &p in hidden {
+        for _ in 0..random.below(6) {
+            let q = random.below(t.n);
+            batch.extend([1, p, q as u16, u16::from(!t.tied(usize::from(p), q))]);
+        }
+    }
+    batch.extend(mark(1));
+    let mut other = t.clone();
+    assert_eq!(answers_to(&mut other, &batch).0, 0);
+    other
+}
+
+/// A batch without the updates that would reveal one of these nodes.
+fn revealing_none(n: usize, hidden: &[u16], random: &mut Random) -> Vec<u16> {
+    let reveals = |update: &[u16]| matches!(update, [2, u, _, 0] if hidden.contains(u));
+    batch(n, random).chunks(UPDATE_NUMBERS).filter(|update| !reveals(update)).flatten().copied().collect()
+}
+
+/// The library's release, in a buffer that is long enough.
+fn whole_release(t: &Tables) -> (u16, Counts, Vec<u8>) {
+    let (mut file, mut counts) = (vec![77; most_bytes(t.n)], Counts::default());
+    let result = calls::release(t.n, &t.edges, &t.nodes, &t.keys, &mut file, &mut counts);
+    (result, counts, file)
+}
+
+/// One batch on two tables alike in what is visible: the same updates refused, by the same numbers, and the same release after it.
+fn compare_alike(t: &Tables, random: &mut Random, tally: &mut Tally) {
+    let hidden = hidden_nodes(t);
+    let batch = revealing_none(t.n, &hidden, random);
+    let (mut a, mut b) = (t.clone(), alike(t, &hidden, random));
+    let ((c, x), (d, y)) = (answers_to(&mut a, &batch), answers_to(&mut b, &batch));
+    assert_eq!(c, d);
+    for (x, y) in x.into_iter().zip(y) {
+        let refused = x > 2 || y > 2;
+        assert!(x == y || !refused, "{x} {y} {t:?} {batch:?}");
+        tally.refused_alike += u64::from(refused);
+        tally.answered_apart += u64::from(x != y);
+    }
+    assert!(whole_release(&a) == whole_release(&b), "{t:?} {batch:?}");
+    tally.pairs += 1;
 }
 
 fn ask(t: &Tables, random: &mut Random, tally: &mut Tally) -> u16 {
@@ -309,8 +374,13 @@ fn damage(t: &Tables, random: &mut Random, tally: &mut Tally) {
     tally.refused_tables += u64::from(result == 12);
 }
 
+/// No release of n nodes is longer.
+fn most_bytes(n: usize) -> usize {
+    10 + 6 * n + 3 * n * n.saturating_sub(1)
+}
+
 fn release(t: &Tables, random: &mut Random, tally: &mut Tally) -> Vec<u8> {
-    let largest = 10 + 6 * t.n + 3 * t.n * t.n.saturating_sub(1);
+    let largest = most_bytes(t.n);
     let room = if random.below(4) == 0 { random.below(largest + 1) } else { largest + 3 };
     let (mut x, mut y) = (vec![77; room], vec![77; room]);
     let (mut c, mut d) = (Counts::default(), Counts::default());
@@ -432,6 +502,7 @@ pub fn run(seed: u64, seconds: u64) {
         let hide = 1 + random.below(n + 4);
         let mut t = graphs::build(n, &graphs::edges(shape, n, &mut random), hide);
         history(&t, &mut random, &mut tally);
+        compare_alike(&t, &mut random, &mut tally);
         tally.graphs += 1;
         let turns = if n > 100 { 5 } else { 25 };
         for _ in 0..turns {

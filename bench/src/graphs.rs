@@ -16,6 +16,14 @@ impl Tables {
     pub fn filled(n: usize, x: u16) -> Tables {
         Tables { n, edges: vec![u64::from(x); 8 * n], nodes: vec![x; 4 * n], keys: vec![u32::from(x); 2 * n] }
     }
+
+    pub fn tied(&self, p: usize, q: usize) -> bool {
+        self.edges[8 * p + q / 64] >> (q % 64) & 1 == 1
+    }
+
+    pub fn is_hidden(&self, p: usize) -> bool {
+        self.nodes[4 * p + 3] == 1
+    }
 }
 
 /// Tables and a store.
@@ -104,13 +112,15 @@ pub fn build(n: usize, edges: &[(u16, u16)], hide: usize) -> Tables {
     t
 }
 
-/// A batch of 4,096 that changes 2,048 edges and changes them back, so that the graph is the same after it.
+/// A batch of 4,096 that changes 2,048 edges between visible nodes and changes them back, so that the graph is the same after it.
 pub fn there_and_back(t: &Tables, random: &mut Random) -> Vec<u16> {
-    let mut there: Vec<Vec<bool>> = (0..t.n).map(|p| (0..t.n).map(|q| t.edges[8 * p + q / 64] >> (q % 64) & 1 == 1).collect()).collect();
+    let mut there: Vec<Vec<bool>> = (0..t.n).map(|p| (0..t.n).map(|q| t.tied(p, q)).collect()).collect();
+    let visible: Vec<usize> = (0..t.n).filter(|&p| !t.is_hidden(p)).collect();
     let mut batch = Vec::new();
     for _ in 0..UPDATES / 2 {
-        let p = random.below(t.n);
-        let q = (p + 1 + random.below(t.n - 1)) % t.n;
+        let i = random.below(visible.len());
+        let j = (i + 1 + random.below(visible.len() - 1)) % visible.len();
+        let (p, q) = (visible[i], visible[j]);
         let wanted = !there[p][q];
         there[p][q] = wanted;
         there[q][p] = wanted;

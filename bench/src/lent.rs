@@ -488,6 +488,9 @@ fn update(e: &mut [u64], v: &mut [u16], k: &mut [u32], n: usize, &[kind, u, w, w
     if unfit || wanted > 1 {
         return 15;
     }
+    if kind == 1 && v[4 * p + 3] | v[4 * q + 3] == 1 {
+        return 24;
+    }
     let there = if kind == 1 { u16::from(has(row(e, p), q)) } else { v[4 * p + 3] };
     if there == wanted {
         return 16;

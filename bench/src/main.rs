@@ -69,7 +69,7 @@ fn bucketed(t: &Tables) -> Buckets {
     let mut buckets = Buckets::new(t.n as u16);
     for p in 0..t.n {
         for q in p + 1..t.n {
-            if t.edges[8 * p + q / 64] >> (q % 64) & 1 == 1 {
+            if t.tied(p, q) {
                 buckets.update(p as u16, q as u16, 1);
             }
         }

@@ -84,10 +84,10 @@ fn made(random: &mut Random) -> Vec<u8> {
     let mut s = format!("{n}\n");
     for _ in 0..random.below(if n == 512 { UPDATES } else { 60 }) {
         let (u, v) = (random.below(n + 1), random.below(n));
-        s += &match random.below(6) {
-            0..=2 => format!("t {u} {v}\n"),
-            3 => format!("u {u} {v}\n"),
-            4 => format!("w {u}\n"),
+        s += &match random.below(12) {
+            0..=5 => format!("t {u} {v}\n"),
+            6 | 7 => format!("u {u} {v}\n"),
+            8 => format!("w {u}\n"),
             _ => format!("o {u}\n"),
         };
     }
