@@ -56,7 +56,8 @@ enum {
     TEGMULOS_OTHER_SIZE = 20,    /* a release, but for another n */
     TEGMULOS_NOT_KEPT = 21,      /* no state has the name */
     TEGMULOS_ALREADY_KEPT = 22,  /* a state has the name */
-    TEGMULOS_FULL = 23           /* eight states are kept */
+    TEGMULOS_FULL = 23,          /* eight states are kept */
+    TEGMULOS_FROZEN = 24         /* an update of an edge that names a hidden node */
 };
 
 /* A graph of n nodes without edges, none hidden, and a store without states. 0, or 11. */
@@ -76,8 +77,8 @@ uint16_t tegmulos_restore(size_t n, uint64_t *edges, size_t edges_len, uint16_t 
 uint16_t tegmulos_drop(size_t n, uint64_t *store, size_t store_len, const uint8_t *name, size_t name_len);
 
 /* A batch of updates, four numbers each: kind, u, v (0 in kind 2), wanted. What is wanted holds after an accepted one: 1 that the
- * edge is there or the node hidden, 0 that it is not. Each writes one answer: the number of its refusal, or how many groups more
- * there are, from -2 to 2. 0, or 11, 12, 18. */
+ * edge is there or the node hidden, 0 that it is not. Each writes one answer: the number of its refusal, tested in the order 13, 14,
+ * 15, 24, 16, or how many groups more there are, from -2 to 2. 0, or 11, 12, 18. */
 uint16_t tegmulos_apply(size_t n, uint64_t *edges, size_t edges_len, uint16_t *nodes, size_t nodes_len, uint32_t *keys,
                         size_t keys_len, const uint16_t *batch, size_t batch_len, int16_t *answers, size_t answers_len);
 

@@ -4,7 +4,7 @@
 #include "tegmulos.h"
 
 enum { N = 6, STORE = TEGMULOS_STORE_WORDS(N), NAME = TEGMULOS_NAME_BYTES };
-enum { UPDATES = 10, BATCH = TEGMULOS_UPDATE_NUMBERS * UPDATES };
+enum { UPDATES = 11, BATCH = TEGMULOS_UPDATE_NUMBERS * UPDATES };
 
 static uint64_t edges[8 * N];
 static uint16_t nodes[4 * N];
@@ -12,12 +12,12 @@ static uint32_t keys[2 * N];
 static uint64_t store[STORE];
 static const uint8_t name[NAME] = "first reading";
 
-/* The nine edges, and one node hidden. */
+/* The nine edges, one node hidden, and an edge of that node to delete, which is refused. */
 static const uint16_t batch[BATCH] = {
     TEGMULOS_EDGE, 0, 3, 1, TEGMULOS_EDGE, 0, 4, 1, TEGMULOS_EDGE, 0, 5, 1,
     TEGMULOS_EDGE, 1, 3, 1, TEGMULOS_EDGE, 1, 4, 1, TEGMULOS_EDGE, 1, 5, 1,
     TEGMULOS_EDGE, 2, 3, 1, TEGMULOS_EDGE, 2, 4, 1, TEGMULOS_EDGE, 2, 5, 1,
-    TEGMULOS_MARK, 3, 0, 1,
+    TEGMULOS_MARK, 3, 0, 1, TEGMULOS_EDGE, 0, 3, 0,
 };
 
 static void print_pairs(const char *name, const uint16_t *list, size_t count) {

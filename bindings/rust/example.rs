@@ -16,9 +16,10 @@ fn main() -> Result<(), Refusal> {
             updates.push(Update::Edge { u, v, wanted: true });
         }
     }
-    updates.push(Update::Mark { u: 3, wanted: true });
+    let (hide, delete) = (Update::Mark { u: 3, wanted: true }, Update::Edge { u: 0, v: 3, wanted: false });
+    updates.extend([hide, delete]);
     println!("answers: {:?}", index.apply(&updates)?);
-    let (tied, apart) = (Update::Edge { u: 0, v: 3, wanted: true }, Update::Edge { u: 0, v: 1, wanted: false });
+    let (tied, apart) = (Update::Edge { u: 0, v: 4, wanted: true }, Update::Edge { u: 0, v: 1, wanted: false });
     println!("what holds already: {:?}", index.apply(&[tied, apart, Update::Mark { u: 0, wanted: false }])?);
     println!("0 and 3 tied: {}", index.tied(0, 3)?);
     println!("group of 4: {:?}", index.group(4)?);
@@ -31,7 +32,7 @@ fn main() -> Result<(), Refusal> {
     println!("neighbours of 0 in the file: {:?}", file_neighbours(&release.file, 0)?);
     println!("distances of 0 to 1 and 4: {:?} {:?}", file_distance(&release.file, 0, 1)?, file_distance(&release.file, 0, 4)?);
     index.keep(&mut store, &FIRST)?;
-    index.apply(&[Update::Edge { u: 0, v: 3, wanted: false }])?;
+    index.apply(&[Update::Mark { u: 3, wanted: false }, delete, hide])?;
     println!("group of 0 without its edge to the hidden 3: {:?}", index.group(0)?);
     println!("the release, the same: {}", index.release()? == release);
     if let Err(refusal) = index.keep(&mut store, &FIRST) {

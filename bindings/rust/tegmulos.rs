@@ -160,7 +160,8 @@ impl Index {
         done(result, t)
     }
 
-    /// Updates in order, at most 4,096. Each answer is the number of a refusal, 14 to 16, or how many groups more there are.
+    /// Updates in order, at most 4,096. Each answer is the number of a refusal, tested in the order 14, 15, 24 (an edge of a hidden
+    /// node), 16, or how many groups more there are.
     pub fn apply(&mut self, updates: &[Update]) -> Result<Vec<i16>, Refusal> {
         let batch: Vec<u16> = updates.iter().flat_map(|u| u.numbers()).collect();
         let mut answers = vec![0; updates.len()];
