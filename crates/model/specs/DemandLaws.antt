@@ -35,7 +35,7 @@ use Rattle.model.specs.FewestLaws.{fewest}
 use Rattle.model.specs.TableLaws.{groups-told, held-proper, held-tables, proper-simple, read-back, simple-test}
 use Rattle.model.specs.ReleaseLaws.{alike-visible, length-release, non-interference, visible-ascending, visible-simple, alike-node}
 use Rattle.model.specs.UpdateLaws.{answer-accepted, answer-near, answer-told, length-answers, mark-answer, proper-batch, reveal-accepted, update-refused, wanted-holds}
-use Rattle.model.specs.FrozenLaws.{batch-alike, frozen-refused}
+use Rattle.model.specs.FrozenLaws.{batch-alike, frozen-refused, reveals-nobody}
 use Rattle.model.specs.HistoryLaws.{Kept, history-told, kept-graph, kept-holds, kept-size, lengths-of, lengthsFor, name-stays, opened-size, returned, right-size}
 use Rattle.model.specs.RefusalLaws.{first-passes, judged-refused, judged-related, judged-result}
 use Rattle.model.specs.ReadingLaws.{marked, summary-encode, told-count, told-similar, told-summarises}
@@ -439,5 +439,6 @@ demand3 = record {
   frozen = frozen-refused;
   revealed = λ x p. reveal-accepted (graphOfSource x) (kept x .proper) p;
   batches = λ x y h xs nobody out. applied-alike (graphOfSource x) (graphOfSource y) (tablesOfSource x) (tablesOfSource y) (kept x) (kept y) h xs nobody out;
+  nobody = λ g cs. reveals-nobody cs g;
   told = λ x c. answer-told (graphOfSource x) c (kept x .proper);
 }

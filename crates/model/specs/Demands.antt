@@ -2,10 +2,11 @@
 -- they hold is proved in DemandLaws (demand1, demand2, demand3). Every call of the code is equated with its definition in
 -- Calls, so what is said here of openCall, applyCall, releaseCall and the others is said of the code.
 use mathlib.Core.Path.{_≡_}
-use mathlib.Core.Bool.{Bool, true, false, _&&_}
-use mathlib.Core.List.{List, [], _∷_, map}
+use mathlib.Core.Bool.{Bool, true, false, _&&_, _||_}
+use mathlib.Core.List.{List, [], _∷_, map, List·Memᴰ}
 use mathlib.Core.Logic.{_↔_}
 use Prim.Native.Nat.{ℕ, _+_, _*_, _≤_, _<_}
+use lib.Dec.{eqb}
 use lib.IntN.{ℤ, pos, subℕ, natAbs}
 use lib.ListN.{length}
 use Rattle.model.specs.Graph.{Graph, Proper, View, emptyGraph, whole}
@@ -191,5 +192,7 @@ pub record Demand3 : Type 0 where
   -- that accepted updates answer: these count groups of the whole graph
   pub batches : (x y : Source) → Alike (graphOfSource x) (graphOfSource y) → (xs : List ℕ) → RevealsNobody (graphOfSource x) (updatesIn xs) → (out : List ℤ)
       → AppliedAlike (graphOfSource x .nodeCount) (applyCall (graphOfSource x .nodeCount) (tablesOfSource x) xs out) (applyCall (graphOfSource y .nodeCount) (tablesOfSource y) xs out)
+  -- every batch whose updates are of edges, or to hide, is one that reveals nobody
+  pub nobody : (g : Graph) (cs : List Update) → ((c : Update) → List·Memᴰ c cs → (onEdge c || eqb (c .wanted) 1) ≡ true) → RevealsNobody g cs
   -- the number of a refusal is told by the answer
   pub told : (x : Source) (c : Update) → refusalIn (answer (graphOfSource x) c) ≡ refusal (graphOfSource x) c

@@ -1,8 +1,8 @@
 -- Edges of hidden nodes are frozen: what the refusals of an update and of a batch do not depend on.
 use mathlib.Core.Path.{_≡_, refl, sym, ap, ap₂, _∙_}
 use mathlib.Core.Bool.{Bool, true, false, not, _&&_, _||_, cond}
-use mathlib.Core.List.{List, [], _∷_, map}
-use Prim.Native.Nat.{ℕ, suc, _<_}
+use mathlib.Core.List.{List, [], _∷_, map, List·Memᴰ, List·Memᴰ·head, List·Memᴰ·tail}
+use Prim.Native.Nat.{ℕ, suc, zero, _<_}
 use lib.Dec.{eqb, ltb}
 use lib.ListN.{take}
 use borrow.Author.Tests.{lt-ltb, ltb-true, not-true}
@@ -13,7 +13,7 @@ use Rattle.model.specs.Release.{isVisible}
 use Rattle.model.specs.History.{Alike, SameHidden}
 use Rattle.model.specs.TestLaws.{and-fst, and-snd, and-true, differ, fails, or-none}
 use Rattle.model.specs.RefusalLaws.{first-same, judged-related}
-use Rattle.model.specs.UpdateLaws.{answer-told, below-u, below-v, not-frozen, proper-stepped}
+use Rattle.model.specs.UpdateLaws.{answer-told, below-u, below-v, not-frozen, proper-stepped, update-cases}
 
 -- on graphs with equally many nodes and the same ones hidden
 module _ (a b : Graph) (h : SameHidden a b) (c : Update) where
@@ -96,3 +96,20 @@ batch-alike a b pa pb h cs nobody = (r .0, record { marks = r .1 .marks; edge = 
 
     seen : (p : ℕ) → isVisible (batchGraph a cs) p ≡ true → batchGraph a cs .hidden p ≡ false
     seen p x = not-true _ (and-snd (ltb p (batchGraph a cs .nodeCount)) _ x)
+
+-- an update of an edge, or to hide, leaves hidden whoever is
+hidden-still : (g : Graph) (c : Update) → (onEdge c || eqb (c .wanted) 1) ≡ true → (p : ℕ) → g .hidden p ≡ true → update g c .after .hidden p ≡ true
+unfolding updated
+hidden-still g c h p t = update-cases g c (λ x. x .after .hidden p ≡ true) (λ z. t) (λ ok. rw t (step (onEdge c) (eqb p (c .u)) (eqb (c .wanted) 1) h))
+  where
+    step : (x y z : Bool) → (x || z) ≡ true → cond (not x && y) z true ≡ true
+    step true y z e = refl
+    step false true z e = e
+    step false false z e = refl
+
+pub reveals-nobody : (cs : List Update) (g : Graph) → ((c : Update) → List·Memᴰ c cs → (onEdge c || eqb (c .wanted) 1) ≡ true) → RevealsNobody g cs
+unfolding batchGraph run
+reveals-nobody [] g h p zero t = t
+reveals-nobody [] g h p (suc k) t = t
+reveals-nobody (c ∷ cs) g h p zero t = t
+reveals-nobody (c ∷ cs) g h p (suc k) t = reveals-nobody cs (update g c .after) (λ d m. h d (List·Memᴰ·tail m)) p k (hidden-still g c (h c (List·Memᴰ·head refl)) p t)

@@ -49,6 +49,7 @@ module _ (g : Graph) (c : Update) (ok : refusal g c ≡ 0) where
   pub not-frozen : isFrozen g c ≡ false
   not-frozen = facts .2
 
+-- and what it does to a proper graph
 module _ (g : Graph) (c : Update) (h : Proper g) (ok : refusal g c ≡ 0) where
   pub u-inside : c .u < g .nodeCount
   u-inside = below-u (g .nodeCount) c (facts g c ok .0)

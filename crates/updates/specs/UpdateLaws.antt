@@ -3,7 +3,7 @@ use mathlib.Core.Path.{_≡_, refl, sym, ap, subst, _∙_}
 use mathlib.Core.Bool.{Bool, true, false, cond, not, _||_, or-true}
 use mathlib.Core.List.{List}
 use mathlib.Core.Logic.{_≢_}
-use Prim.Native.Nat.{ℕ, suc, zero, _+_, _*_, _-_, _/_, _%_, _≤_, _<_}
+use Prim.Native.Nat.{ℕ, suc, zero, _+_, _*_, _/_, _%_, _≤_, _<_}
 use native.Mathlib.Omega.{arith}
 use native.Mathlib.Decide.{ℕ-discrete}
 use lib.Dec.{eqb, ltb}
@@ -45,7 +45,7 @@ module _ (n u v w : ℕ) (es ns ks : List ℕ) where
       step true true true x h = rw (or-true (ltb 1 w))
       step true true false x h = absurd (h refl)
 
-  -- two nodes
+  -- where u and v are two nodes
   module _ {r : ℕ} (e : r ≡ firstOf (pairReasons n u v)) (z : r ≡ 0) where
     pub edge-more : 1 < w → 15 ≡ byEdge
     unfolding refusal updateReasons firstOf graphOf
@@ -168,8 +168,8 @@ module _ (n k u v w r : ℕ) (t : Tables) (h : Held n t) (e : r ≡ refusal (gra
   abbrev c : Update
   c = change k u v w
 
-  pub number-small : r < 25
-  number-small = rw e (refusal-below g c)
+  pub number-small : r < 32768
+  number-small = let l = refusal-below g c in omega (arith, e)
 
   pub update-refused : r ≢ 0 → {a : ℤ} → a ≡ pos r → Updated n (change k u v w) t t a
   update-refused d {a} x =

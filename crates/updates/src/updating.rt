@@ -103,7 +103,7 @@ fn set_mark(nodes: &mut [u16], u: usize, mark: u16)
 
 // A refusal's number as an answer.
 fn refused(number: u16) -> i16
-    requires { ⌜ number < 25 ⌝ }
+    requires { ⌜ number < 32768 ⌝ }
     ensures { λ r. ⌜ r ≡ pos number ⌝ }
 {
     number as i16
