@@ -1,7 +1,7 @@
 -- The demands hold.
 use mathlib.Core.Path.{_≡_, refl, sym, ap, ap₂, _∙_}
 use mathlib.Core.Bool.{Bool, true, false, not, _&&_, _||_, cond}
-use mathlib.Core.List.{List, [], _∷_, _++_, map, map-append}
+use mathlib.Core.List.{List, _∷_, _++_, map, map-append}
 use mathlib.Core.Logic.{_↔_}
 use Prim.Native.Nat.{ℕ, _*_, _≤_, _<_}
 use native.Mathlib.Omega.{arith}
@@ -14,7 +14,7 @@ use Rattle.model.specs.Grouping.{algorithm1, least, similar}
 use Rattle.model.specs.Summary.{Summarises, Summary}
 use Rattle.model.specs.Tables.{Tables, graphOf, groupsIn, tablesOf}
 use Rattle.model.specs.Refusals.{Lengths, firstOf, lengths, pairReasons, wrongSize, Reasons, judged}
-use Rattle.model.specs.Updates.{RevealsNobody, Update, answers, batchGraph, refusal, refusalIn, updateCount, updateReasons, updatesIn, wrongBatch}
+use Rattle.model.specs.Updates.{RevealsNobody, Update, answers, batchGraph, refusal, refusalIn, updateReasons, updatesIn}
 use Rattle.model.specs.Release.{release, superedgeCount, superedges, visible, visibleGroups, visiblePart, isVisible, visibleEdge}
 use Rattle.model.specs.Lists.{_∈_, all, nodes}
 use Rattle.model.specs.Steps.{Stepped, run}
@@ -104,15 +104,10 @@ demand1 = record {
   program = program-fits;
 }
 
--- calls on tables that hold a graph
+-- the release call on tables that hold a graph
 module _ (l : Lengths) (g : Graph) (t : Tables) (h : Kept l g t) where
   abbrev file : List ℕ
   file = release g
-
-  -- why a batch is refused
-  apply-why : (xs : List ℕ) (out : List ℤ) → firstOf (applyReasons (g .nodeCount) t xs out) ≡ firstOf ((wrongBatch xs, 11) ∷ (ltb (length out) (updateCount xs), 18) ∷ [])
-  unfolding applyReasons firstOf
-  apply-why xs out = rw (kept-size h, kept-holds h (g .nodeCount) refl)
 
   pub release-told : (out : List ℕ) → releaseCall (g .nodeCount) t out ≡ cond (ltb (length out) (length file)) (releaseRefused out 18) (released g out)
   unfolding releaseCall releaseReasons firstOf
@@ -408,10 +403,10 @@ module _ (a b : Graph) (s t : Tables) (ks : Kept (lengths s) a s) (kt : Kept (le
   after-back g k e = let p = proper-batch cs g k in ap (λ (n : ℕ). graphOf n (tablesOf (batchGraph g cs))) (e ∙ sym (p .1)) ∙ read-back (batchGraph g cs) (p .0)
 
   pub applied-alike : AppliedAlike (a .nodeCount) (applyCall (a .nodeCount) s xs out) (applyCall (b .nodeCount) t xs out)
-  unfolding applyCall
+  unfolding applyCall applyReasons
   applied-alike =
       judged-related (AppliedAlike (a .nodeCount)) (applyReasons (a .nodeCount) s xs out) (applyReasons (b .nodeCount) t xs out) (applyRefused s out) (applyRefused t out) _ _
-      (apply-why (lengths s) a s ks xs out ∙ sym (apply-why (lengths t) b t kt xs out))
+      (rw (kept-size ks, kept-size kt, kept-holds ks (a .nodeCount) refl, kept-holds kt (b .nodeCount) refl))
       (λ z. record { result = refl; refusals = refl; after = rw (kept-graph ks (a .nodeCount) refl, kept-graph kt (a .nodeCount) (h .marks .nodeCount)) h })
       (λ z. rw (kept-graph ks (a .nodeCount) refl, kept-graph kt (b .nodeCount) refl) (record {
         result = refl;
