@@ -14,7 +14,7 @@ use Rattle.model.specs.TestLaws.{decide}
 use Rattle.buffers.specs.UnionLaws.{is-none}
 use Rattle.rows.specs.Rows.{leads}
 use Rattle.search.specs.SearchLaws.{row-part}
-use Rattle.adopting.specs.Adopting.{First, NumbersRenamed, emptyRow, isHidden, isIsolated}
+use Rattle.adopting.specs.Adopting.{First, NumbersRenamed, emptyRow, isBare, isHidden, isIsolated}
 
 -- the words of a row united
 pub empty-united : (edges : List ℕ) (p u : ℕ) → ((k : ℕ) → ltb u (2 ^ k) ≡ all (take (8 * p + 8 - 8 * p) (drop (8 * p) edges)) (λ x. ltb x (2 ^ k))) → eqb u 0 ≡ emptyRow edges p
@@ -36,12 +36,22 @@ pub hidden-not : (first : List ℕ) (p : ℕ) → (getD first p 0 ≡ 65535 → 
 unfolding isHidden
 hidden-not first p h = ne-eqb (getD first p 0) 65535 h
 
-module _ (edges first : List ℕ) (p : ℕ) where
-  pub isolated-not : {x : ℕ} → x ≡ getD first p 0 → (x ≡ p → ⊥) → isIsolated edges first p ≡ false
+-- a class that is not 0, and a row that is looked at
+module _ (edges classes : List ℕ) (p : ℕ) where
+  pub bare-not : (getD classes p 0 ≡ 0 → ⊥) → false ≡ isBare edges classes p
+  unfolding isBare
+  bare-not d = rw (ne-eqb (getD classes p 0) 0 d)
+
+  pub bare-if : {b : Bool} → getD classes p 0 ≡ 0 → b ≡ emptyRow edges p → b ≡ isBare edges classes p
+  unfolding isBare
+  bare-if e z = rw (eq-eqb (getD classes p 0) 0 e) z
+
+module _ (edges classes first : List ℕ) (p : ℕ) where
+  pub isolated-not : {x : ℕ} → x ≡ getD first p 0 → (x ≡ p → ⊥) → isIsolated edges classes first p ≡ false
   unfolding isIsolated leads
   isolated-not e h = rw (ne-eqb (getD first p 0) p (λ z. h (e ∙ z)))
 
-  pub isolated-if : {x : ℕ} {b : Bool} → x ≡ getD first p 0 → x ≡ p → b ≡ emptyRow edges p → isIsolated edges first p ≡ b
+  pub isolated-if : {x : ℕ} {b : Bool} → x ≡ getD first p 0 → x ≡ p → b ≡ isBare edges classes p → isIsolated edges classes first p ≡ b
   unfolding isIsolated leads
   isolated-if e h z = rw (eq-eqb (getD first p 0) p (sym e ∙ h)) (sym z)
 

@@ -1,10 +1,11 @@
-// Hidden nodes, which have no edges, put into the group of the nodes without edges.
+// Hidden nodes, which have no edges and class 0, put into the group of the nodes of class 0 without edges.
 ghost use mathlib.Core.Path.{_≡_};
 ghost use Prim.Native.Nat.{_+_, _*_, _≤_, _<_};
 ghost use lib.ListN.{length};
 ghost use Rattle.model.specs.Graph.{maxNodes, rowWords};
+ghost use Rattle.compressed.specs.Compressed.{classIn};
 ghost use Rattle.keys.specs.KeySums.{LeastTold};
-ghost use Rattle.adopting.specs.Adopting.{First, NumbersRenamed, VisibleTold, emptyRow, isHidden, isIsolated};
+ghost use Rattle.adopting.specs.Adopting.{First, NumbersRenamed, VisibleTold, emptyRow, isBare, isHidden, isIsolated};
 use rows::Graph;
 
 // Whether p's row is empty.
@@ -16,14 +17,25 @@ fn is_empty(edges: &[u64], p: usize) -> bool
     buffers::union_of(&edges[a..a + Graph::ROW_WORDS]) == 0
 }
 
-// The first member of the group without edges, NONE if there is none.
-fn find_isolated(edges: &[u64], least: &[u16], n: usize) -> u16
-    requires { ⌜ (n ≤ maxNodes) × (n ≤ length (now least)) × (rowWords * n ≤ length (now edges)) ⌝ }
-    ensures { λ r. ⌜ First (isIsolated (now (edges .entry)) (now (least .entry))) n r ⌝ }
+// Whether p is told to be of class 0 and its row is empty.
+fn is_bare(edges: &[u64], classes: &[u16], p: usize) -> bool
+    requires { ⌜ (p < maxNodes) × (p < length (now classes)) × (rowWords * p + rowWords ≤ length (now edges)) ⌝ }
+    ensures { λ r. ⌜ r ≡ isBare (now (edges .entry)) (now (classes .entry)) p ⌝ }
+{
+    if classes[p] != 0 {
+        return false;
+    }
+    is_empty(edges, p)
+}
+
+// The first member of the group of class 0 without edges, NONE if there is none. Classes are told at first members.
+fn find_isolated(edges: &[u64], classes: &[u16], least: &[u16], n: usize) -> u16
+    requires { ⌜ (n ≤ maxNodes) × (n ≤ length (now least)) × (n ≤ length (now classes)) × (rowWords * n ≤ length (now edges)) ⌝ }
+    ensures { λ r. ⌜ First (isIsolated (now (edges .entry)) (now (classes .entry)) (now (least .entry))) n r ⌝ }
 {
     for p in 0..n {
         if rows::wide(least[p]) == p {
-            if is_empty(edges, p) {
+            if is_bare(edges, classes, p) {
                 return p as u16;
             }
         }
@@ -56,16 +68,17 @@ fn rename(least: &mut [u16], n: usize, x: u16, y: u16)
     }
 }
 
-// The least members of the groups of all nodes, from those of the visible ones: hidden nodes join the group without edges.
-pub fn adopt_hidden(edges: &[u64], n: usize, least: &mut [u16])
-    requires { ⌜ VisibleTold n (now edges) (now least) ⌝ }
-    ensures { λ _. ⌜ LeastTold n (now (edges .entry)) (now (least .exit)) ⌝ }
+// The least members of the groups of all nodes, from those of the visible ones: hidden nodes join the group of class 0 without
+// edges.
+pub fn adopt_hidden(edges: &[u64], classes: &[u16], n: usize, least: &mut [u16])
+    requires { ⌜ VisibleTold n (now edges) (now least) (now classes) ⌝ }
+    ensures { λ _. ⌜ LeastTold n (now (edges .entry)) (classIn n (now (least .entry)) (now (classes .entry))) (now (least .exit)) ⌝ }
 {
     let hidden = find_hidden(least, n);
     if hidden == Graph::NONE {
         return;
     }
-    let isolated = find_isolated(edges, least, n);
+    let isolated = find_isolated(edges, classes, least, n);
     if isolated < hidden {
         rename(least, n, Graph::NONE, isolated);
         return;

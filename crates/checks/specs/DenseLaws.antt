@@ -1,17 +1,17 @@
 -- Rows that are symmetric across the diagonal, without loops, pass the test of rows if their keys do; twins' keys tell of one another.
 use mathlib.Core.Path.{_≡_, refl, sym, ap, _∙_}
 use mathlib.Core.Bool.{Bool, true, false, _&&_, and-false}
-use mathlib.Core.List.{List, []}
+use mathlib.Core.List.{List}
 use Prim.Native.Nat.{ℕ, _+_, _*_, _%_, _^_, _≤_, _<_}
 use native.Mathlib.Omega.{arith}
 use lib.ListN.{length, getD}
 use borrow.Author.Tests.{eqb-true}
-use Rattle.model.specs.Graph.{maxNodes, rowWords}
+use Rattle.model.specs.Graph.{maxNodes, nodeNumbers, rowWords}
 use Rattle.model.specs.Grouping.{cube, openKey}
-use Rattle.model.specs.Tables.{edgeBit, graphOf, keysOf, nodeNumber}
+use Rattle.model.specs.Tables.{edgeBit, graphIn, keysOf, nodeNumber}
 use Rattle.model.specs.TestLaws.{and-true, differ, fails}
 use Rattle.model.specs.TableLaws.{length-keys}
-use Rattle.rows.specs.Rows.{Words, lent, movedKey}
+use Rattle.rows.specs.Rows.{Words, movedKey}
 use Rattle.search.specs.Search.{Ready, keyAgrees, meets, rowIn}
 use Rattle.search.specs.SearchLaws.{meets-words}
 use Rattle.search.specs.TwinRowLaws.{false-key, meet-false, meet-true, true-key}
@@ -48,25 +48,20 @@ module _ (n : ℕ) (edges : List ℕ) (small : n ≤ maxNodes) (size : length ed
     unfolding rowsHold
     keys-pass keys p l k = all-pass _ n n (omega arith) (λ q hq. and-true (mirrored-rows q hq) (k q (omega arith)))
 
-    pub key-by-table : {sums : List ℕ} (table : List ℕ) (p : ℕ) → p < n → LeadersSummed n 4 table edges (wordsFor n) sums → nodeNumber table p 0 ≡ p → getD sums p 0 ≡ rowKey n edges p
+    pub key-by-table : {sums : List ℕ} (table : List ℕ) (p : ℕ) → p < n → LeadersSummed n nodeNumbers table edges (wordsFor n) sums → nodeNumber table p 0 ≡ p → getD sums p 0 ≡ rowKey n edges p
     unfolding nodeNumber
-    key-by-table table p hp s el = let z : 4 * p + 0 ≡ 4 * p = omega arith in s .sums p hp (rw z at el) ∙ dense-key edges p n small hp (row-inside n edges mirrored-rows p hp)
+    key-by-table table p hp s el = let z : nodeNumbers * p + 0 ≡ nodeNumbers * p = omega arith in s .sums p hp (rw z at el) ∙ dense-key edges p n small hp (row-inside n edges mirrored-rows p hp)
 
     -- twins, by the keys that the rows tell
     module _ (words : Words edges) where
       abbrev told : List ℕ
-      told = keysOf (graphOf n (lent edges [] []))
+      told = keysOf (graphIn n edges)
 
-      told-size : length (keysOf (graphOf n (lent edges [] []))) ≡ 2 * n
-      unfolding graphOf
-      told-size = length-keys (graphOf n (lent edges [] []))
+      told-keys : (p : ℕ) → p < n → keysHold n edges (keysOf (graphIn n edges)) p ≡ true
+      told-keys p hp = keys-told n edges told small size (length-keys (graphIn n edges)) words refl p hp
 
-      told-keys : (p : ℕ) → p < n → keysHold n edges (keysOf (graphOf n (lent edges [] []))) p ≡ true
-      unfolding graphOf
-      told-keys p hp = keys-told n (lent edges [] told) small size told-size words refl p hp
-
-      told-ready : Ready n edges (keysOf (graphOf n (lent edges [] [])))
-      told-ready = rows-ready n (lent edges [] told) small size told-size words (sym (keys-pass told n (omega arith) told-keys))
+      told-ready : Ready n edges (keysOf (graphIn n edges))
+      told-ready = rows-ready n edges told small size (length-keys (graphIn n edges)) words (sym (keys-pass told n (omega arith) told-keys))
 
       module _ (p l : ℕ) (hp : p < n) (hl : l < n) where
         open-alike : meets false p l (rowIn edges p) (rowIn edges l) 8 ≡ true → rowKey n edges p ≡ rowKey n edges l

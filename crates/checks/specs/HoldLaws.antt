@@ -1,31 +1,32 @@
 -- The parts of the test together are the model's `holds`.
-use mathlib.Core.Path.{_≡_, sym, ap, _∙_, subst}
+use mathlib.Core.Path.{_≡_, refl, sym, ap, _∙_, subst, fun-ext}
 use mathlib.Core.Bool.{Bool, true, false, not, _&&_, _||_, cond}
 use mathlib.Core.List.{List}
 use mathlib.Core.Logic.{_⊎_, inl, inr, ⊎-elim}
 use Prim.Native.Nat.{ℕ, suc, zero, _+_, _*_, _/_, _%_, _^_, _≤_, _<_}
 use native.Mathlib.Omega.{arith}
 use lib.Dec.{eqb, leb, ltb}
-use lib.ListN.{length, getD}
+use lib.ListN.{length, getD, List·getD-eq-default}
 use lib.Seq.{ext-getD}
-use borrow.Author.Tests.{eqb-true, eqb-false, eq-eqb, ne-eqb, le-leb, leb-true, lt-ltb, ltb-true}
+use borrow.Author.Tests.{eqb-true, eqb-false, eq-eqb, ne-eqb, le-leb, leb-true, lt-ltb, ltb-true, ltb-false}
 use Rattle.model.specs.Lists.{nodes, sameList}
-use Rattle.model.specs.Graph.{Graph, Proper, View, maxNodes, nodeNumbers, rowWords, whole}
-use Rattle.model.specs.Grouping.{cube, falseTwins, openKey, similar, trueTwins}
-use Rattle.model.specs.Tables.{Tables, edgeBit, edgesOf, graphOf, holds, keysOf, nodeNumber, nodesOf, simple, tablesOf, edgesIn, graphIn}
+use Rattle.model.specs.Graph.{Graph, Proper, View, maxClasses, maxNodes, nodeNumbers, rowWords, whole}
+use Rattle.model.specs.Grouping.{closedKey, cube, falseTwins, openKey, similar, trueTwins}
+use Rattle.model.specs.Tables.{Tables, classedIn, edgeBit, edgesIn, edgesOf, graphIn, graphOf, holds, isGraph, keyPair, keysOf, nodeNumber, nodesOf, simple, tablesOf}
 use Rattle.model.specs.TestLaws.{and-fst, and-snd, and-true, decide, differ, iff-eq, or-cases, or-left, or-right}
 use Rattle.model.specs.ListLaws.{all-elim, all-intro, nodes-in, nodes-out, same-eq}
 use Rattle.model.specs.TwinLaws.{Simple, falseTwins-by, falseTwins-no-edge, similar-N, similar-N+, similar-cases, trueTwins-edge}
-use Rattle.model.specs.TableLaws.{held-proper, held-tables, length-keys, mark-at, proper-simple, simple-proper}
+use Rattle.model.specs.TableLaws.{held-proper, held-tables, labels-proper, length-keys, mark-at, simple-loop, simple-test}
 use Rattle.rows.specs.Rows.{Words, keyOf}
-use Rattle.search.specs.Search.{Ready, firstFrom, joins, meets, rowIn}
+use Rattle.search.specs.Search.{Ready, classed, firstFrom, joins, meets, rowIn, sameClass}
 use Rattle.rows.specs.KeyLaws.{keys-at}
-use Rattle.search.specs.SearchLaws.{first-none, meets-by, meets-words, ready}
+use Rattle.search.specs.SearchLaws.{first-none, meets-by, meets-words, similar-by-class}
 use Rattle.search.specs.TwinRowLaws.{false-meet, meet-false, meet-true, true-meet}
 use Rattle.rings.specs.Ring.{Of, Parts, Table}
-use Rattle.rings.specs.Steps.{Follows}
+use Rattle.rings.specs.Steps.{Follows, Labelled}
 use Rattle.rings.specs.NodesLaws.{graph-parts, is-nodes, mark-read, of-nodes}
 use Rattle.rings.specs.CertificateLaws.{LedByClass, certified, led, ringed}
+use Rattle.groups.specs.Groups.{similarIn}
 use Rattle.groups.specs.GroupLaws.{first-cases}
 use Rattle.edges.specs.Edges.{RowsBelow, edgesHold, rowHolds}
 use Rattle.edges.specs.EdgesLaws.{held-below, held-with, rows-held, same-of}
@@ -57,74 +58,60 @@ module _ (n : ℕ) (edges keys : List ℕ) (h : rowsHold n edges keys ≡ true) 
   keys-below p hp = and-snd (rowHolds n edges p) _ (row p hp)
 
 -- rows and keys that pass are those of the graph
-module _ (n : ℕ) (t : Tables) (small : n ≤ maxNodes) (size : length (t .edges) ≡ rowWords * n) (size-k : length (t .keys) ≡ 2 * n) (words : Words (t .edges)) where
+module _ (n : ℕ) (edges keys : List ℕ) (small : n ≤ maxNodes) (size : length edges ≡ rowWords * n) (size-k : length keys ≡ 2 * n) (words : Words edges) where
   abbrev g : Graph
-  g = graphOf n t
+  g = graphIn n edges
 
-  module _ (h : rowsHold n (t .edges) (t .keys) ≡ true) where
-    edges-pass : (simple (graphOf n t) && sameList (t .edges) (edgesOf (graphOf n t))) ≡ true
-    unfolding graphOf
-    edges-pass = sym (held-with n (t .edges) _) ∙ rows-held n (t .edges) small size words (rows-below n (t .edges) (t .keys) h)
+  module _ (h : rowsHold n edges keys ≡ true) where
+    pub edges-pass : edgesHold n edges ≡ true
+    edges-pass = rows-held n edges small size words (rows-below n edges keys h)
 
-    rows-simple : simple (graphOf n t) ≡ true
-    rows-simple = and-fst (simple g) _ edges-pass
+    rows-edges : edges ≡ edgesOf (graphIn n edges)
+    unfolding edgesHold
+    rows-edges = same-eq edges (edgesOf g) (and-snd (simple g) _ edges-pass)
 
-    rows-edges : t .edges ≡ edgesOf (graphOf n t)
-    rows-edges = same-eq (t .edges) (edgesOf g) (and-snd (simple g) _ edges-pass)
-
-    rows-keys : t .keys ≡ keysOf (graphOf n t)
-    unfolding graphOf openKey edgesIn
-    rows-keys = ext-getD 0 (t .keys) (keysOf g) (size-k ∙ sym (length-keys g)) at
+    pub rows-keys : keys ≡ keysOf (graphIn n edges)
+    unfolding openKey edgesIn
+    rows-keys = ext-getD 0 keys (keysOf g) (size-k ∙ sym (length-keys g)) at
       where
-        one : (p k : ℕ) → p < n → k < 2 → getD (t .keys) (2 * p + k) 0 ≡ keyOf (graphOf n t) p k
+        one : (p k : ℕ) → p < n → k < 2 → getD keys (2 * p + k) 0 ≡ keyOf (graphIn n edges) p k
         one p zero hp hk =
-            let e : getD (t .keys) (2 * p) 0 ≡ openKey (whole (graphIn n (t .edges))) p = open-is n (t .edges) (t .keys) p (keys-below n (t .edges) (t .keys) h p hp) in
+            let e : getD keys (2 * p) 0 ≡ openKey (whole (graphIn n edges)) p = open-is n edges keys p (keys-below n edges keys h p hp) in
             let z : 2 * p + 0 ≡ 2 * p = omega arith in
             rw z (omega arith)
         one p (suc zero) hp hk =
-            let e : getD (t .keys) (2 * p + 1) 0 ≡ (openKey (whole (graphIn n (t .edges))) p + cube p) % 2 ^ 32 = closed-is n (t .edges) (t .keys) p (keys-below n (t .edges) (t .keys) h p hp) in
+            let e : getD keys (2 * p + 1) 0 ≡ (openKey (whole (graphIn n edges)) p + cube p) % 2 ^ 32 = closed-is n edges keys p (keys-below n edges keys h p hp) in
             omega arith
         one p (suc (suc k)) hp hk = absurd (omega arith)
 
-        at : (i : ℕ) → i < length (t .keys) → getD (t .keys) i 0 ≡ getD (keysOf (graphOf n t)) i 0
+        at : (i : ℕ) → i < length keys → getD keys i 0 ≡ getD (keysOf (graphIn n edges)) i 0
         at i l =
             let e : i ≡ 2 * (i / 2) + i % 2 = omega arith in
             rw e (one (i / 2) (i % 2) (omega arith) (omega arith) ∙ sym (keys-at g (i / 2) (i % 2) (omega arith) (omega arith)))
 
-    rows-proper : Proper (graphOf n t)
-    unfolding edgesIn
-    rows-proper = simple-proper g rows-simple (unfold graphOf in small) ends held
-      where
-        ends : (p q : ℕ) → graphOf n t .edge p q ≡ true → (p < graphOf n t .nodeCount) × (q < graphOf n t .nodeCount)
-        ends p q e = unfold graphOf in (ltb-true p n (and-fst (ltb p n) _ e), ltb-true q n (and-fst (ltb q n) _ (and-snd (ltb p n) _ e)))
+    no-loops : (p : ℕ) → (edgesIn n edges p p ≡ true) ⊎ (edgesIn n edges p p ≡ false) → edgesIn n edges p p ≡ false
+    unfolding edgesHold edgesIn
+    no-loops p (inl e) = simple-loop g (and-fst (simple g) _ edges-pass) p (ltb-true p n (and-fst (ltb p n) _ e))
+    no-loops p (inr e) = e
 
-        held : (p : ℕ) → graphOf n t .hidden p ≡ true → p < graphOf n t .nodeCount
-        held p e = unfold graphOf in (ltb-true p n (and-fst (ltb p n) _ e))
-
-    pub rows-ready : Ready n (t .edges) (t .keys)
-    unfolding graphOf
-    rows-ready = rw (rows-edges, rows-keys) (ready (graphOf n t) rows-proper)
+    pub rows-ready : Ready n edges keys
+    rows-ready = record { small = small; loops = λ p. no-loops p (decide (edgesIn n edges p p)); edges-of = rows-edges; keys-of = rows-keys }
 
   -- rows and keys of a graph pass
-  module _ (same-keys : t .keys ≡ keysOf (graphOf n t)) where
-    pub keys-told : (p : ℕ) → p < n → keysHold n (t .edges) (t .keys) p ≡ true
-    unfolding graphOf keysHold agrees openKey edgesIn
-    keys-told p hp = and-true (eq-eqb (getD (t .keys) (2 * p) 0) (openKey (whole (graphIn n (t .edges))) p) first) (eq-eqb (getD (t .keys) (2 * p + 1) 0) ((openKey (whole (graphIn n (t .edges))) p + cube p) % 2 ^ 32) (omega (arith, one 1 (omega arith))))
+  module _ (same-keys : keys ≡ keysOf (graphIn n edges)) where
+    pub keys-told : (p : ℕ) → p < n → keysHold n edges keys p ≡ true
+    unfolding keysHold agrees openKey edgesIn
+    keys-told p hp = and-true (eq-eqb (getD keys (2 * p) 0) (openKey (whole (graphIn n edges)) p) first) (eq-eqb (getD keys (2 * p + 1) 0) ((openKey (whole (graphIn n edges)) p + cube p) % 2 ^ 32) (omega (arith, one 1 (omega arith))))
       where
-        one : (k : ℕ) → k < 2 → getD (t .keys) (2 * p + k) 0 ≡ keyOf (graphOf n t) p k
-        one k hk = ap (λ (s : List ℕ). getD s (2 * p + k) 0) same-keys ∙ keys-at (graphOf n t) p k hp hk
+        one : (k : ℕ) → k < 2 → getD keys (2 * p + k) 0 ≡ keyOf (graphIn n edges) p k
+        one k hk = ap (λ (s : List ℕ). getD s (2 * p + k) 0) same-keys ∙ keys-at (graphIn n edges) p k hp hk
 
-        first : getD (t .keys) (2 * p) 0 ≡ openKey (whole (graphIn n (t .edges))) p
-        first = let z : 2 * p + 0 ≡ 2 * p = omega arith in ap (λ (i : ℕ). getD (t .keys) i 0) (sym z) ∙ one 0 (omega arith) ∙ omega arith
+        first : getD keys (2 * p) 0 ≡ openKey (whole (graphIn n edges)) p
+        first = let z : 2 * p + 0 ≡ 2 * p = omega arith in ap (λ (i : ℕ). getD keys i 0) (sym z) ∙ one 0 (omega arith) ∙ omega arith
 
-  module _ (ok : simple (graphOf n t) ≡ true) (same-edges : t .edges ≡ edgesOf (graphOf n t)) (same-keys : t .keys ≡ keysOf (graphOf n t)) where
-    edges-told : edgesHold n (t .edges) ≡ true
-    unfolding graphOf
-    edges-told = held-with n (t .edges) _ ∙ and-true ok (same-of same-edges)
-
-    rows-told : rowsHold n (t .edges) (t .keys) ≡ true
+    rows-told : edgesHold n edges ≡ true → rowsHold n edges keys ≡ true
     unfolding rowsHold
-    rows-told = all-intro (nodes n) _ (λ p m. and-true (held-below n (t .edges) edges-told p (nodes-out n p m)) (keys-told same-keys p (nodes-out n p m)))
+    rows-told told = all-intro (nodes n) _ (λ p m. and-true (held-below n edges told p (nodes-out n p m)) (keys-told p (nodes-out n p m)))
 
 -- every node is a twin of its leader
 module _ (n : ℕ) (edges table : List ℕ) (twins : twinsHold n edges table ≡ true) where
@@ -143,9 +130,15 @@ module _ (n : ℕ) (edges table : List ℕ) (twins : twinsHold n edges table ≡
   unfolding twinOf
   twin-leads p hp = eqb-true (leader (leader p)) (leader p) (and-fst (eqb (leader (leader p)) (leader p)) _ (and-snd (leb (leader p) p) _ (twin p hp)))
 
-  pub twin-meets : (p : ℕ) → p < n → meets (edgeBit edges (nodeNumber table p 0) p) p (nodeNumber table p 0) (rowIn edges p) (rowIn edges (nodeNumber table p 0)) 8 ≡ true
+  twin-rest : (p : ℕ) → p < n → (sameClass table p (leader p) && meets (edgeBit edges (leader p) p) p (leader p) (rowIn edges p) (rowIn edges (leader p)) 8) ≡ true
   unfolding twinOf
-  twin-meets p hp = and-snd (eqb (leader (leader p)) (leader p)) _ (and-snd (leb (leader p) p) _ (twin p hp))
+  twin-rest p hp = and-snd (eqb (leader (leader p)) (leader p)) _ (and-snd (leb (leader p) p) _ (twin p hp))
+
+  twin-class : (p : ℕ) → p < n → sameClass table p (nodeNumber table p 0) ≡ true
+  twin-class p hp = and-fst (sameClass table p (leader p)) _ (twin-rest p hp)
+
+  pub twin-meets : (p : ℕ) → p < n → meets (edgeBit edges (nodeNumber table p 0) p) p (nodeNumber table p 0) (rowIn edges p) (rowIn edges (nodeNumber table p 0)) 8 ≡ true
+  twin-meets p hp = and-snd (sameClass table p (leader p)) _ (twin-rest p hp)
 
 -- leaders of twins, none of which are similar, lead the groups
 module _ (n : ℕ) (edges table keys : List ℕ) (r : Ready n edges keys) where
@@ -153,7 +146,7 @@ module _ (n : ℕ) (edges table keys : List ℕ) (r : Ready n edges keys) where
   v = whole (graphIn n edges)
 
   abbrev R : ℕ → ℕ → Type 0
-  R = Of n (similar (whole (graphIn n edges)))
+  R = Of n (similarIn n edges table)
 
   abbrev least : ℕ → ℕ
   least p = nodeNumber table p 0
@@ -162,12 +155,12 @@ module _ (n : ℕ) (edges table keys : List ℕ) (r : Ready n edges keys) where
   Rows c p l = meets c p l (rowIn edges p) (rowIn edges l) 8 ≡ true
 
   rows-similar : (c : Bool) (p l : ℕ) → p < n → l < n → meets c p l (rowIn edges p) (rowIn edges l) 8 ≡ true → similar (whole (graphIn n edges)) p l ≡ true
-  rows-similar true p l hp hl h = similar-N+ v p l (meet-true n edges keys r p l hp hl (meets-words true p l edges h))
-  rows-similar false p l hp hl h = similar-N v p l (meet-false n edges keys r p l hp hl (meets-words false p l edges h))
+  rows-similar true p l hp hl h = similar-N+ v p l refl (meet-true n edges keys r p l hp hl (meets-words true p l edges h))
+  rows-similar false p l hp hl h = similar-N v p l refl (meet-false n edges keys r p l hp hl (meets-words false p l edges h))
 
   module _ (twins : twinsHold n edges table ≡ true) (apart : leadersApart n edges table ≡ true) where
-    twin-similar : (p : ℕ) → p < n → similar (whole (graphIn n edges)) p (nodeNumber table p 0) ≡ true
-    twin-similar p hp = rows-similar (edgeBit edges (least p) p) p (least p) hp (omega (arith, twin-low n edges table twins p hp)) (twin-meets n edges table twins p hp)
+    twin-similar : (p : ℕ) → p < n → similarIn n edges table p (nodeNumber table p 0) ≡ true
+    twin-similar p hp = similar-by-class n edges table p (least p) ∙ and-true (twin-class n edges table twins p hp) (rows-similar (edgeBit edges (least p) p) p (least p) hp (omega (arith, twin-low n edges table twins p hp)) (twin-meets n edges table twins p hp))
 
     no-other : (u q : ℕ) → u < n → q < u → nodeNumber table u 0 ≡ u → joins n edges table u u q ≡ false
     unfolding leadersApart alone
@@ -183,7 +176,7 @@ module _ (n : ℕ) (edges table keys : List ℕ) (r : Ready n edges keys) where
         step (inl x) = absurd (omega (arith, x .0, none))
         step (inr x) = x .1 q (omega arith) (omega arith)
 
-    pub led-by-tests : LedByClass n (Of n (similar (whole (graphIn n edges)))) table
+    pub led-by-tests : LedByClass n (Of n (similarIn n edges table)) table
     unfolding joins
     led-by-tests = record {
       low = twin-low n edges table twins;
@@ -195,7 +188,7 @@ module _ (n : ℕ) (edges table keys : List ℕ) (r : Ready n edges keys) where
         other : (u q : ℕ) → q < u → not (eqb q u) ≡ true
         other u q l = ap not (ne-eqb q u (omega arith))
 
-  module _ (simple-graph : Simple (whole (graphIn n edges))) (a : LedByClass n (Of n (similar (whole (graphIn n edges)))) table) where
+  module _ (simple-graph : Simple (whole (graphIn n edges))) (a : LedByClass n (Of n (similarIn n edges table)) table) where
     bit-is : (p q : ℕ) → p < n → q < n → edgeBit edges p q ≡ edgesIn n edges p q
     unfolding edgesIn
     bit-is p q hp hq = rw (lt-ltb p n hp, lt-ltb q n hq)
@@ -220,7 +213,8 @@ module _ (n : ℕ) (edges table keys : List ℕ) (r : Ready n edges keys) where
         all-intro (nodes n) _
         (λ p m.
         let hp : p < n = nodes-out n p m in
-        and-true (le-leb (least p) p (a .low p hp)) (and-true (eq-eqb (least (least p)) (least p) (a .leads p hp)) (similar-rows p (least p) hp (a .alike p hp .1) (a .alike p hp .2))))
+        let s = sym (similar-by-class n edges table p (least p)) ∙ a .alike p hp .2 in
+        and-true (le-leb (least p) p (a .low p hp)) (and-true (eq-eqb (least (least p)) (least p) (a .leads p hp)) (and-true (and-fst (sameClass table p (least p)) _ s) (similar-rows p (least p) hp (a .alike p hp .1) (and-snd (sameClass table p (least p)) _ s)))))
 
     no-join : (u q : ℕ) → u < n → q < u → nodeNumber table u 0 ≡ u → joins n edges table u u q ≡ false
     unfolding joins
@@ -240,7 +234,7 @@ module _ (n : ℕ) (edges table keys : List ℕ) (r : Ready n edges keys) where
         at u hu (inl z) = rw z (eq-eqb (firstFrom (joins n edges table u u) 0 u) u (sym (first-none (joins n edges table u u) u (λ q l. no-join u q hu l (eqb-true (least u) u z)))))
         at u hu (inr z) = rw z
 
--- rings and marks
+-- rings, marks and classes
 module _ (n : ℕ) (table : List ℕ) where
   module _ (h : nodesHold n table ≡ true) where
     node : (p : ℕ) → p < n → nodeHolds n table p ≡ true
@@ -263,86 +257,115 @@ module _ (n : ℕ) (table : List ℕ) where
 
     pub marks-by-tests : (p : ℕ) → p < n → nodeNumber table p 3 < 2
     unfolding nodeHolds
-    marks-by-tests p hp = ltb-true (nodeNumber table p 3) 2 (and-snd (linkHolds n table p (nodeNumber table p 2)) _ (node p hp))
+    marks-by-tests p hp = ltb-true (nodeNumber table p 3) 2 (and-fst (ltb (nodeNumber table p 3) 2) _ (and-snd (linkHolds n table p (nodeNumber table p 2)) _ (node p hp)))
 
-  pub nodes-told : ((p : ℕ) → p < n → Follows n table p) → ((p : ℕ) → p < n → nodeNumber table p 3 < 2) → nodesHold n table ≡ true
+    pub classes-by-tests : (p : ℕ) → p < n → nodeNumber table p 4 < maxClasses
+    unfolding nodeHolds
+    classes-by-tests p hp = ltb-true (nodeNumber table p 4) maxClasses (and-snd (ltb (nodeNumber table p 3) 2) _ (and-snd (linkHolds n table p (nodeNumber table p 2)) _ (node p hp)))
+
+  pub nodes-told : ((p : ℕ) → p < n → Follows n table p) → ((p : ℕ) → p < n → nodeNumber table p 3 < 2) → ((p : ℕ) → p < n → nodeNumber table p 4 < maxClasses) → nodesHold n table ≡ true
   unfolding nodesHold nodeHolds linkHolds
-  nodes-told f m =
+  nodes-told f m d =
       all-intro (nodes n) _
       (λ p k.
       let hp : p < n = nodes-out n p k in
       let a = f p hp in
       and-true
       (and-true (lt-ltb (nodeNumber table p 2) n (a .below)) (and-true (eq-eqb (nodeNumber table (nodeNumber table p 2) 0) (nodeNumber table p 0) (a .same-least)) (and-true (eq-eqb (nodeNumber table (nodeNumber table p 2) 1) p (a .next)) (placed p (a .order)))))
-      (lt-ltb (nodeNumber table p 3) 2 (m p hp)))
+      (and-true (lt-ltb (nodeNumber table p 3) 2 (m p hp)) (lt-ltb (nodeNumber table p 4) maxClasses (d p hp))))
     where
       placed : (p : ℕ) → (nodeNumber table p 0 ≡ p) ⊎ (nodeNumber table p 2 < p) → (eqb (nodeNumber table p 0) p || ltb (nodeNumber table p 2) p) ≡ true
       placed p (inl z) = or-left (ltb (nodeNumber table p 2) p) (eq-eqb (nodeNumber table p 0) p z)
       placed p (inr z) = or-right (eqb (nodeNumber table p 0) p) (lt-ltb (nodeNumber table p 2) p z)
+
+-- keys are those of the edges, whatever the marks and classes
+keys-alike : (n : ℕ) (t : Tables) → keysOf (graphIn n (t .edges)) ≡ keysOf (graphOf n t)
+unfolding graphOf keysOf keyPair openKey closedKey
+keys-alike n t = refl
 
 -- the whole
 module _ (n : ℕ) (t : Tables) (small : n ≤ maxNodes) (size : length (t .edges) ≡ rowWords * n) (size-n : length (t .nodes) ≡ nodeNumbers * n) (size-k : length (t .keys) ≡ 2 * n) (words : Words (t .edges)) where
   abbrev graph : Graph
   graph = graphOf n t
 
-  passes : nodesHold n (t .nodes) ≡ true → twinsHold n (t .edges) (t .nodes) ≡ true → rowsHold n (t .edges) (t .keys) ≡ true → leadersApart n (t .edges) (t .nodes) ≡ true → holds n t ≡ true
-  unfolding holds tablesOf graphOf
-  passes hn ht hr hl =
-      and-true (rows-simple n t small size size-k words hr) (and-true (same-of same-edges) (and-true (same-of same-nodes) (same-of same-keys)))
-    where
-      proper : Proper graph
-      proper = rows-proper n t small size size-k words hr
+  -- no class stands beyond the table
+  class-read : (p : ℕ) → (ltb p n ≡ true) ⊎ (ltb p n ≡ false) → graphOf n t .class p ≡ nodeNumber (t .nodes) p 4
+  unfolding graphOf nodeNumber
+  class-read p (inl e) = rw e
+  class-read p (inr e) = rw e (sym (List·getD-eq-default (t .nodes) 0 (omega (arith, ltb-false p n e))))
 
-      same-edges : t .edges ≡ edgesOf graph
-      same-edges = rows-edges n t small size size-k words hr
+  as-seen : whole (graphOf n t) ≡ whole (classed n (t .edges) (t .nodes))
+  unfolding graphOf
+  as-seen = ap (λ (class : ℕ → ℕ). whole (classedIn n (t .edges) class)) (fun-ext (λ p. class-read p (decide (ltb p n))))
 
-      same-keys : t .keys ≡ keysOf graph
-      same-keys = rows-keys n t small size size-k words hr
+  edges-same : edgesHold n (t .edges) ≡ (simple (graphOf n t) && sameList (t .edges) (edgesOf (graphOf n t)))
+  unfolding graphOf
+  edges-same = held-with n (t .edges) (λ p. nodeNumber (t .nodes) p 3) (λ p. nodeNumber (t .nodes) p 4)
 
-      parts : Parts n (Of n (similar (whole (graphIn n (t .edges)))))
-      parts = unfold edgesIn in graph-parts graph proper
+  module _ (hn : nodesHold n (t .nodes) ≡ true) (ht : twinsHold n (t .edges) (t .nodes) ≡ true) (hr : rowsHold n (t .edges) (t .keys) ≡ true) (hl : leadersApart n (t .edges) (t .nodes) ≡ true) where
+    edges-right : (simple (graphOf n t) && sameList (t .edges) (edgesOf (graphOf n t))) ≡ true
+    edges-right = sym edges-same ∙ edges-pass n (t .edges) (t .keys) small size size-k words hr
 
-      table : Table n (Of n (similar (whole (graphIn n (t .edges))))) (t .nodes)
-      table = certified parts (t .nodes) (led-by-tests n (t .edges) (t .nodes) (t .keys) (rows-ready n t small size size-k words hr) ht hl) (rings-by-tests n (t .nodes) hn)
+    is-one : isGraph (graphOf n t) ≡ true
+    unfolding isGraph graphOf
+    is-one = and-true (and-fst (simple graph) _ edges-right) (all-intro (nodes n) _ (λ p m. let hp : p < n = nodes-out n p m in lt-ltb (graph .class p) maxClasses (rw (lt-ltb p n hp) (classes-by-tests n (t .nodes) hn p hp))))
 
-      same-nodes : t .nodes ≡ nodesOf graph
-      same-nodes = is-nodes graph proper (unfold edgesIn in table) size-n (λ p l. mark-read n p (nodeNumber (t .nodes) p 3) l (marks-by-tests n (t .nodes) hn p l))
+    proper : Proper (graphOf n t)
+    unfolding graphOf
+    proper = labels-proper n (t .edges) (λ p. nodeNumber (t .nodes) p 3) (λ p. nodeNumber (t .nodes) p 4) small is-one
+
+    labelled : Labelled (graphOf n t) (t .nodes)
+    unfolding graphOf
+    labelled = record { marks = λ p l. mark-read n p (nodeNumber (t .nodes) p 3) l (marks-by-tests n (t .nodes) hn p l); classes = λ p l. rw (lt-ltb p n l) }
+
+    parts : Parts n (Of n (similarIn n (t .edges) (t .nodes)))
+    parts = subst (λ v. Parts n (Of n (similar v))) as-seen (unfold graphOf in graph-parts graph proper)
+
+    table : Table n (Of n (similarIn n (t .edges) (t .nodes))) (t .nodes)
+    table = certified parts (t .nodes) (led-by-tests n (t .edges) (t .nodes) (t .keys) (rows-ready n (t .edges) (t .keys) small size size-k words hr) ht hl) (rings-by-tests n (t .nodes) hn)
+
+    same-nodes : t .nodes ≡ nodesOf (graphOf n t)
+    same-nodes = unfold graphOf in is-nodes graph proper (subst (λ v. Table n (Of n (similar v)) (t .nodes)) (sym as-seen) table) size-n labelled
+
+    passes : holds n t ≡ true
+    unfolding holds tablesOf
+    passes = and-true is-one (and-true (and-snd (simple graph) _ edges-right) (and-true (same-of same-nodes) (same-of (rows-keys n (t .edges) (t .keys) small size size-k words hr ∙ keys-alike n t))))
 
   -- every part passes where tables hold a graph
   module _ (h : holds n t ≡ true) where
     held : Proper (graphOf n t)
     held = held-proper n t h small
 
-    simple-test : simple (graphOf n t) ≡ true
-    unfolding holds
-    simple-test = and-fst (simple graph) _ h
-
-    held-edges : t .edges ≡ edgesOf (graphOf n t)
-    unfolding tablesOf
-    held-edges = ap (λ (s : Tables). s .edges) (held-tables n t h)
-
     held-nodes : t .nodes ≡ nodesOf (graphOf n t)
     unfolding tablesOf
     held-nodes = ap (λ (s : Tables). s .nodes) (held-tables n t h)
 
-    held-keys : t .keys ≡ keysOf (graphOf n t)
+    held-edges : edgesHold n (t .edges) ≡ true
     unfolding tablesOf
-    held-keys = ap (λ (s : Tables). s .keys) (held-tables n t h)
+    held-edges = edges-same ∙ and-true (simple-test graph held) (same-of (ap (λ (s : Tables). s .edges) (held-tables n t h)))
+
+    held-keys : t .keys ≡ keysOf (graphIn n (t .edges))
+    unfolding tablesOf
+    held-keys = ap (λ (s : Tables). s .keys) (held-tables n t h) ∙ sym (keys-alike n t)
 
     held-rows : rowsHold n (t .edges) (t .keys) ≡ true
-    held-rows = rows-told n t small size size-k words simple-test held-edges held-keys
+    held-rows = rows-told n (t .edges) (t .keys) small size size-k words held-keys held-edges
 
-    held-parts : Parts n (Of n (similar (whole (graphIn n (t .edges)))))
-    unfolding graphOf edgesIn
-    held-parts = graph-parts graph held
+    held-ready : Ready n (t .edges) (t .keys)
+    held-ready = rows-ready n (t .edges) (t .keys) small size size-k words held-rows
 
-    held-table : Table n (Of n (similar (whole (graphIn n (t .edges))))) (t .nodes)
-    unfolding graphOf edgesIn
-    held-table = subst (λ s. Table n (Of n (similar (whole (graphOf n t)))) s) (sym held-nodes) (of-nodes graph held)
+    held-parts : Parts n (Of n (similarIn n (t .edges) (t .nodes)))
+    held-parts = subst (λ v. Parts n (Of n (similar v))) as-seen (unfold graphOf in graph-parts graph held)
+
+    held-table : Table n (Of n (similarIn n (t .edges) (t .nodes))) (t .nodes)
+    held-table = subst (λ v. Table n (Of n (similar v)) (t .nodes)) as-seen (subst (λ s. Table n (Of n (similar (whole (graphOf n t)))) s) (sym held-nodes) (unfold graphOf in of-nodes graph held))
+
+    held-led : LedByClass n (Of n (similarIn n (t .edges) (t .nodes))) (t .nodes)
+    held-led = led held-parts (t .nodes) held-table
 
     held-simple : Simple (whole (graphIn n (t .edges)))
-    unfolding graphOf edgesIn
-    held-simple = proper-simple graph held
+    unfolding graphOf
+    held-simple = record { symmetric = λ p q m k. held .symmetric p q; irreflexive = λ p m. held .irreflexive p }
 
     held-marks : (p : ℕ) → p < n → nodeNumber (t .nodes) p 3 < 2
     unfolding graphOf
@@ -352,14 +375,17 @@ module _ (n : ℕ) (t : Tables) (small : n ≤ maxNodes) (size : length (t .edge
         small-mark true e = omega arith
         small-mark false e = omega arith
 
+    held-classes : (p : ℕ) → p < n → nodeNumber (t .nodes) p 4 < maxClasses
+    held-classes p hp = subst (λ x. x < maxClasses) (class-read p (inl (lt-ltb p n hp))) (held .classed p)
+
     held-rings : nodesHold n (t .nodes) ≡ true
-    held-rings = nodes-told n (t .nodes) (ringed held-parts (t .nodes) held-table) held-marks
+    held-rings = nodes-told n (t .nodes) (ringed held-parts (t .nodes) held-table) held-marks held-classes
 
     held-twins : twinsHold n (t .edges) (t .nodes) ≡ true
-    held-twins = twins-told n (t .edges) (t .nodes) (t .keys) (rows-ready n t small size size-k words held-rows) held-simple (led held-parts (t .nodes) held-table)
+    held-twins = twins-told n (t .edges) (t .nodes) (t .keys) held-ready held-simple held-led
 
     held-apart : leadersApart n (t .edges) (t .nodes) ≡ true
-    held-apart = apart-told n (t .edges) (t .nodes) (t .keys) (rows-ready n t small size size-k words held-rows) held-simple (led held-parts (t .nodes) held-table)
+    held-apart = apart-told n (t .edges) (t .nodes) (t .keys) held-ready held-simple held-led
 
   refused : {part : Bool} → (holds n t ≡ true → part ≡ true) → part ≡ false → false ≡ holds n t
   refused {part} f e = step (decide (holds n t))

@@ -8,9 +8,10 @@ use lib.Bits.{xor-self}
 use lib.Dec.{eqb, ltb}
 use lib.ListN.{getD}
 use borrow.Author.Tests.{eq-eqb, ne-eqb, le-leb, lt-leb, le-ltb, lt-ltb}
+use Rattle.model.specs.Graph.{maxClasses}
 use Rattle.model.specs.Grouping.{cube}
 use Rattle.model.specs.Tables.{edgeBit, nodeNumber}
-use Rattle.search.specs.Search.{firstFrom, joins, meets, ownBit, ownBits, rowIn}
+use Rattle.search.specs.Search.{firstFrom, joins, meets, ownBit, ownBits, rowIn, sameClass}
 use Rattle.search.specs.SearchLaws.{meets-by}
 use Rattle.buffers.specs.AllLaws.{failed, passed}
 use Rattle.checks.specs.Checks.{agrees, alone, linkHolds, nodeHolds, twinOf}
@@ -35,9 +36,14 @@ module _ (edges table : List ℕ) (p l : ℕ) where
   unfolding twinOf
   twin-misled h e d = rw (le-leb l p h, ne-eqb (nodeNumber table l 0) l (λ z. d (e ∙ z)))
 
-  pub twin-rows : {x : ℕ} (b c : Bool) → l ≤ p → x ≡ nodeNumber table l 0 → x ≡ l → b ≡ edgeBit edges l p → c ≡ meets b p l (rowIn edges p) (rowIn edges l) 8 → c ≡ twinOf edges table p l
-  unfolding twinOf
-  twin-rows b c h e f g k = rw (le-leb l p h, eq-eqb (nodeNumber table l 0) l (sym e ∙ f), ← g) k
+  module _ {x : ℕ} {s : Bool} (low : l ≤ p) (e : x ≡ nodeNumber table l 0) (f : x ≡ l) (same : s ≡ sameClass table p l) where
+    pub twin-classes : not s ≡ true → false ≡ twinOf edges table p l
+    unfolding twinOf
+    twin-classes i = rw (le-leb l p low, eq-eqb (nodeNumber table l 0) l (sym e ∙ f), failed same i)
+
+    pub twin-rows : (b c : Bool) → not s ≡ false → b ≡ edgeBit edges l p → c ≡ meets b p l (rowIn edges p) (rowIn edges l) 8 → c ≡ twinOf edges table p l
+    unfolding twinOf
+    twin-rows b c i g k = rw (le-leb l p low, eq-eqb (nodeNumber table l 0) l (sym e ∙ f), passed same i, ← g) k
 
 pub twin-told : (edges table : List ℕ) (p l : ℕ) {b : Bool} → l ≡ nodeNumber table p 0 → b ≡ twinOf edges table p l → b ≡ twinOf edges table p (nodeNumber table p 0)
 twin-told edges table p l e f = f ∙ ap (twinOf edges table p) e
@@ -50,9 +56,13 @@ same-meets c edges p = meets-by c p p edges (λ k l. xor-self (getD edges (8 * p
     none true k = sym (xor-self (ownBit p k))
     none false k = refl
 
+own-class : (table : List ℕ) (p l : ℕ) → l ≡ p → true ≡ sameClass table p l
+unfolding sameClass
+own-class table p l e = sym (eq-eqb (nodeNumber table p 4) (nodeNumber table l 4) (ap (λ (q : ℕ). nodeNumber table q 4) (sym e)))
+
 pub twin-self : (edges table : List ℕ) (p l : ℕ) {x : ℕ} → x ≡ nodeNumber table l 0 → x ≡ l → l ≡ p → true ≡ twinOf edges table p l
 twin-self edges table p l e f g =
-    twin-rows edges table p l (edgeBit edges l p) true (omega arith) e f refl
+    twin-rows edges table p l (omega arith) e f (own-class table p l g) (edgeBit edges l p) true refl refl
     (sym (ap (λ (m : ℕ). meets (edgeBit edges l p) p m (rowIn edges p) (rowIn edges m) 8) g ∙ same-meets (edgeBit edges l p) edges p))
 
 -- a leader among the leaders below it
@@ -97,6 +107,11 @@ module _ (n : ℕ) (table : List ℕ) (p : ℕ) {a : ℕ} (b : Bool) (ea : a ≡
   unfolding nodeHolds
   node-fails f = rw (← ea, failed e f)
 
-  pub node-mark : {m : ℕ} → not b ≡ false → m ≡ nodeNumber table p 3 → ltb m 2 ≡ nodeHolds n table p
-  unfolding nodeHolds
-  node-mark f g = rw (← ea, passed e f, g)
+  module _ (f : not b ≡ false) {m : ℕ} (g : m ≡ nodeNumber table p 3) where
+    pub node-mark : 2 ≤ m → false ≡ nodeHolds n table p
+    unfolding nodeHolds
+    node-mark h = rw (← ea, passed e f, ← g, le-ltb m 2 h)
+
+    pub node-class : {d : ℕ} → m < 2 → d ≡ nodeNumber table p 4 → ltb d maxClasses ≡ nodeHolds n table p
+    unfolding nodeHolds
+    node-class h k = rw (← ea, passed e f, ← g, lt-ltb m 2 h, k)

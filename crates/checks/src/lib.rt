@@ -24,6 +24,7 @@ ghost use Rattle.checks.specs.Checks.{
 
 mod dense;
 
+use groups::CLASS;
 use groups::LEAST;
 use groups::MARK;
 use groups::NEXT;
@@ -89,7 +90,7 @@ fn rows_hold(edges: &[u64], nodes: &[u16], keys: &[u32], n: usize) -> bool
     sparse_rows_hold(edges, keys, n)
 }
 
-// Whether l leads the group of p and p's row is that of a twin of l.
+// Whether l leads the group of p, of p's class, and p's row is that of a twin of l.
 fn is_twin(edges: &[u64], nodes: &[u16], n: usize, p: usize, l: usize) -> bool
     requires { ⌜ (n ≤ maxNodes) × (length (now edges) ≡ rowWords * n) × (length (now nodes) ≡ nodeNumbers * n) × (p < n) ⌝ }
     ensures { λ r. ⌜ r ≡ twinOf (now (edges .entry)) (now (nodes .entry)) p l ⌝ }
@@ -102,6 +103,9 @@ fn is_twin(edges: &[u64], nodes: &[u16], n: usize, p: usize, l: usize) -> bool
     }
     if l == p {
         return true;
+    }
+    if !search::same_class(nodes, p, l) {
+        return false;
     }
     let closed = rows::edge(edges, l, p);
     let a = Graph::ROW_WORDS * p;
@@ -129,26 +133,26 @@ fn twins_hold(edges: &[u64], nodes: &[u16], n: usize) -> bool
     true
 }
 
-// The slot of a key among the keys seen.
-fn slot(key: u32) -> usize
-    ensures { λ r. ⌜ r ≡ keySlot key ⌝ }
+// The slot of a key in a class among the keys seen.
+fn slot(key: u32, class: u16) -> usize
+    ensures { λ r. ⌜ r ≡ keySlot key class ⌝ }
 {
-    (key % 65521) as usize
+    (key as usize + 257 * rows::wide(class)) % 65521
 }
 
-// Whether the slot of a key was taken; now it is. Each slot is a bit.
-fn take_slot(slots: &mut [u64], key: u32) -> bool
+// Whether the slot of a key in a class was taken; now it is. Each slot is a bit.
+fn take_slot(slots: &mut [u64], key: u32, class: u16) -> bool
     requires { ⌜ length (now slots) ≡ slotWords ⌝ }
-    ensures { λ r. ⌜ SlotTaken key (now (slots .entry)) (now (slots .exit)) r ⌝ }
+    ensures { λ r. ⌜ SlotTaken key class (now (slots .entry)) (now (slots .exit)) r ⌝ }
 {
-    let s = slot(key);
+    let s = slot(key, class);
     let i = rows::word_of(s);
     let x = slots[i];
     slots[i] = x | rows::mask(s);
     rows::has_bit(x, s)
 }
 
-// Whether u leads no group, or no leader below it is similar to it: none can be where none has an equal key.
+// Whether u leads no group, or no leader below it is similar to it: none can be where none of its class has an equal key.
 fn is_alone(
     edges: &[u64],
     nodes: &[u16],
@@ -165,8 +169,9 @@ fn is_alone(
     if number(nodes, u, LEAST) != u {
         return true;
     }
-    let open = take_slot(opens, keys[2 * u]);
-    let closed = take_slot(closeds, keys[2 * u + 1]);
+    let class = nodes[Graph::NODE_NUMBERS * u + CLASS];
+    let open = take_slot(opens, keys[2 * u], class);
+    let closed = take_slot(closeds, keys[2 * u + 1], class);
     if !(open | closed) {
         return true;
     }
@@ -210,7 +215,7 @@ fn is_followed(nodes: &[u16], n: usize, p: usize, a: usize) -> bool
     a < p
 }
 
-// Whether p follows the previous member, and its mark is 0 or 1.
+// Whether p follows the previous member, its mark is 0 or 1, and its class below 256.
 fn node_holds(nodes: &[u16], n: usize, p: usize) -> bool
     requires { ⌜ (n ≤ maxNodes) × (length (now nodes) ≡ nodeNumbers * n) × (p < n) ⌝ }
     ensures { λ r. ⌜ r ≡ nodeHolds n (now (nodes .entry)) p ⌝ }
@@ -218,10 +223,13 @@ fn node_holds(nodes: &[u16], n: usize, p: usize) -> bool
     if !is_followed(nodes, n, p, number(nodes, p, PREVIOUS)) {
         return false;
     }
-    number(nodes, p, MARK) < 2
+    if number(nodes, p, MARK) >= 2 {
+        return false;
+    }
+    number(nodes, p, CLASS) < Graph::CLASSES
 }
 
-// Whether the groups are rings, and marks are 0 or 1.
+// Whether the groups are rings, marks are 0 or 1, and classes below 256.
 fn nodes_hold(nodes: &[u16], n: usize) -> bool
     requires { ⌜ (n ≤ maxNodes) × (length (now nodes) ≡ nodeNumbers * n) ⌝ }
     ensures { λ r. ⌜ r ≡ nodesHold n (now (nodes .entry)) ⌝ }

@@ -7,13 +7,13 @@ use Prim.Native.Nat.{ℕ, _≤_, _<_}
 use native.Mathlib.Omega.{arith}
 use lib.Dec.{eqb, ltb}
 use lib.ListN.{length, getD}
-use borrow.Author.Tests.{eqb-true, eqb-false, ne-eqb, ltb-true, ltb-false, not-true}
+use borrow.Author.Tests.{eqb-true, eqb-false, eq-eqb, ne-eqb, ltb-true, ltb-false, not-true}
 use Rattle.model.specs.Lists.{all, nodes}
 use Rattle.model.specs.Graph.{View, maxNodes}
 use Rattle.model.specs.Grouping.{closed, falseTwins, trueTwins}
 use Rattle.model.specs.Tables.{edgeBit}
-use Rattle.model.specs.Reading.{hasPair, summaryBy}
-use Rattle.model.specs.InOrder.{cliqueAt, closedAt, couldMerge, groupView, groupsFit, inOrder, irreducible, membersAt, openAt, superedgesFit}
+use Rattle.model.specs.Reading.{Head, hasPair, summaryBy}
+use Rattle.model.specs.InOrder.{classAt, cliqueAt, closedAt, couldMerge, groupView, groupsFit, inOrder, irreducible, membersAt, openAt, superedgesFit}
 use Rattle.model.specs.TestLaws.{decide, differ, fails, iff-eq, or-cases, or-left, or-right}
 use Rattle.model.specs.ListLaws.{all-elim, all-intro, nodes-in, nodes-out}
 use Rattle.model.specs.TwinLaws.{falseTwins-at, falseTwins-by, trueTwins-at, trueTwins-by}
@@ -23,29 +23,29 @@ use Rattle.rows.specs.Rows.{Words, leads}
 use Rattle.search.specs.TwinRowLaws.{or-xor, xor-none, xor-same, xor-swap}
 use Rattle.compressed.specs.Compressed.{Told, alike, apart, clique, firstAt, independent, merges}
 use Rattle.compressed.specs.RowLaws.{Agree, alike-bits, bits-alike}
-use Rattle.compressed.specs.ToldLaws.{bit-told, clique-kind, closed-kind, first-below, firsts-order, firsts-same, group-joined, leads-told, place-first, told-bit, told-kind, told-leads}
+use Rattle.compressed.specs.ToldLaws.{bit-told, clique-kind, closed-kind, first-below, firsts-order, firsts-same, group-joined, leads-told, place-first, told-bit, told-class, told-kind, told-leads}
 
 -- no two leaders could be one
-module _ (n : ℕ) (least kinds joined : List ℕ) where
-  pub apart-out : apart n least kinds joined ≡ true → (u q : ℕ) → u < n → q < u → leads least u ≡ true → leads least q ≡ true → merges kinds joined u q ≡ false
+module _ (n : ℕ) (least kinds classes joined : List ℕ) where
+  pub apart-out : apart n least kinds classes joined ≡ true → (u q : ℕ) → u < n → q < u → leads least u ≡ true → leads least q ≡ true → merges kinds classes joined u q ≡ false
   unfolding apart
-  apart-out t u q h l a b = step (or-cases (not (leads least u)) (all (nodes u) (λ q. not (leads least q && merges kinds joined u q))) (all-elim (nodes n) _ t u (nodes-in n u h)))
+  apart-out t u q h l a b = step (or-cases (not (leads least u)) (all (nodes u) (λ q. not (leads least q && merges kinds classes joined u q))) (all-elim (nodes n) _ t u (nodes-in n u h)))
     where
-      step : (not (leads least u) ≡ true) ⊎ (all (nodes u) (λ q. not (leads least q && merges kinds joined u q)) ≡ true) → merges kinds joined u q ≡ false
+      step : (not (leads least u) ≡ true) ⊎ (all (nodes u) (λ q. not (leads least q && merges kinds classes joined u q)) ≡ true) → merges kinds classes joined u q ≡ false
       step (inl f) = differ a (not-true (leads least u) f)
-      step (inr f) = rw b at (not-true (leads least q && merges kinds joined u q) (all-elim (nodes u) _ f q (nodes-in u q l)))
+      step (inr f) = rw b at (not-true (leads least q && merges kinds classes joined u q) (all-elim (nodes u) _ f q (nodes-in u q l)))
 
-  pub apart-in : ((u q : ℕ) → u < n → q < u → leads least u ≡ true → leads least q ≡ true → merges kinds joined u q ≡ false) → apart n least kinds joined ≡ true
+  pub apart-in : ((u q : ℕ) → u < n → q < u → leads least u ≡ true → leads least q ≡ true → merges kinds classes joined u q ≡ false) → apart n least kinds classes joined ≡ true
   unfolding apart
   apart-in h = all-intro (nodes n) _ (λ u m. outer u (nodes-out n u m) (decide (leads least u)))
     where
-      inner : (u q : ℕ) → u < n → q < u → leads least u ≡ true → (leads least q ≡ true) ⊎ (leads least q ≡ false) → not (leads least q && merges kinds joined u q) ≡ true
+      inner : (u q : ℕ) → u < n → q < u → leads least u ≡ true → (leads least q ≡ true) ⊎ (leads least q ≡ false) → not (leads least q && merges kinds classes joined u q) ≡ true
       inner u q a b t (inl s) = rw (s, h u q a b t s)
       inner u q a b t (inr s) = rw s
 
-      outer : (u : ℕ) → u < n → (leads least u ≡ true) ⊎ (leads least u ≡ false) → (not (leads least u) || all (nodes u) (λ q. not (leads least q && merges kinds joined u q))) ≡ true
+      outer : (u : ℕ) → u < n → (leads least u ≡ true) ⊎ (leads least u ≡ false) → (not (leads least u) || all (nodes u) (λ q. not (leads least q && merges kinds classes joined u q))) ≡ true
       outer u a (inl t) = or-right (not (leads least u)) (all-intro (nodes u) _ (λ q m. inner u q a (nodes-out u q m) t (decide (leads least q))))
-      outer u a (inr t) = or-left (all (nodes u) (λ q. not (leads least q && merges kinds joined u q))) (ap not t)
+      outer u a (inr t) = or-left (all (nodes u) (λ q. not (leads least q && merges kinds classes joined u q))) (ap not t)
 
 -- which of two groups is named first does not matter
 module _ (v : View) (i j : ℕ) where
@@ -55,18 +55,21 @@ module _ (v : View) (i j : ℕ) where
   true-turn : trueTwins v i j ≡ trueTwins v j i
   true-turn = iff-eq (trueTwins v i j) (trueTwins v j i) (λ t. trueTwins-by v j i (λ r m. sym (trueTwins-at v i j t r m))) (λ t. trueTwins-by v i j (λ r m. sym (trueTwins-at v j i t r m)))
 
-pub merge-turn : (gs : List (Bool × List ℕ)) (js : List (ℕ × ℕ)) (i j : ℕ) → couldMerge gs js i j ≡ couldMerge gs js j i
+pub merge-turn : (gs : List (Head × List ℕ)) (js : List (ℕ × ℕ)) (i j : ℕ) → couldMerge gs js i j ≡ couldMerge gs js j i
 unfolding couldMerge
-merge-turn gs js i j = ap₂ _||_ (turn (openAt gs i) (openAt gs j) (false-turn (groupView gs js) i j)) (turn (closedAt gs i) (closedAt gs j) (true-turn (groupView gs js) i j))
+merge-turn gs js i j = ap₂ _&&_ classes (ap₂ _||_ (turn (openAt gs i) (openAt gs j) (false-turn (groupView gs js) i j)) (turn (closedAt gs i) (closedAt gs j) (true-turn (groupView gs js) i j)))
   where
+    classes : eqb (classAt gs i) (classAt gs j) ≡ eqb (classAt gs j) (classAt gs i)
+    classes = iff-eq _ (eqb (classAt gs j) (classAt gs i)) (λ t. eq-eqb (classAt gs j) (classAt gs i) (sym (eqb-true (classAt gs i) (classAt gs j) t))) (λ t. eq-eqb (classAt gs i) (classAt gs j) (sym (eqb-true (classAt gs j) (classAt gs i) t)))
+
     turn : (a b : Bool) {c d : Bool} → c ≡ d → (a && (b && c)) ≡ (b && (a && d))
     turn true true e = e
     turn true false e = refl
     turn false true e = refl
     turn false false e = refl
 
-module _ (n : ℕ) (gs : List (Bool × List ℕ)) (js : List (ℕ × ℕ)) (small : n ≤ maxNodes) (fits : groupsFit n (λ p. false) 0 gs ≡ true) (ordered : superedgesFit (length gs) 0 js ≡ true)
-    (least kinds joined : List ℕ) (told : Told gs js least kinds joined) (words : Words joined) where
+module _ (n : ℕ) (gs : List (Head × List ℕ)) (js : List (ℕ × ℕ)) (small : n ≤ maxNodes) (fits : groupsFit n (λ p. false) 0 gs ≡ true) (ordered : superedgesFit (length gs) 0 js ≡ true)
+    (least kinds classes joined : List ℕ) (told : Told gs js least kinds classes joined) (words : Words joined) where
   abbrev view : View
   view = groupView gs js
 
@@ -82,7 +85,7 @@ module _ (n : ℕ) (gs : List (Bool × List ℕ)) (js : List (ℕ × ℕ)) (smal
       step (inr t) = rw t
 
   bit : (i j : ℕ) → i < length gs → j < length gs → edgeBit joined (firstAt gs i) (firstAt gs j) ≡ view .edge i j
-  bit i j a b = told-bit n gs js small fits ordered least kinds joined told i j a b ∙ pair-edge i j
+  bit i j a b = told-bit n gs js small fits ordered least kinds classes joined told i j a b ∙ pair-edge i j
 
   same : (i j : ℕ) → i < length gs → j < length gs → eqb (firstAt gs i) (firstAt gs j) ≡ eqb i j
   same = firsts-same n gs fits
@@ -107,7 +110,7 @@ module _ (n : ℕ) (gs : List (Bool × List ℕ)) (js : List (ℕ × ℕ)) (smal
   no-bit p b h f = step (decide (edgeBit joined p b))
     where
       step : (edgeBit joined p b ≡ true) ⊎ (edgeBit joined p b ≡ false) → edgeBit joined p b ≡ false
-      step (inl t) = let r = bit-told n gs js small fits ordered least kinds joined told p b h t in absurd (f (r .1) (r .3) (r .5))
+      step (inl t) = let r = bit-told n gs js small fits ordered least kinds classes joined told p b h t in absurd (f (r .1) (r .3) (r .5))
       step (inr t) = t
 
   -- N+ by xor
@@ -152,44 +155,47 @@ module _ (n : ℕ) (gs : List (Bool × List ℕ)) (js : List (ℕ × ℕ)) (smal
 
   opens : (i : ℕ) → i < length gs → not (eqb (getD kinds (firstAt gs i) 0) clique) ≡ openAt gs i
   unfolding openAt
-  opens i l = rw (told-kind n gs js small fits ordered least kinds joined told i l, clique-kind (cliqueAt gs i) (length (membersAt gs i)))
+  opens i l = rw (told-kind n gs js small fits ordered least kinds classes joined told i l, clique-kind (cliqueAt gs i) (length (membersAt gs i)))
 
   closes : (i : ℕ) → i < length gs → not (eqb (getD kinds (firstAt gs i) 0) independent) ≡ closedAt gs i
   unfolding closedAt
-  closes i l = rw (told-kind n gs js small fits ordered least kinds joined told i l) (closed-kind (cliqueAt gs i) (length (membersAt gs i)))
+  closes i l = rw (told-kind n gs js small fits ordered least kinds classes joined told i l) (closed-kind (cliqueAt gs i) (length (membersAt gs i)))
 
-  pub merges-told : (i j : ℕ) → i < length gs → j < length gs → merges kinds joined (firstAt gs i) (firstAt gs j) ≡ couldMerge gs js i j
+  classes-are : (i : ℕ) → i < length gs → getD classes (firstAt gs i) 0 ≡ classAt gs i
+  classes-are = told-class n gs js small fits ordered least kinds classes joined told
+
+  pub merges-told : (i j : ℕ) → i < length gs → j < length gs → merges kinds classes joined (firstAt gs i) (firstAt gs j) ≡ couldMerge gs js i j
   unfolding merges couldMerge
-  merges-told i j a b = ap₂ _||_ (ap₂ _&&_ (opens i a) (ap₂ _&&_ (opens j b) (open-rows i j a b))) (ap₂ _&&_ (closes i a) (ap₂ _&&_ (closes j b) (closed-rows i j a b)))
+  merges-told i j a b = ap₂ _&&_ (ap₂ eqb (classes-are i a) (classes-are j b)) (ap₂ _||_ (ap₂ _&&_ (opens i a) (ap₂ _&&_ (opens j b) (open-rows i j a b))) (ap₂ _&&_ (closes i a) (ap₂ _&&_ (closes j b) (closed-rows i j a b))))
 
-  apart-told : apart n least kinds joined ≡ irreducible gs js
-  apart-told = iff-eq (apart n least kinds joined) (irreducible gs js) there back
+  apart-told : apart n least kinds classes joined ≡ irreducible gs js
+  apart-told = iff-eq (apart n least kinds classes joined) (irreducible gs js) there back
     where
       leads-first : (i : ℕ) → i < length gs → leads least (firstAt gs i) ≡ true
-      leads-first = told-leads n gs js small fits ordered least kinds joined told
+      leads-first = told-leads n gs js small fits ordered least kinds classes joined told
 
-      there : apart n least kinds joined ≡ true → irreducible gs js ≡ true
+      there : apart n least kinds classes joined ≡ true → irreducible gs js ≡ true
       there t = irreducible-in gs js (λ i j a b ne. step i j a b ne (decide (ltb j i)))
         where
           lower : (i j : ℕ) → j < i → i < length gs → couldMerge gs js i j ≡ false
           lower i j l a =
               let b : j < length gs = omega arith in
-              sym (merges-told i j a b) ∙ apart-out n least kinds joined t (firstAt gs i) (firstAt gs j) (below i a) (firsts-order n gs fits j i l a) (leads-first i a) (leads-first j b)
+              sym (merges-told i j a b) ∙ apart-out n least kinds classes joined t (firstAt gs i) (firstAt gs j) (below i a) (firsts-order n gs fits j i l a) (leads-first i a) (leads-first j b)
 
           step : (i j : ℕ) → i < length gs → j < length gs → (i ≡ j → ⊥) → (ltb j i ≡ true) ⊎ (ltb j i ≡ false) → couldMerge gs js i j ≡ false
           step i j a b ne (inl h) = lower i j (ltb-true j i h) a
           step i j a b ne (inr h) = let l : i < j = omega (arith, ltb-false j i h) in merge-turn gs js i j ∙ lower j i l b
 
-      back : irreducible gs js ≡ true → apart n least kinds joined ≡ true
-      back t = apart-in n least kinds joined (λ u q h l a b. by u q l (leads-told n gs js small fits ordered least kinds joined told u h a) (leads-told n gs js small fits ordered least kinds joined told q (omega arith) b))
+      back : irreducible gs js ≡ true → apart n least kinds classes joined ≡ true
+      back t = apart-in n least kinds classes joined (λ u q h l a b. by u q l (leads-told n gs js small fits ordered least kinds classes joined told u h a) (leads-told n gs js small fits ordered least kinds classes joined told q (omega arith) b))
         where
-          by : (u q : ℕ) → q < u → (i : ℕ) × (i < length gs) × (u ≡ firstAt gs i) → (j : ℕ) × (j < length gs) × (q ≡ firstAt gs j) → merges kinds joined u q ≡ false
+          by : (u q : ℕ) → q < u → (i : ℕ) × (i < length gs) × (u ≡ firstAt gs i) → (j : ℕ) × (j < length gs) × (q ≡ firstAt gs j) → merges kinds classes joined u q ≡ false
           by u q l x y = step (decide (couldMerge gs js (x .0) (y .0)))
             where
-              step : (couldMerge gs js (x .0) (y .0) ≡ true) ⊎ (couldMerge gs js (x .0) (y .0) ≡ false) → merges kinds joined u q ≡ false
+              step : (couldMerge gs js (x .0) (y .0) ≡ true) ⊎ (couldMerge gs js (x .0) (y .0) ≡ false) → merges kinds classes joined u q ≡ false
               step (inl c) = let z = irreducible-out gs js t (x .0) (y .0) (x .1) (y .1) c in absurd (omega (arith, x .2, y .2, ap first z))
-              step (inr c) = ap₂ (merges kinds joined) (x .2) (y .2) ∙ merges-told (x .0) (y .0) (x .1) (y .1) ∙ c
+              step (inr c) = ap₂ (merges kinds classes joined) (x .2) (y .2) ∙ merges-told (x .0) (y .0) (x .1) (y .1) ∙ c
 
-pub told-apart : (n : ℕ) (gs : List (Bool × List ℕ)) (js : List (ℕ × ℕ)) → inOrder n gs js ≡ true → {least kinds joined : List ℕ} → Told gs js least kinds joined
-    → Words joined → apart n least kinds joined ≡ irreducible gs js
-told-apart n gs js o {least} {kinds} {joined} told words = let s = in-order-parts n gs js o in apart-told n gs js (s .0) (s .1) (s .2) least kinds joined told words
+pub told-apart : (n : ℕ) (gs : List (Head × List ℕ)) (js : List (ℕ × ℕ)) → inOrder n gs js ≡ true → {least kinds classes joined : List ℕ} → Told gs js least kinds classes joined
+    → Words joined → apart n least kinds classes joined ≡ irreducible gs js
+told-apart n gs js o {least} {kinds} {classes} {joined} told words = let s = in-order-parts n gs js o in apart-told n gs js (s .0) (s .1) (s .2) least kinds classes joined told words

@@ -9,7 +9,7 @@ use Rattle.model.specs.Graph.{Graph, View, maxNodes}
 use Rattle.model.specs.Grouping.{algorithm1, group, least, similar}
 use Rattle.model.specs.Summary.{position}
 use Rattle.model.specs.Release.{isVisible, visible}
-use Rattle.model.specs.Reading.{graphBy, isRelease, summaryBy}
+use Rattle.model.specs.Reading.{Head, graphBy, isRelease, summaryBy}
 use Rattle.model.specs.InOrder.{fileBy, groupsFit, inOrder, membersAt, superedgesFit}
 use Rattle.model.specs.ListLaws.{Ascending, filter-intro, headOr-any, nodes-in}
 use Rattle.model.specs.TwinLaws.{Simple, similar-refl}
@@ -23,7 +23,7 @@ use Rattle.model.specs.MergeLaws.{release-same, released-groups}
 use Rattle.compressed.specs.Compressed.{firstAt, firstMemberOf}
 use Rattle.compressed.specs.ToldLaws.{first-placed}
 
-module _ (n : ℕ) (gs : List (Bool × List ℕ)) (js : List (ℕ × ℕ)) (small : n ≤ maxNodes) (fits : groupsFit n (λ p. false) 0 gs ≡ true) (ordered : superedgesFit (length gs) 0 js ≡ true) (released : isRelease (fileBy n gs js) ≡ true) where
+module _ (n : ℕ) (gs : List (Head × List ℕ)) (js : List (ℕ × ℕ)) (small : n ≤ maxNodes) (fits : groupsFit n (λ p. false) 0 gs ≡ true) (ordered : superedgesFit (length gs) 0 js ≡ true) (released : isRelease (fileBy n gs js) ≡ true) where
   abbrev G : Graph
   G = graphBy n (summaryBy gs js)
 
@@ -50,7 +50,7 @@ module _ (n : ℕ) (gs : List (Bool × List ℕ)) (js : List (ℕ × ℕ)) (smal
       ∙ ap (headOr 0) (released-members p m)
       ∙ headOr-any 0 p (group (v .nodes) (similar v) p) p (group-in (v .nodes) (similar v) p p m (similar-refl v p))
 
-pub release-least : (n : ℕ) (gs : List (Bool × List ℕ)) (js : List (ℕ × ℕ)) → inOrder n gs js ≡ true → isRelease (fileBy n gs js) ≡ true → (p : ℕ) → isVisible (graphBy n (summaryBy gs js)) p ≡ true
+pub release-least : (n : ℕ) (gs : List (Head × List ℕ)) (js : List (ℕ × ℕ)) → inOrder n gs js ≡ true → isRelease (fileBy n gs js) ≡ true → (p : ℕ) → isVisible (graphBy n (summaryBy gs js)) p ≡ true
     → firstMemberOf gs p ≡ least (visible (graphBy n (summaryBy gs js)) .nodes) (similar (visible (graphBy n (summaryBy gs js)))) p
 release-least n gs js o t p h =
     let s = in-order-parts n gs js o in

@@ -1,7 +1,7 @@
 -- Arrays that tell groups and superedges in order: they keep to what is asked of such arrays, and unfold to the graph that these tell.
 use mathlib.Core.Path.{_≡_, refl, sym, ap, ap₂, _∙_, fun-ext}
 use mathlib.Core.Bool.{Bool, true, false, not, _&&_, _||_, cond, and-comm, or-comm}
-use mathlib.Core.List.{List, [], _∷_}
+use mathlib.Core.List.{List, [], _∷_, map}
 use mathlib.Core.Logic.{_⊎_, inl, inr}
 use Prim.Native.Nat.{ℕ, suc, zero, _*_, _≤_, _<_}
 use native.Mathlib.Omega.{arith}
@@ -12,18 +12,18 @@ use Rattle.model.specs.Lists.{_∈_, headOr, member}
 use Rattle.model.specs.Graph.{maxNodes, rowWords}
 use Rattle.model.specs.Summary.{position, reconstruct}
 use Rattle.model.specs.Tables.{edgeBit}
-use Rattle.model.specs.Reading.{graphBy, hasPair, summaryBy}
-use Rattle.model.specs.InOrder.{cliqueAt, groupsFit, inOrder, membersAt, superedgesFit}
+use Rattle.model.specs.Reading.{Head, graphBy, hasPair, summaryBy}
+use Rattle.model.specs.InOrder.{classAt, cliqueAt, groupsFit, inOrder, membersAt, superedgesFit}
 use Rattle.model.specs.TestLaws.{and-fst, and-snd, and-true, decide, differ, iff-eq, or-cases, or-left, or-right}
 use Rattle.model.specs.ListLaws.{headOr-le}
 use Rattle.model.specs.InOrderLaws.{first-in, firsts-ascend, in-order-parts, members-ascend, members-below, pair-fits, place-in, place-of, placeOf}
 use Rattle.model.specs.ToldGraphLaws.{place-below}
 use Rattle.model.specs.MergeLaws.{only-member}
 use Rattle.rows.specs.Rows.{leads, noNode}
-use Rattle.compressed.specs.Compressed.{Compressed, Told, clique, firstAt, firstMemberOf, independent, joinedBy, kindLed, kindMarked, placed, single, unfolded, unfoldedEdge}
+use Rattle.compressed.specs.Compressed.{Compressed, Told, classIn, classOf, clique, firstAt, firstMemberOf, independent, joinedBy, kindIn, kindMarked, ledBy, placed, single, unfolded, unfoldedEdge, withClasses}
 
 -- the first member of a node's group, by the group's position
-pub first-placed : (gs : List (Bool × List ℕ)) (p : ℕ) → placeOf gs p < length gs → firstMemberOf gs p ≡ firstAt gs (placeOf gs p)
+pub first-placed : (gs : List (Head × List ℕ)) (p : ℕ) → placeOf gs p < length gs → firstMemberOf gs p ≡ firstAt gs (placeOf gs p)
 unfolding firstMemberOf firstAt membersAt position
 first-placed [] p l = absurd (omega arith)
 first-placed (g ∷ gs) p l = step (member p (g .1)) l (first-placed gs p)
@@ -32,7 +32,7 @@ first-placed (g ∷ gs) p l = step (member p (g .1)) l (first-placed gs p)
     step true h below = refl
     step false h below = below (omega arith)
 
-pub first-member-none : (gs : List (Bool × List ℕ)) (p : ℕ) → length gs ≤ placeOf gs p → firstMemberOf gs p ≡ noNode
+pub first-member-none : (gs : List (Head × List ℕ)) (p : ℕ) → length gs ≤ placeOf gs p → firstMemberOf gs p ≡ noNode
 unfolding firstMemberOf position
 first-member-none [] p l = refl
 first-member-none (g ∷ gs) p l = step (member p (g .1)) l (first-member-none gs p)
@@ -41,30 +41,36 @@ first-member-none (g ∷ gs) p l = step (member p (g .1)) l (first-member-none g
     step true h below = absurd (omega arith)
     step false h below = below (omega arith)
 
--- the kind of a group, where no two groups have one first member
-kind-at : (gs : List (Bool × List ℕ)) → ((i j : ℕ) → i < length gs → j < length gs → firstAt gs i ≡ firstAt gs j → i ≡ j) → (i : ℕ) → i < length gs → kindLed gs (firstAt gs i) ≡ kindMarked (cliqueAt gs i) (length (membersAt gs i))
-unfolding kindLed firstAt membersAt cliqueAt
-kind-at [] one i l = absurd (omega arith)
-kind-at (g ∷ gs) one zero l = rw (eq-eqb (headOr 0 (g .1)) (headOr 0 (g .1)) refl)
-kind-at (g ∷ gs) one (suc i) l =
+-- a number of a group, where no two groups have one first member
+led-at : (number : Head × List ℕ → ℕ) (gs : List (Head × List ℕ)) → ((i j : ℕ) → i < length gs → j < length gs → firstAt gs i ≡ firstAt gs j → i ≡ j) → (i : ℕ) → i < length gs → ledBy number gs (firstAt gs i) ≡ getD (map number gs) i 0
+unfolding ledBy firstAt membersAt
+led-at number [] one i l = absurd (omega arith)
+led-at number (g ∷ gs) one zero l = rw (eq-eqb (headOr 0 (g .1)) (headOr 0 (g .1)) refl)
+led-at number (g ∷ gs) one (suc i) l =
     rw (ne-eqb (firstAt gs i) (headOr 0 (g .1)) (λ z. omega (arith, one (suc i) 0 l (omega arith) z)))
-    (kind-at gs (λ j k a b z. omega (arith, one (suc j) (suc k) (omega arith) (omega arith) z)) i (omega arith))
+    (led-at number gs (λ j k a b z. omega (arith, one (suc j) (suc k) (omega arith) (omega arith) z)) i (omega arith))
 
-kind-other : (gs : List (Bool × List ℕ)) (p : ℕ) → (kindLed gs p ≡ single → ⊥) → (i : ℕ) × (i < length gs) × (p ≡ firstAt gs i)
-unfolding kindLed firstAt membersAt
+kind-at : (gs : List (Head × List ℕ)) (i : ℕ) → i < length gs → getD (map kindIn gs) i 0 ≡ kindMarked (cliqueAt gs i) (length (membersAt gs i))
+unfolding membersAt cliqueAt
+kind-at [] i l = absurd (omega arith)
+kind-at (g ∷ gs) zero l = refl
+kind-at (g ∷ gs) (suc i) l = kind-at gs i (omega arith)
+
+kind-other : (gs : List (Head × List ℕ)) (p : ℕ) → (ledBy kindIn gs p ≡ single → ⊥) → (i : ℕ) × (i < length gs) × (p ≡ firstAt gs i)
+unfolding ledBy firstAt membersAt
 kind-other [] p h = absurd (h refl)
 kind-other (g ∷ gs) p h = step (decide (eqb p (headOr 0 (g .1)))) (kind-other gs p)
   where
-    step : (eqb p (headOr 0 (g .1)) ≡ true) ⊎ (eqb p (headOr 0 (g .1)) ≡ false) → ((kindLed gs p ≡ single → ⊥) → (i : ℕ) × (i < length gs) × (p ≡ firstAt gs i)) → (i : ℕ) × (i < suc (length gs)) × (p ≡ firstAt (g ∷ gs) i)
+    step : (eqb p (headOr 0 (g .1)) ≡ true) ⊎ (eqb p (headOr 0 (g .1)) ≡ false) → ((ledBy kindIn gs p ≡ single → ⊥) → (i : ℕ) × (i < length gs) × (p ≡ firstAt gs i)) → (i : ℕ) × (i < suc (length gs)) × (p ≡ firstAt (g ∷ gs) i)
     step (inl t) below = (0, omega arith, eqb-true p (headOr 0 (g .1)) t)
     step (inr t) below = let r = below (λ z. h (rw t z)) in (suc (r .0), omega (arith, r .1), r .2)
 
-kind-most : (gs : List (Bool × List ℕ)) (p : ℕ) → kindLed gs p ≤ clique
-unfolding kindLed kindMarked
+kind-most : (gs : List (Head × List ℕ)) (p : ℕ) → ledBy kindIn gs p ≤ clique
+unfolding ledBy kindMarked
 kind-most [] p = omega arith
-kind-most (g ∷ gs) p = step (eqb p (headOr 0 (g .1))) (g .0) (eqb (length (g .1)) 1) (kind-most gs p)
+kind-most (g ∷ gs) p = step (eqb p (headOr 0 (g .1))) (g .0 .clique) (eqb (length (g .1)) 1) (kind-most gs p)
   where
-    step : (a b c : Bool) → kindLed gs p ≤ clique → cond a (cond b clique (cond c single independent)) (kindLed gs p) ≤ clique
+    step : (a b c : Bool) → ledBy kindIn gs p ≤ clique → cond a (cond b clique (cond c single independent)) (ledBy kindIn gs p) ≤ clique
     step true true c h = omega arith
     step true false true h = omega arith
     step true false false h = omega arith
@@ -99,7 +105,7 @@ single-kind false k h = step (decide (eqb k 1))
     step (inr t) = let z : cond (eqb k 1) single independent ≡ 0 = h in absurd (omega (arith, rw t at z))
 
 -- the first members of a superedge's groups are joined, and only they
-pub joined-in : (gs : List (Bool × List ℕ)) (js : List (ℕ × ℕ)) (i j : ℕ) → hasPair js i j ≡ true → joinedBy gs js (firstAt gs i) (firstAt gs j) ≡ true
+pub joined-in : (gs : List (Head × List ℕ)) (js : List (ℕ × ℕ)) (i j : ℕ) → hasPair js i j ≡ true → joinedBy gs js (firstAt gs i) (firstAt gs j) ≡ true
 unfolding hasPair joinedBy
 joined-in gs [] i j t = t
 joined-in gs (x ∷ xs) i j t = step (or-cases (eqb (x .0) i && eqb (x .1) j) (hasPair xs i j) t) (joined-in gs xs i j)
@@ -111,7 +117,7 @@ joined-in gs (x ∷ xs) i j t = step (or-cases (eqb (x .0) i && eqb (x .1) j) (h
         or-left _ (or-left _ (and-true (eq-eqb (firstAt gs i) (firstAt gs (x .0)) (ap (firstAt gs) (sym a))) (eq-eqb (firstAt gs j) (firstAt gs (x .1)) (ap (firstAt gs) (sym b)))))
     step (inr h) below = or-right ((eqb (firstAt gs i) (firstAt gs (x .0)) && eqb (firstAt gs j) (firstAt gs (x .1))) || (eqb (firstAt gs i) (firstAt gs (x .1)) && eqb (firstAt gs j) (firstAt gs (x .0)))) (below h)
 
-pub joined-turn : (gs : List (Bool × List ℕ)) (js : List (ℕ × ℕ)) (a b : ℕ) → joinedBy gs js a b ≡ joinedBy gs js b a
+pub joined-turn : (gs : List (Head × List ℕ)) (js : List (ℕ × ℕ)) (a b : ℕ) → joinedBy gs js a b ≡ joinedBy gs js b a
 unfolding joinedBy
 joined-turn gs [] a b = refl
 joined-turn gs (x ∷ xs) a b = ap₂ _||_ (turn (eqb a (firstAt gs (x .0))) (eqb b (firstAt gs (x .1))) (eqb a (firstAt gs (x .1))) (eqb b (firstAt gs (x .0)))) (joined-turn gs xs a b)
@@ -120,10 +126,10 @@ joined-turn gs (x ∷ xs) a b = ap₂ _||_ (turn (eqb a (firstAt gs (x .0))) (eq
     turn p q r s = or-comm (p && q) (r && s) ∙ ap₂ _||_ (and-comm r s) (and-comm p q)
 
 -- a superedge between the groups that a and b are the first members of
-abbrev SuperedgeAcross : List (Bool × List ℕ) → List (ℕ × ℕ) → ℕ → ℕ → Type 0
+abbrev SuperedgeAcross : List (Head × List ℕ) → List (ℕ × ℕ) → ℕ → ℕ → Type 0
 SuperedgeAcross gs js a b = (i : ℕ) × (j : ℕ) × ((hasPair js i j || hasPair js j i) ≡ true) × (a ≡ firstAt gs i) × (b ≡ firstAt gs j)
 
-joined-out : (gs : List (Bool × List ℕ)) (js : List (ℕ × ℕ)) (a b : ℕ) → joinedBy gs js a b ≡ true → SuperedgeAcross gs js a b
+joined-out : (gs : List (Head × List ℕ)) (js : List (ℕ × ℕ)) (a b : ℕ) → joinedBy gs js a b ≡ true → SuperedgeAcross gs js a b
 unfolding hasPair joinedBy
 joined-out gs [] a b t = differ t refl
 joined-out gs (x ∷ xs) a b t = step (or-cases ((eqb a f && eqb b s) || (eqb a s && eqb b f)) (joinedBy gs xs a b) t) (joined-out gs xs a b)
@@ -150,7 +156,7 @@ joined-out gs (x ∷ xs) a b t = step (or-cases ((eqb a f && eqb b s) || (eqb a 
     step (inr h) below = let r = below h in (r .0, r .1, more (r .0) (r .1) (or-cases (hasPair xs (r .0) (r .1)) (hasPair xs (r .1) (r .0)) (r .2)), r .3, r .4)
 
 -- groups that fit, each known by its first member
-module _ (n : ℕ) (gs : List (Bool × List ℕ)) (fits : groupsFit n (λ p. false) 0 gs ≡ true) where
+module _ (n : ℕ) (gs : List (Head × List ℕ)) (fits : groupsFit n (λ p. false) 0 gs ≡ true) where
   first-member : (i : ℕ) → i < length gs → firstAt gs i ∈ membersAt gs i
   unfolding firstAt
   first-member i l = first-in n gs fits i l
@@ -178,11 +184,15 @@ module _ (n : ℕ) (gs : List (Bool × List ℕ)) (fits : groupsFit n (λ p. fal
   first-alone : (p : ℕ) → placeOf gs p < length gs → length (membersAt gs (placeOf gs p)) ≡ 1 → firstAt gs (placeOf gs p) ≡ p
   first-alone p l h = only-member (firstAt gs (placeOf gs p)) p (membersAt gs (placeOf gs p)) h (first-member (placeOf gs p) l) (place-in n gs fits p l)
 
-  kind-of : (i : ℕ) → i < length gs → kindLed gs (firstAt gs i) ≡ kindMarked (cliqueAt gs i) (length (membersAt gs i))
-  kind-of = kind-at gs firsts-one
+  kind-of : (i : ℕ) → i < length gs → ledBy kindIn gs (firstAt gs i) ≡ kindMarked (cliqueAt gs i) (length (membersAt gs i))
+  kind-of i l = led-at kindIn gs firsts-one i l ∙ kind-at gs i l
+
+  class-of : (i : ℕ) → i < length gs → ledBy classOf gs (firstAt gs i) ≡ classAt gs i
+  unfolding classAt
+  class-of = led-at classOf gs firsts-one
 
 -- superedges in order join different groups that are there
-pub group-joined : (gs : List (Bool × List ℕ)) (js : List (ℕ × ℕ)) → superedgesFit (length gs) 0 js ≡ true → (i j : ℕ) → (hasPair js i j || hasPair js j i) ≡ true → (i < length gs) × (j < length gs) × (i ≡ j → ⊥)
+pub group-joined : (gs : List (Head × List ℕ)) (js : List (ℕ × ℕ)) → superedgesFit (length gs) 0 js ≡ true → (i j : ℕ) → (hasPair js i j || hasPair js j i) ≡ true → (i < length gs) × (j < length gs) × (i ≡ j → ⊥)
 group-joined gs js ordered i j t = step (or-cases (hasPair js i j) (hasPair js j i) t)
   where
     step : (hasPair js i j ≡ true) ⊎ (hasPair js j i ≡ true) → (i < length gs) × (j < length gs) × (i ≡ j → ⊥)
@@ -190,7 +200,7 @@ group-joined gs js ordered i j t = step (or-cases (hasPair js i j) (hasPair js j
     step (inr h) = let f = pair-fits (length gs) 0 js ordered j i h in (f .1, omega (arith, f .0, f .1), λ z. omega (arith, f .0))
 
 -- groups and superedges in order
-module _ (n : ℕ) (gs : List (Bool × List ℕ)) (js : List (ℕ × ℕ)) (fits : groupsFit n (λ p. false) 0 gs ≡ true) (ordered : superedgesFit (length gs) 0 js ≡ true) where
+module _ (n : ℕ) (gs : List (Head × List ℕ)) (js : List (ℕ × ℕ)) (fits : groupsFit n (λ p. false) 0 gs ≡ true) (ordered : superedgesFit (length gs) 0 js ≡ true) where
   pub joined-at : (i j : ℕ) → i < length gs → j < length gs → joinedBy gs js (firstAt gs i) (firstAt gs j) ≡ (hasPair js i j || hasPair js j i)
   joined-at i j a b = iff-eq _ (hasPair js i j || hasPair js j i) (λ t. there (joined-out gs js (firstAt gs i) (firstAt gs j) t)) (λ t. back (or-cases (hasPair js i j) (hasPair js j i) t))
     where
@@ -216,8 +226,8 @@ module _ (n : ℕ) (gs : List (Bool × List ℕ)) (js : List (ℕ × ℕ)) (fits
       step (inr t) = t
 
 -- arrays that tell them
-module _ (n : ℕ) (gs : List (Bool × List ℕ)) (js : List (ℕ × ℕ)) (small : n ≤ maxNodes) (fits : groupsFit n (λ p. false) 0 gs ≡ true) (ordered : superedgesFit (length gs) 0 js ≡ true)
-    (least kinds joined : List ℕ) (told : Told gs js least kinds joined) where
+module _ (n : ℕ) (gs : List (Head × List ℕ)) (js : List (ℕ × ℕ)) (small : n ≤ maxNodes) (fits : groupsFit n (λ p. false) 0 gs ≡ true) (ordered : superedgesFit (length gs) 0 js ≡ true)
+    (least kinds classes joined : List ℕ) (told : Told gs js least kinds classes joined) where
   abbrev place : ℕ → ℕ
   place p = placeOf gs p
 
@@ -267,6 +277,9 @@ module _ (n : ℕ) (gs : List (Bool × List ℕ)) (js : List (ℕ × ℕ)) (smal
   pub told-kind : (i : ℕ) → i < length gs → getD kinds (firstAt gs i) 0 ≡ kindMarked (cliqueAt gs i) (length (membersAt gs i))
   told-kind i l = told .kind (firstAt gs i) (omega (arith, first-below n gs fits i l)) ∙ kind-of n gs fits i l
 
+  pub told-class : (i : ℕ) → i < length gs → getD classes (firstAt gs i) 0 ≡ classAt gs i
+  told-class i l = told .class (firstAt gs i) (omega (arith, first-below n gs fits i l)) ∙ class-of n gs fits i l
+
   -- joined are first members of groups with a superedge
   pub told-bit : (i j : ℕ) → i < length gs → j < length gs → edgeBit joined (firstAt gs i) (firstAt gs j) ≡ (hasPair js i j || hasPair js j i)
   told-bit i j a b = told .bits (firstAt gs i) (firstAt gs j) (omega (arith, first-below n gs fits j b)) ∙ joined-at n gs js fits ordered i j a b
@@ -315,27 +328,31 @@ module _ (n : ℕ) (gs : List (Bool × List ℕ)) (js : List (ℕ × ℕ)) (smal
   told-edge p q a b =
       rw (told-first p a, told-first q b, firsts-same n gs fits (place p) (place q) a b, told-kind (place p) a, clique-kind (cliqueAt gs (place p)) (length (membersAt gs (place p))), told-bit (place p) (place q) a b)
 
-  unfolds : unfolded n least kinds joined ≡ graphBy n (summaryBy gs js)
+  unfolds : graphBy n (summaryBy gs js) ≡ withClasses (unfolded n least kinds joined) (classIn n least classes)
   unfolding unfolded graphBy
-  unfolds = λ i. record { nodeCount = n; edge = fun-ext (λ p. fun-ext (edge p)) i; hidden = fun-ext (λ p. hidden p (decide (ltb p n)) (decide (grouped p))) i }
+  unfolds = λ i. record { nodeCount = n; edge = fun-ext (λ p. fun-ext (edge p)) i; hidden = fun-ext (λ p. hidden p (decide (ltb p n)) (decide (grouped p))) i; class = fun-ext (λ p. class p (decide (grouped p))) i }
     where
-      edge : (p q : ℕ) → (placed n least p && (placed n least q && unfoldedEdge least kinds joined p q)) ≡ graphBy n (summaryBy gs js) .edge p q
+      edge : (p q : ℕ) → graphBy n (summaryBy gs js) .edge p q ≡ (placed n least p && (placed n least q && unfoldedEdge least kinds joined p q))
       edge p q = unfold summaryBy in rw (told-placed p, told-placed q) (step (decide (grouped p)) (decide (grouped q)))
         where
-          step : (grouped p ≡ true) ⊎ (grouped p ≡ false) → (grouped q ≡ true) ⊎ (grouped q ≡ false) → (grouped p && (grouped q && unfoldedEdge least kinds joined p q)) ≡ (grouped p && (grouped q && reconstruct (summaryBy gs js) p q))
-          step (inl x) (inl y) = ap (λ (b : Bool). grouped p && (grouped q && b)) (told-edge p q (ltb-true (place p) (length gs) x) (ltb-true (place q) (length gs) y))
+          step : (grouped p ≡ true) ⊎ (grouped p ≡ false) → (grouped q ≡ true) ⊎ (grouped q ≡ false) → (grouped p && (grouped q && reconstruct (summaryBy gs js) p q)) ≡ (grouped p && (grouped q && unfoldedEdge least kinds joined p q))
+          step (inl x) (inl y) = ap (λ (b : Bool). grouped p && (grouped q && b)) (sym (told-edge p q (ltb-true (place p) (length gs) x) (ltb-true (place q) (length gs) y)))
           step (inl x) (inr y) = rw y
           step (inr x) y = rw x
 
-      hidden : (p : ℕ) → (ltb p n ≡ true) ⊎ (ltb p n ≡ false) → (grouped p ≡ true) ⊎ (grouped p ≡ false) → (ltb p n && eqb (getD least p 0) noNode) ≡ graphBy n (summaryBy gs js) .hidden p
+      hidden : (p : ℕ) → (ltb p n ≡ true) ⊎ (ltb p n ≡ false) → (grouped p ≡ true) ⊎ (grouped p ≡ false) → graphBy n (summaryBy gs js) .hidden p ≡ (ltb p n && eqb (getD least p 0) noNode)
       hidden p (inl h) (inl t) = unfold summaryBy in rw (h, t, told-some p (ltb-true (place p) (length gs) t))
       hidden p (inl h) (inr t) = unfold summaryBy in rw (h, t, eq-eqb (getD least p 0) noNode (told-none p (omega (arith, ltb-true p n h)) (ltb-false (place p) (length gs) t)))
       hidden p (inr h) t = unfold summaryBy in rw h
 
-pub told-compressed : (n : ℕ) (gs : List (Bool × List ℕ)) (js : List (ℕ × ℕ)) → inOrder n gs js ≡ true → {least kinds joined : List ℕ} → Told gs js least kinds joined
-    → length least ≡ maxNodes → length kinds ≡ maxNodes → rowWords * n ≤ length joined → Compressed n least kinds joined
-told-compressed n gs js o {least} {kinds} {joined} told a b c = let s = in-order-parts n gs js o in compressed n gs js (s .0) (s .1) (s .2) least kinds joined told a b c
+      class : (p : ℕ) → (grouped p ≡ true) ⊎ (grouped p ≡ false) → graphBy n (summaryBy gs js) .class p ≡ classIn n least classes p
+      class p (inl t) = unfold summaryBy classIn classAt in rw (told-placed p, t, told-first p (ltb-true (place p) (length gs) t)) (sym (told-class (place p) (ltb-true (place p) (length gs) t)))
+      class p (inr t) = unfold summaryBy classIn in rw (told-placed p, t)
 
-pub told-unfolded : (n : ℕ) (gs : List (Bool × List ℕ)) (js : List (ℕ × ℕ)) → inOrder n gs js ≡ true → {least kinds joined : List ℕ} → Told gs js least kinds joined
-    → unfolded n least kinds joined ≡ graphBy n (summaryBy gs js)
-told-unfolded n gs js o {least} {kinds} {joined} told = let s = in-order-parts n gs js o in unfolds n gs js (s .0) (s .1) (s .2) least kinds joined told
+pub told-compressed : (n : ℕ) (gs : List (Head × List ℕ)) (js : List (ℕ × ℕ)) → inOrder n gs js ≡ true → {least kinds classes joined : List ℕ} → Told gs js least kinds classes joined
+    → length least ≡ maxNodes → length kinds ≡ maxNodes → rowWords * n ≤ length joined → Compressed n least kinds joined
+told-compressed n gs js o {least} {kinds} {classes} {joined} told a b c = let s = in-order-parts n gs js o in compressed n gs js (s .0) (s .1) (s .2) least kinds classes joined told a b c
+
+pub told-unfolded : (n : ℕ) (gs : List (Head × List ℕ)) (js : List (ℕ × ℕ)) → inOrder n gs js ≡ true → {least kinds classes joined : List ℕ} → Told gs js least kinds classes joined
+    → graphBy n (summaryBy gs js) ≡ withClasses (unfolded n least kinds joined) (classIn n least classes)
+told-unfolded n gs js o {least} {kinds} {classes} {joined} told = let s = in-order-parts n gs js o in unfolds n gs js (s .0) (s .1) (s .2) least kinds classes joined told

@@ -41,14 +41,15 @@ pub record SuperedgeRows (n : ℕ) (joined : List ℕ) : Type 0 where
 
 -- groups by their first members, with the superedges that rows tell
 abbrev pub rowsView : ℕ → List ℕ → View
-rowsView n joined = record { nodes = nodes n; edge = edgeBit joined }
+rowsView n joined = record { nodes = nodes n; edge = edgeBit joined; class = λ p. 0 }
 
--- the summary that arrays hold, its groups numbered by first members
+-- the summary that arrays hold, its groups numbered by first members; distances ask for no class
 unfoldable pub heldSummary : ℕ → List ℕ → List ℕ → List ℕ → Summary
 heldSummary n least kinds joined = record {
   count = n;
   groupOf = λ p. getD least p 0;
   cliques = λ i. eqb (getD kinds i 0) clique;
+  classes = λ i. 0;
   superedges = edgeBit joined;
 }
 

@@ -144,10 +144,10 @@ both-false true false e = refl
 both-false false b e = refl
 
 module _ (n : ℕ) (edges : List ℕ) where
-  -- whoever is hidden
-  pub held-with : (hidden : ℕ → Bool) → edgesHold n edges ≡ (simple (graphWith n edges hidden) && sameList edges (edgesOf (graphWith n edges hidden)))
+  -- whatever the marks and classes
+  pub held-with : (mark class : ℕ → ℕ) → edgesHold n edges ≡ (simple (graphWith n edges mark class) && sameList edges (edgesOf (graphWith n edges mark class)))
   unfolding edgesHold simple edgesOf rowOf
-  held-with hidden = refl
+  held-with mark class = refl
 
   -- rows that pass
   module _ (rows : RowsBelow n edges n) where

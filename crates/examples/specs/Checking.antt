@@ -9,20 +9,20 @@ use Rattle.model.specs.Lists.{all, any, filter, member, concat, sameList, from,
 use Rattle.model.specs.Graph.{emptyGraph}
 use Rattle.model.specs.Grouping.{Kind, singleton, independent, clique, closed, falseTwins, trueTwins, similar, greedy, algorithm1, group, least, adjacent, kindOf, sumCubes, openKey, closedKey}
 use Rattle.model.specs.Summary.{reconstruct, position}
-use Rattle.model.specs.Tables.{word, bitAt, rowOf, edgesOf, groupIn, nextIn, prevIn, nodeOf, nodesOf, keyPair, keysOf, tablesOf, edgeBit, nodeNumber, edgesIn, markedGraph, graphOf, simple, holds, groupsIn}
-use Rattle.model.specs.Store.{isName, isFree, isUnder, graphAt, isKept, keptGraph, isFull, keeping, dropping, isNew, areApart, isSimple, areSimple, wrongStore, wrongName, number as wordOf, bytesOf, marksOf, placeOf, placeIn, storeOf, wordsAt, placesIn, isStore}
+use Rattle.model.specs.Tables.{word, bitAt, rowOf, edgesOf, groupIn, nextIn, prevIn, nodeOf, nodesOf, keyPair, keysOf, tablesOf, edgeBit, nodeNumber, edgesIn, graphOf, simple, isGraph, holds, groupsIn}
+use Rattle.model.specs.Store.{isName, isFree, isUnder, graphAt, isKept, keptGraph, isFull, keeping, dropping, isNew, areApart, isState, areStates, wrongStore, wrongName, number as wordOf, bytesOf, nodeWord, nodeWords, stateGraph, placeOf, placeIn, storeOf, wordsAt, placesIn, isStore}
 use Rattle.model.specs.Refusals.{firstOf, lengths, pairReasons, wrongSize}
 use Rattle.model.specs.Updates.{updateReasons, refusal, updated, groupCount, update, batchGraph, answers as batchAnswers, updateCount, updatesIn, wrongBatch}
 use Rattle.model.specs.Steps.{run}
 use Rattle.model.specs.Queries.{neighbours, leaderIn, pairs, kindNumber}
 use Rattle.model.specs.Distance.{walk, distance}
-use Rattle.model.specs.Release.{isVisible, visibleEdge, visibleGroups, u16, headRecord, kindByte, groupRecord, superedgeRecord, endRecord, superedgesFrom, superedges, superedgeCount, encode, release}
+use Rattle.model.specs.Release.{isVisible, visibleEdge, visibleClass, visibleGroups, u16, headRecord, kindByte, groupRecord, superedgeRecord, endRecord, superedgesFrom, superedges, superedgeCount, encode, release}
 use Rattle.model.specs.Reading.{u16At, u16s, groupsAt, afterGroups, isMark, superedgesAt, hasPair, summaryBy, summaryIn, graphBy, decode, isRelease}
 use Rattle.model.specs.Calls.{openReasons, openCall, keepReasons, keepCall, restoreReasons, restoreCall, dropReasons, dropCall, applyReasons, applyCall, listing, neighboursReasons, neighboursCall, tiedReasons, tiedCall, groupReasons, groupCall, releaseReasons, released, releaseCall, readReasons, readCall, fileDistanceReasons, fileDistanceCall, fileNeighboursReasons, fileNeighboursCall}
 use Rattle.model.specs.Program.{text, before, pieces, isNone, valueOf, isNumber, edgeLine, markLine, lineOf, withUpdate, withLine, linesFrom, isCount, firstLine, inputOf, digits, decimal, signed, changeLine, changeLines, openLine, spaced, groupLine, superedgeLine, releaseLines, printed, program}
 use Rattle.model.specs.TestLaws.{differ, and-fst, and-snd, beq-eq}
 use Rattle.model.specs.ListLaws.{same-eq}
-use Rattle.examples.specs.Examples.{Claim, list, number, groups, kinds, answers, test, Holds, AllHold, oneEdge, path3, triangle, path4, threeByThree, deleted03, hidden3, hidden3deleted03, deleted03hidden3, hidden1of2, tied1of2, hidden2of3, tied2of3, hidden3of4, tied3of4, equalKeys, oneKept, eightKept, selfTied, examples}
+use Rattle.examples.specs.Examples.{Claim, list, number, groups, kinds, answers, test, Holds, AllHold, oneEdge, path3, triangle, path4, threeByThree, deleted03, hidden3, hidden3deleted03, deleted03hidden3, hidden1of2, tied1of2, classed1of2, hidden0of1, classed0of1, hidden2of3, tied2of3, hidden3of4, tied3of4, equalKeys, classes010, triangle010, hiddenClass, oneKept, eightKept, selfTied, examples}
 
 -- lists that are equal by a test of their members
 sameBy : {A : Type 0} → (A → A → Bool) → List A → List A → Bool
@@ -93,7 +93,7 @@ all-pass-hold [] h = tt
 all-pass-hold (c ∷ cs) h = (passes-holds c (and-fst (passes c) (allPass cs) h), all-pass-hold cs (and-snd (passes c) (allPass cs) h))
 
 computed : allPass examples ≡ true
-unfolding sameBy sameKind sameAnswer passes allPass oneEdge path3 triangle path4 threeByThree deleted03 hidden3 hidden3deleted03 deleted03hidden3 hidden1of2 tied1of2 hidden2of3 tied2of3 hidden3of4 tied3of4 equalKeys oneKept eightKept selfTied text examples all any filter member concat sameList from nodes emptyGraph closed falseTwins trueTwins similar greedy algorithm1 group least adjacent kindOf sumCubes openKey closedKey reconstruct position word bitAt rowOf edgesOf groupIn nextIn prevIn nodeOf nodesOf keyPair keysOf tablesOf edgeBit nodeNumber edgesIn markedGraph graphOf simple holds groupsIn isName isFree isUnder graphAt isKept keptGraph isFull keeping dropping isNew areApart isSimple areSimple wrongStore wrongName wordOf bytesOf marksOf placeOf placeIn storeOf wordsAt placesIn isStore firstOf lengths wrongSize updateReasons refusal updated groupCount update run batchGraph batchAnswers updateCount updatesIn wrongBatch neighbours leaderIn pairs kindNumber walk distance isVisible visibleEdge visibleGroups u16 headRecord kindByte groupRecord superedgeRecord endRecord superedgesFrom superedges superedgeCount encode release u16At u16s groupsAt afterGroups isMark superedgesAt hasPair summaryBy summaryIn graphBy decode isRelease openReasons openCall keepReasons keepCall restoreReasons restoreCall dropReasons dropCall applyReasons applyCall listing neighboursReasons neighboursCall tiedReasons pairReasons tiedCall groupReasons groupCall releaseReasons released releaseCall readReasons readCall fileDistanceReasons fileDistanceCall fileNeighboursReasons fileNeighboursCall before pieces isNone valueOf isNumber edgeLine markLine lineOf withUpdate withLine linesFrom isCount firstLine inputOf digits decimal signed changeLine changeLines openLine spaced groupLine superedgeLine releaseLines printed program
+unfolding sameBy sameKind sameAnswer passes allPass oneEdge path3 triangle path4 threeByThree deleted03 hidden3 hidden3deleted03 deleted03hidden3 hidden1of2 tied1of2 classed1of2 hidden0of1 classed0of1 hidden2of3 tied2of3 hidden3of4 tied3of4 equalKeys classes010 triangle010 hiddenClass oneKept eightKept selfTied text examples all any filter member concat sameList from nodes emptyGraph closed falseTwins trueTwins similar greedy algorithm1 group least adjacent kindOf sumCubes openKey closedKey reconstruct position word bitAt rowOf edgesOf groupIn nextIn prevIn nodeOf nodesOf keyPair keysOf tablesOf edgeBit nodeNumber edgesIn graphOf simple isGraph holds groupsIn isName isFree isUnder graphAt isKept keptGraph isFull keeping dropping isNew areApart isState areStates wrongStore wrongName wordOf bytesOf nodeWord nodeWords stateGraph placeOf placeIn storeOf wordsAt placesIn isStore firstOf lengths wrongSize updateReasons refusal updated groupCount update run batchGraph batchAnswers updateCount updatesIn wrongBatch neighbours leaderIn pairs kindNumber walk distance isVisible visibleEdge visibleClass visibleGroups u16 headRecord kindByte groupRecord superedgeRecord endRecord superedgesFrom superedges superedgeCount encode release u16At u16s groupsAt afterGroups isMark superedgesAt hasPair summaryBy summaryIn graphBy decode isRelease openReasons openCall keepReasons keepCall restoreReasons restoreCall dropReasons dropCall applyReasons applyCall listing neighboursReasons neighboursCall tiedReasons pairReasons tiedCall groupReasons groupCall releaseReasons released releaseCall readReasons readCall fileDistanceReasons fileDistanceCall fileNeighboursReasons fileNeighboursCall before pieces isNone valueOf isNumber edgeLine markLine lineOf withUpdate withLine linesFrom isCount firstLine inputOf digits decimal signed changeLine changeLines openLine spaced groupLine superedgeLine releaseLines printed program
 computed = refl
 
 -- every example is what the document says

@@ -1,9 +1,9 @@
 -- Document 01's examples with a star, the examples of its table of refusals and the one of the program, and document 02's distances,
--- neighbours with their groups, named states and frozen ties, with what these leave open, as one list of equations: on the left what the
--- definitions of `model` give, on the right what the documents say.
+-- neighbours with their groups, named states, frozen ties and classes, with what these leave open, as one list of equations: on the left
+-- what the definitions of `model` give, on the right what the documents say.
 use mathlib.Core.Path.{_≡_}
 use mathlib.Core.Bool.{Bool, false, _&&_}
-use mathlib.Core.List.{List, [], _∷_, map}
+use mathlib.Core.List.{List, [], _∷_, _++_, map}
 use Prim.Native.Nat.{ℕ, _+_, _*_}
 use lib.Dec.{eqb}
 use lib.IntN.{ℤ, pos, negsuc}
@@ -15,7 +15,7 @@ use Rattle.model.specs.Tables.{Tables, edgesOf, tablesOf, keysOf, nodesOf, grou
 use Rattle.model.specs.Store.{kept, maxStates, nameBytes, storeOf, storeWords}
 use Rattle.model.specs.Updates.{Update, batchGraph, updateCount}
 use Rattle.model.specs.Release.{visibleEdge, visibleGroups, superedgeCount, release}
-use Rattle.model.specs.Calls.{openCall, keepCall, restoreCall, dropCall, applyCall, neighboursCall, tiedCall, groupCall, releaseCall, readCall, fileDistanceCall, fileNeighboursCall}
+use Rattle.model.specs.Calls.{Applied, openCall, keepCall, restoreCall, dropCall, applyCall, neighboursCall, tiedCall, groupCall, releaseCall, readCall, fileDistanceCall, fileNeighboursCall}
 use Rattle.model.specs.Program.{text, program}
 
 -- an equation between two of the things that the documents speak of: numbers of a file, a text or a buffer, a
@@ -40,7 +40,7 @@ abbrev pub AllHold : List Claim → Type 0
 AllHold [] = Unit {0}
 AllHold (c ∷ cs) = Holds c × AllHold cs
 
--- updates: tie, untie and withhold
+-- updates: tie, untie, withhold and give a class
 abbrev insert : ℕ → ℕ → Update
 insert u v = record { kind = 1; u = u; v = v; wanted = 1 }
 
@@ -49,6 +49,9 @@ delete u v = record { kind = 1; u = u; v = v; wanted = 0 }
 
 abbrev hide : ℕ → Update
 hide u = record { kind = 2; u = u; v = 0; wanted = 1 }
+
+abbrev classify : ℕ → ℕ → Update
+classify u c = record { kind = 3; u = u; v = c; wanted = 0 }
 
 -- the graph of n nodes that updates lead to
 abbrev graph : ℕ → List Update → Graph
@@ -84,12 +87,21 @@ hidden3deleted03 = batchGraph hidden3 (delete 0 3 ∷ [])
 unfoldable pub deleted03hidden3 : Graph
 deleted03hidden3 = batchGraph deleted03 (hide 3 ∷ [])
 
--- graphs alike in what is visible, by twos: with edges of a hidden node, and with fewer or none of them
+-- graphs alike in what is visible, by twos: with edges or a class of a hidden node, and with fewer or none of them
 unfoldable pub hidden1of2 : Graph
 hidden1of2 = graph 2 (hide 1 ∷ [])
 
 unfoldable pub tied1of2 : Graph
 tied1of2 = graph 2 (insert 0 1 ∷ hide 1 ∷ [])
+
+unfoldable pub classed1of2 : Graph
+classed1of2 = graph 2 (classify 1 1 ∷ hide 1 ∷ [])
+
+unfoldable pub hidden0of1 : Graph
+hidden0of1 = graph 1 (hide 0 ∷ [])
+
+unfoldable pub classed0of1 : Graph
+classed0of1 = graph 1 (classify 0 1 ∷ hide 0 ∷ [])
 
 unfoldable pub hidden2of3 : Graph
 hidden2of3 = graph 3 (hide 2 ∷ [])
@@ -105,6 +117,17 @@ tied3of4 = graph 4 (insert 1 2 ∷ insert 0 3 ∷ insert 2 3 ∷ hide 3 ∷ [])
 
 unfoldable pub equalKeys : Graph
 equalKeys = graph 22 (insert 20 0 ∷ insert 20 11 ∷ insert 21 8 ∷ insert 21 9 ∷ [])
+
+-- three nodes of classes 0, 1, 0: without edges, and each tied to each
+unfoldable pub classes010 : Graph
+classes010 = graph 3 (classify 1 1 ∷ [])
+
+unfoldable pub triangle010 : Graph
+triangle010 = batchGraph triangle (classify 1 1 ∷ [])
+
+-- 1 of the greatest class, tied to 0, 2 and 3; 3, of class 9, is hidden
+unfoldable pub hiddenClass : Graph
+hiddenClass = graph 4 (insert 0 1 ∷ insert 1 2 ∷ insert 1 3 ∷ classify 1 255 ∷ classify 3 9 ∷ hide 3 ∷ [])
 
 -- the bytes of a release, and the kinds of its groups
 abbrev size : Graph → ℕ
@@ -146,9 +169,18 @@ oneKept = keepCall 2 (tablesOf oneEdge) (openedStore 2) (name 255) .store
 unfoldable pub eightKept : List ℕ
 eightKept = storeOf 1 (map (λ b. kept (name b) (emptyGraph 1)) (nodes maxStates))
 
--- the answers to a sheet, in a buffer of their number
+-- a sheet applied, with a buffer for its answers: these, the node table it leaves, and the release of m bytes after it
+abbrev applied : ℕ → Tables → List ℕ → Applied
+applied n t xs = applyCall n t xs (replicate (updateCount xs) (pos 7))
+
 abbrev answersOn : ℕ → Tables → List ℕ → List ℤ
-answersOn n t xs = applyCall n t xs (replicate (updateCount xs) (pos 7)) .answers
+answersOn n t xs = applied n t xs .answers
+
+abbrev nodesAfter : ℕ → Tables → List ℕ → List ℕ
+nodesAfter n t xs = applied n t xs .tables .nodes
+
+abbrev releaseAfter : ℕ → ℕ → Tables → List ℕ → List ℕ
+releaseAfter m n t xs = releaseCall n (applied n t xs .tables) (replicate m 0) .out
 
 -- the distance of p and q, asked of a release
 abbrev distanceIn : Graph → ℕ → ℕ → ℕ
@@ -156,7 +188,25 @@ distanceIn g p q = fileDistanceCall (release g) p q .distance
 
 -- the tables of node 0 tied to itself
 unfoldable pub selfTied : Tables
-selfTied = tablesOf (record { nodeCount = 1; edge = λ p q. eqb p 0 && eqb q 0; hidden = λ p. false })
+selfTied = tablesOf (record { nodeCount = 1; edge = λ p q. eqb p 0 && eqb q 0; hidden = λ p. false; class = λ p. 0 })
+
+-- a row with one word of edges, and the tables of one node with a class
+abbrev row : ℕ → List ℕ
+row w = w ∷ replicate 7 0
+
+abbrev oneNode : ℕ → Tables
+oneNode class = record { edges = row 0; nodes = 0 ∷ 0 ∷ 0 ∷ 0 ∷ class ∷ []; keys = 0 ∷ 1 ∷ [] }
+
+-- the store for one node with one state, under a name of zeros, that has this word for the node
+abbrev oneState : ℕ → List ℕ
+oneState w = 2 ∷ 1 ∷ 0 ∷ 0 ∷ (row 0 ++ (w ∷ replicate 84 0))
+
+-- the files of `classes010` and of `hiddenClass`, with any class for 1, by its two bytes
+abbrev file010 : ℕ → ℕ → List ℕ
+file010 low high = 0x48 ∷ 0x44 ∷ 0x03 ∷ 0x00 ∷ 0x03 ∷ 0x00 ∷ 0x02 ∷ 0x00 ∷ 0x47 ∷ 0x49 ∷ 0x02 ∷ 0x00 ∷ 0x00 ∷ 0x00 ∷ 0x00 ∷ 0x00 ∷ 0x02 ∷ 0x00 ∷ 0x47 ∷ 0x49 ∷ 0x01 ∷ 0x00 ∷ low ∷ high ∷ 0x01 ∷ 0x00 ∷ 0x45 ∷ 0x4E ∷ []
+
+abbrev hiddenFile : ℕ → ℕ → List ℕ
+hiddenFile low high = 0x48 ∷ 0x44 ∷ 0x04 ∷ 0x00 ∷ 0x03 ∷ 0x00 ∷ 0x02 ∷ 0x00 ∷ 0x47 ∷ 0x49 ∷ 0x02 ∷ 0x00 ∷ 0x00 ∷ 0x00 ∷ 0x00 ∷ 0x00 ∷ 0x02 ∷ 0x00 ∷ 0x47 ∷ 0x49 ∷ 0x01 ∷ 0x00 ∷ low ∷ high ∷ 0x01 ∷ 0x00 ∷ 0x53 ∷ 0x45 ∷ 0x00 ∷ 0x00 ∷ 0x01 ∷ 0x00 ∷ 0x45 ∷ 0x4E ∷ []
 
 unfoldable pub examples : List Claim
 examples =
@@ -165,45 +215,45 @@ examples =
     -- 2. n 1
     ∷ groups (visibleGroups (emptyGraph 1)) ((0 ∷ []) ∷ [])
     ∷ kinds (kindsOf (emptyGraph 1)) (singleton ∷ [])
-    ∷ number (size (emptyGraph 1)) 16
+    ∷ number (size (emptyGraph 1)) 18
     -- 2. n 512 without ties
     ∷ groups (visibleGroups (emptyGraph 512)) (nodes 512 ∷ [])
-    ∷ number (size (emptyGraph 512)) 1038
+    ∷ number (size (emptyGraph 512)) 1040
     -- 3. n 2, tied
     ∷ groups (visibleGroups oneEdge) ((0 ∷ 1 ∷ []) ∷ [])
     ∷ kinds (kindsOf oneEdge) (clique ∷ [])
-    ∷ number (size oneEdge) 18
+    ∷ number (size oneEdge) 20
     -- 3. n 2, untied
     ∷ groups (visibleGroups (emptyGraph 2)) ((0 ∷ 1 ∷ []) ∷ [])
     ∷ kinds (kindsOf (emptyGraph 2)) (independent ∷ [])
-    ∷ number (size (emptyGraph 2)) 18
+    ∷ number (size (emptyGraph 2)) 20
     -- 4. path 0-1-2, and the keys of 1
     ∷ groups (visibleGroups path3) ((0 ∷ 2 ∷ []) ∷ (1 ∷ []) ∷ [])
     ∷ groups (officeGroups path3) ((0 ∷ 2 ∷ []) ∷ (1 ∷ []) ∷ [])
     ∷ number (superedgeCount path3) 1
-    ∷ number (size path3) 30
+    ∷ number (size path3) 34
     ∷ number (openKeyIn path3 1) 28
     ∷ number (closedKeyIn path3 1) 36
     -- 5. triangle
     ∷ groups (visibleGroups triangle) ((0 ∷ 1 ∷ 2 ∷ []) ∷ [])
     ∷ kinds (kindsOf triangle) (clique ∷ [])
-    ∷ number (size triangle) 20
+    ∷ number (size triangle) 22
     -- 6. path 0-1-2-3
     ∷ groups (visibleGroups path4) ((0 ∷ []) ∷ (1 ∷ []) ∷ (2 ∷ []) ∷ (3 ∷ []) ∷ [])
     ∷ kinds (kindsOf path4) (singleton ∷ singleton ∷ singleton ∷ singleton ∷ [])
-    ∷ number (size path4) 52
+    ∷ number (size path4) 60
     -- 7. each of 0, 1, 2 tied to each of 3, 4, 5
-    ∷ list (release threeByThree) (0x48 ∷ 0x44 ∷ 0x06 ∷ 0x00 ∷ 0x06 ∷ 0x00 ∷ 0x02 ∷ 0x00 ∷ 0x47 ∷ 0x49 ∷ 0x03 ∷ 0x00 ∷ 0x00 ∷ 0x00 ∷ 0x01 ∷ 0x00 ∷ 0x02 ∷ 0x00 ∷ 0x47 ∷ 0x49 ∷ 0x03 ∷ 0x00 ∷ 0x03 ∷ 0x00 ∷ 0x04 ∷ 0x00 ∷ 0x05 ∷ 0x00 ∷ 0x53 ∷ 0x45 ∷ 0x00 ∷ 0x00 ∷ 0x01 ∷ 0x00 ∷ 0x45 ∷ 0x4E ∷ [])
+    ∷ list (release threeByThree) (0x48 ∷ 0x44 ∷ 0x06 ∷ 0x00 ∷ 0x06 ∷ 0x00 ∷ 0x02 ∷ 0x00 ∷ 0x47 ∷ 0x49 ∷ 0x03 ∷ 0x00 ∷ 0x00 ∷ 0x00 ∷ 0x00 ∷ 0x00 ∷ 0x01 ∷ 0x00 ∷ 0x02 ∷ 0x00 ∷ 0x47 ∷ 0x49 ∷ 0x03 ∷ 0x00 ∷ 0x00 ∷ 0x00 ∷ 0x03 ∷ 0x00 ∷ 0x04 ∷ 0x00 ∷ 0x05 ∷ 0x00 ∷ 0x53 ∷ 0x45 ∷ 0x00 ∷ 0x00 ∷ 0x01 ∷ 0x00 ∷ 0x45 ∷ 0x4E ∷ [])
     -- 8. from 7, untie 0 3, then tie 0 3 again
     ∷ answers (answersOn 6 (tablesOf threeByThree) (1 ∷ 0 ∷ 3 ∷ 0 ∷ 1 ∷ 0 ∷ 3 ∷ 1 ∷ [])) (pos 2 ∷ negsuc 1 ∷ [])
     ∷ groups (visibleGroups deleted03) ((0 ∷ []) ∷ (1 ∷ 2 ∷ []) ∷ (3 ∷ []) ∷ (4 ∷ 5 ∷ []) ∷ [])
     ∷ groups (officeGroups deleted03) ((0 ∷ []) ∷ (1 ∷ 2 ∷ []) ∷ (3 ∷ []) ∷ (4 ∷ 5 ∷ []) ∷ [])
     ∷ number (superedgeCount deleted03) 3
-    ∷ number (size deleted03) 56
+    ∷ number (size deleted03) 64
     -- 9. from 7, withhold 3, then untie 0 3, which is refused; untied before 3 was withheld, it is the same release
-    ∷ number (size hidden3) 34
+    ∷ number (size hidden3) 38
     ∷ answers (answersOn 6 (tablesOf hidden3) (1 ∷ 0 ∷ 3 ∷ 0 ∷ [])) (pos 24 ∷ [])
-    ∷ number (size hidden3deleted03) 34
+    ∷ number (size hidden3deleted03) 38
     ∷ groups (visibleGroups hidden3deleted03) ((0 ∷ 1 ∷ 2 ∷ []) ∷ (4 ∷ 5 ∷ []) ∷ [])
     ∷ groups (officeGroups hidden3deleted03) ((0 ∷ 1 ∷ 2 ∷ []) ∷ (3 ∷ 4 ∷ 5 ∷ []) ∷ [])
     ∷ list (release deleted03hidden3) (release hidden3)
@@ -214,7 +264,7 @@ examples =
     ∷ test (similar (whole equalKeys) 20 21) false
     ∷ groups (officeGroups equalKeys) ((0 ∷ 11 ∷ []) ∷ (1 ∷ 2 ∷ 3 ∷ 4 ∷ 5 ∷ 6 ∷ 7 ∷ 10 ∷ 12 ∷ 13 ∷ 14 ∷ 15 ∷ 16 ∷ 17 ∷ 18 ∷ 19 ∷ []) ∷ (8 ∷ 9 ∷ []) ∷ (20 ∷ []) ∷ (21 ∷ []) ∷ [])
     ∷ number (length (visibleGroups equalKeys)) 5
-    ∷ number (size equalKeys) 86
+    ∷ number (size equalKeys) 96
     -- number 11: n 513
     ∷ number (openCall 513 (lent 513) (lentStore 513) .result) 11
     -- number 12: n 1, person 0 tied to 0
@@ -222,18 +272,23 @@ examples =
     ∷ number (neighboursCall 1 selfTied 0 (0 ∷ []) .result) 12
     ∷ number (tiedCall 1 selfTied 0 0 .result) 12
     ∷ number (groupCall 1 selfTied 0 .result) 12
-    ∷ number (releaseCall 1 selfTied (replicate 16 0) .result) 12
+    ∷ number (releaseCall 1 selfTied (replicate 18 0) .result) 12
+    -- number 12: n 1, a class above 255
+    ∷ number (releaseCall 1 (oneNode 256) (replicate 18 0) .result) 12
+    ∷ list (releaseCall 1 (oneNode 255) (replicate 18 0) .out) (0x48 ∷ 0x44 ∷ 0x01 ∷ 0x00 ∷ 0x01 ∷ 0x00 ∷ 0x01 ∷ 0x00 ∷ 0x47 ∷ 0x49 ∷ 0x01 ∷ 0x00 ∷ 0xFF ∷ 0x00 ∷ 0x00 ∷ 0x00 ∷ 0x45 ∷ 0x4E ∷ [])
     -- number 11: three numbers
     ∷ number (applyCall 3 (opened 3) (1 ∷ 0 ∷ 1 ∷ []) (pos 0 ∷ []) .result) 11
-    -- number 13: 5 0 1 1, and 3 0 0 1
-    ∷ answers (answersOn 3 (opened 3) (5 ∷ 0 ∷ 1 ∷ 1 ∷ 3 ∷ 0 ∷ 0 ∷ 1 ∷ [])) (pos 13 ∷ pos 13 ∷ [])
-    -- number 14: n 3: 1 0 3 1, 1 3 0 1 and 2 3 0 1
-    ∷ answers (answersOn 3 (opened 3) (1 ∷ 0 ∷ 3 ∷ 1 ∷ 1 ∷ 3 ∷ 0 ∷ 1 ∷ 2 ∷ 3 ∷ 0 ∷ 1 ∷ [])) (pos 14 ∷ pos 14 ∷ pos 14 ∷ [])
-    -- number 15: 1 2 2 1, 1 0 1 2, 2 0 3 1 and 2 0 0 2
+    -- number 13: 5 0 1 1, and 4 0 0 1
+    ∷ answers (answersOn 3 (opened 3) (5 ∷ 0 ∷ 1 ∷ 1 ∷ 4 ∷ 0 ∷ 0 ∷ 1 ∷ [])) (pos 13 ∷ pos 13 ∷ [])
+    -- number 14: n 3: 1 0 3 1, 1 3 0 1, 2 3 0 1 and 3 3 0 0
+    ∷ answers (answersOn 3 (opened 3) (1 ∷ 0 ∷ 3 ∷ 1 ∷ 1 ∷ 3 ∷ 0 ∷ 1 ∷ 2 ∷ 3 ∷ 0 ∷ 1 ∷ 3 ∷ 3 ∷ 0 ∷ 0 ∷ [])) (pos 14 ∷ pos 14 ∷ pos 14 ∷ pos 14 ∷ [])
+    -- number 15: 1 2 2 1, 1 0 1 2, 2 0 3 1 and 2 0 0 2; 3 0 256 0 and 3 0 1 1
     ∷ answers (answersOn 3 (opened 3) (1 ∷ 2 ∷ 2 ∷ 1 ∷ 1 ∷ 0 ∷ 1 ∷ 2 ∷ 2 ∷ 0 ∷ 3 ∷ 1 ∷ 2 ∷ 0 ∷ 0 ∷ 2 ∷ [])) (pos 15 ∷ pos 15 ∷ pos 15 ∷ pos 15 ∷ [])
-    -- number 16: 1 0 1 1 twice; 1 0 1 0 and 2 0 0 0 in a new bundle
+    ∷ answers (answersOn 3 (opened 3) (3 ∷ 0 ∷ 256 ∷ 0 ∷ 3 ∷ 0 ∷ 1 ∷ 1 ∷ [])) (pos 15 ∷ pos 15 ∷ [])
+    -- number 16: 1 0 1 1 twice; 1 0 1 0, 2 0 0 0 and 3 0 0 0 in a new bundle; 3 0 255 0 twice
     ∷ answers (answersOn 3 (opened 3) (1 ∷ 0 ∷ 1 ∷ 1 ∷ 1 ∷ 0 ∷ 1 ∷ 1 ∷ [])) (pos 1 ∷ pos 16 ∷ [])
-    ∷ answers (answersOn 3 (opened 3) (1 ∷ 0 ∷ 1 ∷ 0 ∷ 2 ∷ 0 ∷ 0 ∷ 0 ∷ [])) (pos 16 ∷ pos 16 ∷ [])
+    ∷ answers (answersOn 3 (opened 3) (1 ∷ 0 ∷ 1 ∷ 0 ∷ 2 ∷ 0 ∷ 0 ∷ 0 ∷ 3 ∷ 0 ∷ 0 ∷ 0 ∷ [])) (pos 16 ∷ pos 16 ∷ pos 16 ∷ [])
+    ∷ answers (answersOn 3 (opened 3) (3 ∷ 0 ∷ 255 ∷ 0 ∷ 3 ∷ 0 ∷ 255 ∷ 0 ∷ [])) (pos 1 ∷ pos 16 ∷ [])
     -- number 24: 1 withheld: 1 0 1 1 and 1 1 0 0; before it 1 1 3 1, 1 1 1 1 and 1 0 1 2; 2 1 0 1 and 2 1 0 0 as ever
     ∷ answers (answersOn 3 (opened 3) (2 ∷ 1 ∷ 0 ∷ 1 ∷ 1 ∷ 0 ∷ 1 ∷ 1 ∷ 1 ∷ 1 ∷ 0 ∷ 0 ∷ [])) (pos 0 ∷ pos 24 ∷ pos 24 ∷ [])
     ∷ answers (answersOn 3 (opened 3) (2 ∷ 1 ∷ 0 ∷ 1 ∷ 1 ∷ 1 ∷ 3 ∷ 1 ∷ 1 ∷ 1 ∷ 1 ∷ 1 ∷ 1 ∷ 0 ∷ 1 ∷ 2 ∷ [])) (pos 0 ∷ pos 14 ∷ pos 15 ∷ pos 15 ∷ [])
@@ -242,13 +297,20 @@ examples =
     ∷ list (release tied1of2) (release hidden1of2)
     ∷ answers (answersOn 2 (tablesOf hidden1of2) (2 ∷ 1 ∷ 0 ∷ 0 ∷ 1 ∷ 0 ∷ 1 ∷ 1 ∷ [])) (pos 0 ∷ pos 0 ∷ [])
     ∷ answers (answersOn 2 (tablesOf tied1of2) (2 ∷ 1 ∷ 0 ∷ 0 ∷ 1 ∷ 0 ∷ 1 ∷ 1 ∷ [])) (pos 0 ∷ pos 16 ∷ [])
-    -- accepted answers count groups of the whole bundle: 1 0 1 1 by itself
+    -- 16 tells the class of a withheld person: 3 0 1 0
+    ∷ list (release classed0of1) (release hidden0of1)
+    ∷ answers (answersOn 1 (tablesOf hidden0of1) (3 ∷ 0 ∷ 1 ∷ 0 ∷ [])) (pos 0 ∷ [])
+    ∷ answers (answersOn 1 (tablesOf classed0of1) (3 ∷ 0 ∷ 1 ∷ 0 ∷ [])) (pos 16 ∷ [])
+    -- accepted answers count groups of the whole bundle: 1 0 1 1 by itself, 3 0 1 0 by itself
     ∷ list (release tied2of3) (release hidden2of3)
     ∷ answers (answersOn 3 (tablesOf hidden2of3) (1 ∷ 0 ∷ 1 ∷ 1 ∷ [])) (pos 1 ∷ [])
     ∷ answers (answersOn 3 (tablesOf tied2of3) (1 ∷ 0 ∷ 1 ∷ 1 ∷ [])) (pos 0 ∷ [])
     ∷ list (release tied3of4) (release hidden3of4)
     ∷ answers (answersOn 4 (tablesOf hidden3of4) (1 ∷ 0 ∷ 1 ∷ 1 ∷ [])) (pos 2 ∷ [])
     ∷ answers (answersOn 4 (tablesOf tied3of4) (1 ∷ 0 ∷ 1 ∷ 1 ∷ [])) (negsuc 1 ∷ [])
+    ∷ list (release classed1of2) (release hidden1of2)
+    ∷ answers (answersOn 2 (tablesOf hidden1of2) (3 ∷ 0 ∷ 1 ∷ 0 ∷ [])) (pos 1 ∷ [])
+    ∷ answers (answersOn 2 (tablesOf classed1of2) (3 ∷ 0 ∷ 1 ∷ 0 ∷ [])) (negsuc 0 ∷ [])
     -- number 18: release of n 0 into 9 bytes
     ∷ number (releaseCall 0 (opened 0) (replicate 9 0) .result) 18
     -- number 19: empty file
@@ -289,6 +351,45 @@ examples =
     ∷ number (keepCall 2 (opened 2) oneKept (name 255) .result) 22
     ∷ number (keepCall 1 (opened 1) eightKept (name 7) .result) 22
     ∷ number (keepCall 1 (opened 1) eightKept (name 8) .result) 23
+    -- classes: three nodes without edges are one group, and two where 1 is of class 1; the file with class 0 for 1 could have fewer
+    ∷ groups (visibleGroups (emptyGraph 3)) ((0 ∷ 1 ∷ 2 ∷ []) ∷ [])
+    ∷ groups (visibleGroups classes010) ((0 ∷ 2 ∷ []) ∷ (1 ∷ []) ∷ [])
+    ∷ groups (officeGroups classes010) ((0 ∷ 2 ∷ []) ∷ (1 ∷ []) ∷ [])
+    ∷ list (release classes010) (file010 0x01 0x00)
+    ∷ number (readCall 3 (lent 3) (file010 0x01 0x00) .result) 0
+    ∷ number (readCall 3 (lent 3) (file010 0x00 0x00) .result) 19
+    -- a triangle: a clique and a lone group, joined
+    ∷ list (release triangle010) (0x48 ∷ 0x44 ∷ 0x03 ∷ 0x00 ∷ 0x03 ∷ 0x00 ∷ 0x02 ∷ 0x00 ∷ 0x47 ∷ 0x43 ∷ 0x02 ∷ 0x00 ∷ 0x00 ∷ 0x00 ∷ 0x00 ∷ 0x00 ∷ 0x02 ∷ 0x00 ∷ 0x47 ∷ 0x49 ∷ 0x01 ∷ 0x00 ∷ 0x01 ∷ 0x00 ∷ 0x01 ∷ 0x00 ∷ 0x53 ∷ 0x45 ∷ 0x00 ∷ 0x00 ∷ 0x01 ∷ 0x00 ∷ 0x45 ∷ 0x4E ∷ [])
+    -- from a new bundle, 3 1 1 0, 3 0 1 0, 3 2 1 0 and again 3 2 1 0: answers, the node table after one, two and three, the other tables
+    ∷ answers (answersOn 3 (opened 3) (3 ∷ 1 ∷ 1 ∷ 0 ∷ 3 ∷ 0 ∷ 1 ∷ 0 ∷ 3 ∷ 2 ∷ 1 ∷ 0 ∷ 3 ∷ 2 ∷ 1 ∷ 0 ∷ [])) (pos 1 ∷ pos 0 ∷ negsuc 0 ∷ pos 16 ∷ [])
+    ∷ list (nodesAfter 3 (opened 3) (3 ∷ 1 ∷ 1 ∷ 0 ∷ [])) (0 ∷ 2 ∷ 2 ∷ 0 ∷ 0 ∷ 1 ∷ 1 ∷ 1 ∷ 0 ∷ 1 ∷ 0 ∷ 0 ∷ 0 ∷ 0 ∷ 0 ∷ [])
+    ∷ list (nodesAfter 3 (opened 3) (3 ∷ 1 ∷ 1 ∷ 0 ∷ 3 ∷ 0 ∷ 1 ∷ 0 ∷ [])) (0 ∷ 1 ∷ 1 ∷ 0 ∷ 1 ∷ 0 ∷ 0 ∷ 0 ∷ 0 ∷ 1 ∷ 2 ∷ 2 ∷ 2 ∷ 0 ∷ 0 ∷ [])
+    ∷ list (nodesAfter 3 (opened 3) (3 ∷ 1 ∷ 1 ∷ 0 ∷ 3 ∷ 0 ∷ 1 ∷ 0 ∷ 3 ∷ 2 ∷ 1 ∷ 0 ∷ [])) (0 ∷ 1 ∷ 2 ∷ 0 ∷ 1 ∷ 0 ∷ 2 ∷ 0 ∷ 0 ∷ 1 ∷ 0 ∷ 0 ∷ 1 ∷ 0 ∷ 1 ∷ [])
+    ∷ list (applied 3 (opened 3) (3 ∷ 1 ∷ 1 ∷ 0 ∷ 3 ∷ 0 ∷ 1 ∷ 0 ∷ 3 ∷ 2 ∷ 1 ∷ 0 ∷ 3 ∷ 2 ∷ 1 ∷ 0 ∷ []) .tables .edges) (row 0 ++ (row 0 ++ row 0))
+    ∷ list (applied 3 (opened 3) (3 ∷ 1 ∷ 1 ∷ 0 ∷ 3 ∷ 0 ∷ 1 ∷ 0 ∷ 3 ∷ 2 ∷ 1 ∷ 0 ∷ 3 ∷ 2 ∷ 1 ∷ 0 ∷ []) .tables .keys) (0 ∷ 1 ∷ 0 ∷ 8 ∷ 0 ∷ 27 ∷ [])
+    -- 2 withheld, 3 2 1 0, 3 2 2 0 and 3 2 0 0: groups change, the release stays
+    ∷ answers (answersOn 3 (tablesOf hidden2of3) (3 ∷ 2 ∷ 1 ∷ 0 ∷ 3 ∷ 2 ∷ 2 ∷ 0 ∷ 3 ∷ 2 ∷ 0 ∷ 0 ∷ [])) (pos 1 ∷ pos 0 ∷ negsuc 0 ∷ [])
+    ∷ list (nodesAfter 3 (tablesOf hidden2of3) (3 ∷ 2 ∷ 1 ∷ 0 ∷ 3 ∷ 2 ∷ 2 ∷ 0 ∷ [])) (0 ∷ 1 ∷ 1 ∷ 0 ∷ 0 ∷ 0 ∷ 0 ∷ 0 ∷ 0 ∷ 0 ∷ 2 ∷ 2 ∷ 2 ∷ 1 ∷ 2 ∷ [])
+    ∷ list (release hidden2of3) (0x48 ∷ 0x44 ∷ 0x03 ∷ 0x00 ∷ 0x02 ∷ 0x00 ∷ 0x01 ∷ 0x00 ∷ 0x47 ∷ 0x49 ∷ 0x02 ∷ 0x00 ∷ 0x00 ∷ 0x00 ∷ 0x00 ∷ 0x00 ∷ 0x01 ∷ 0x00 ∷ 0x45 ∷ 0x4E ∷ [])
+    ∷ list (releaseAfter 20 3 (tablesOf hidden2of3) (3 ∷ 2 ∷ 1 ∷ 0 ∷ [])) (release hidden2of3)
+    ∷ list (releaseAfter 20 3 (tablesOf hidden2of3) (3 ∷ 2 ∷ 1 ∷ 0 ∷ 3 ∷ 2 ∷ 2 ∷ 0 ∷ [])) (release hidden2of3)
+    ∷ list (releaseAfter 20 3 (tablesOf hidden2of3) (3 ∷ 2 ∷ 1 ∷ 0 ∷ 3 ∷ 2 ∷ 2 ∷ 0 ∷ 3 ∷ 2 ∷ 0 ∷ 0 ∷ [])) (release hidden2of3)
+    -- a release read back: 3, which is missing, is withheld, without ties and of class 0
+    ∷ list (release hiddenClass) (hiddenFile 0xFF 0x00)
+    ∷ list (readCall 4 (lent 4) (hiddenFile 0xFF 0x00) .tables .edges) (row 2 ++ (row 5 ++ (row 2 ++ row 0)))
+    ∷ list (readCall 4 (lent 4) (hiddenFile 0xFF 0x00) .tables .nodes) (0 ∷ 2 ∷ 2 ∷ 0 ∷ 0 ∷ 1 ∷ 1 ∷ 1 ∷ 0 ∷ 255 ∷ 0 ∷ 0 ∷ 0 ∷ 0 ∷ 0 ∷ 3 ∷ 3 ∷ 3 ∷ 1 ∷ 0 ∷ [])
+    ∷ list (readCall 4 (lent 4) (hiddenFile 0xFF 0x00) .tables .keys) (8 ∷ 9 ∷ 28 ∷ 36 ∷ 8 ∷ 35 ∷ 0 ∷ 64 ∷ [])
+    -- the same bytes with class 256 are no release
+    ∷ number (readCall 4 (lent 4) (hiddenFile 0x00 0x01) .result) 19
+    ∷ number (fileNeighboursCall (hiddenFile 0x00 0x01) 0 [] .result) 19
+    ∷ number (fileDistanceCall (hiddenFile 0x00 0x01) 0 1 .result) 19
+    -- a state keeps classes: a word below 2 is of class 0, one above 511 of no state
+    ∷ list (keepCall 1 (oneNode 255) (openedStore 1) (name 0) .store) (oneState 510)
+    ∷ list (restoreCall 1 (opened 1) (oneState 511) (name 0) .tables .nodes) (0 ∷ 0 ∷ 0 ∷ 1 ∷ 255 ∷ [])
+    ∷ list (restoreCall 1 (opened 1) (oneState 1) (name 0) .tables .nodes) (0 ∷ 0 ∷ 0 ∷ 1 ∷ 0 ∷ [])
+    ∷ number (keepCall 1 (opened 1) (oneState 512) (name 1) .result) 12
+    ∷ number (restoreCall 1 (opened 1) (oneState 512) (name 0) .result) 12
+    ∷ number (dropCall 1 (oneState 512) (name 0) .result) 12
     -- the program
     ∷ list (program (text "3\nt 0 1\nt 1 2\nw 0\n")) (text "change 1: 1\nchange 2: 0\nchange 3: 0\nopen 2 groups 1 joins 0\nC 1 2\n")
     ∷ list (program (text "2\nt 0 1\nu 0 1\nw 0\no 0\no 0\n")) (text "change 1: 0\nchange 2: 0\nchange 3: 0\nchange 4: 0\nchange 5: 16\nopen 2 groups 1 joins 0\nI 0 1\n")

@@ -1,6 +1,6 @@
 -- Laws of chains: what a walk over one finds, and a leader put in.
 use mathlib.Core.Path.{_≡_, refl, sym, ap, ap₂, _∙_}
-use mathlib.Core.Bool.{Bool, true, false, xor, cond}
+use mathlib.Core.Bool.{Bool, true, false, _&&_, and-false, xor, cond}
 use mathlib.Core.List.{List}
 use mathlib.Core.Logic.{_⊎_, inl, inr}
 use Prim.Native.Nat.{ℕ, suc, _+_, _*_, _-_, _^_, _≤_, _<_}
@@ -12,7 +12,7 @@ use lib.Pow.{pow-pos}
 use lib.Seq.{getD-set-other, getD-set-same}
 use borrow.Author.Tests.{eqb-false, eqb-true, eq-eqb, ltb-true, ltb-false, ne-eqb}
 use Rattle.model.specs.Tables.{bitAt}
-use Rattle.model.specs.TestLaws.{decide, differ}
+use Rattle.model.specs.TestLaws.{and-fst, and-snd, and-true, decide, differ}
 use Rattle.buffers.specs.FilledLaws.{getD-zeros}
 use Rattle.search.specs.Search.{ownBit, ownBits, rowIn}
 use Rattle.rows.specs.Rows.{Words}
@@ -20,7 +20,7 @@ use Rattle.rows.specs.BitLaws.{bit-xor, bit-zero}
 use Rattle.search.specs.TwinRowLaws.{own-bit, own-bit-lt, own-bits, words-eq, xor-swap}
 use Rattle.search.specs.SearchLaws.{meets-all, meets-differ, meets-words, row-length, row-part}
 use Rattle.compressed.specs.Compressed.{alike}
-use Rattle.grouping.specs.Chains.{Chains, Entered, Links, Met, rotated, rowSlot, rowWord, slotFor, unrotated}
+use Rattle.grouping.specs.Chains.{Chains, Entered, Links, Met, SlotsTell, classAlike, classedSlot, rotated, rowSlot, rowWord, slotFor, slotInClass, unrotated}
 use Rattle.grouping.specs.HashLaws.{hash-same}
 
 -- rows that agree have one slot
@@ -65,19 +65,44 @@ module _ (edges : List ℕ) (fit : Words edges) (closed : Bool) (u q : ℕ) wher
       words : (w : ℕ) → w < 8 → rowWord edges closed q w ≡ rowWord edges closed u w
       words w l = word-same w (meets-words closed u q edges h w l)
 
+-- a slot moved by a class
+moved-lt : (s class : ℕ) → slotInClass s class < 1024
+unfolding slotInClass
+moved-lt s class = omega arith
+
+pub moved-small : (s class : ℕ) {r : ℕ} → r ≡ slotInClass s class → r < 1024
+moved-small s class e = omega (arith, moved-lt s class)
+
+-- where rows that agree have one slot, so have those of one class, moved by it
+pub classed-tell : (edges classes : List ℕ) (slot : Bool → ℕ → ℕ) {u : ℕ} → ((closed : Bool) (q : ℕ) → q < u → alike edges closed u q ≡ true → slot closed q ≡ slot closed u) → SlotsTell edges classes (classedSlot classes slot) u
+unfolding classedSlot classAlike
+classed-tell edges classes slot {u} h = record {
+  small = λ closed q. moved-lt (slot closed q) (getD classes q 0);
+  same = λ closed q l t. ap₂ slotInClass (h closed q l (and-snd (eqb (getD classes u 0) (getD classes q 0)) (alike edges closed u q) t)) (sym (eqb-true (getD classes u 0) (getD classes q 0) (and-fst (eqb (getD classes u 0) (getD classes q 0)) (alike edges closed u q) t)));
+}
+
+pub classed-slot : (classes : List ℕ) (slot : Bool → ℕ → ℕ) (closed : Bool) (u : ℕ) {s r : ℕ} → s ≡ slot closed u → r ≡ slotInClass s (getD classes u 0) → r ≡ classedSlot classes slot closed u
+unfolding classedSlot
+classed-slot classes slot closed u es e = e ∙ ap (λ (x : ℕ). slotInClass x (getD classes u 0)) es
+
 -- a row has eight words
 pub row-size : (edges : List ℕ) (u : ℕ) {row : List ℕ} → row ≡ rowIn edges u → 8 * u + 8 ≤ length edges → length row ≡ 8
 row-size edges u e h = ap length (e ∙ sym (row-part edges u)) ∙ row-length edges u h
 
--- at a row that was lent as a part
-module _ (edges : List ℕ) (closed : Bool) (u q : ℕ) {row : List ℕ} (mine : row ≡ rowIn edges u) where
-  pub alike-differs : (i own : ℕ) → i < 8 → own ≡ ownBits closed u q i → (bitXor (getD row i 0) (getD (take (8 * q + 8 - 8 * q) (drop (8 * q) edges)) i 0) ≡ own → ⊥) → alike edges closed u q ≡ false
-  unfolding alike
-  alike-differs i own l e d = rw (← mine) (meets-differ closed u q row (rowIn edges q) i own l e (λ h. d (rw row-part h)))
+-- at a node of another class, or at a row that was lent as a part
+module _ (edges classes : List ℕ) (closed : Bool) (u q : ℕ) where
+  pub class-differs : (getD classes q 0 ≡ getD classes u 0 → ⊥) → classAlike edges classes closed u q ≡ false
+  unfolding classAlike
+  class-differs d = rw (ne-eqb (getD classes u 0) (getD classes q 0) (λ e. d (sym e)))
 
-  pub alike-agrees : ((k : ℕ) → k < 8 → bitXor (getD row k 0) (getD (take (8 * q + 8 - 8 * q) (drop (8 * q) edges)) k 0) ≡ ownBits closed u q k) → alike edges closed u q ≡ true
-  unfolding alike
-  alike-agrees h = rw (← mine) (meets-all closed u q row (rowIn edges q) 8 (λ k l. rw row-part at (h k l)))
+  module _ {row : List ℕ} (mine : row ≡ rowIn edges u) where
+    pub alike-differs : (i own : ℕ) → i < 8 → own ≡ ownBits closed u q i → (bitXor (getD row i 0) (getD (take (8 * q + 8 - 8 * q) (drop (8 * q) edges)) i 0) ≡ own → ⊥) → classAlike edges classes closed u q ≡ false
+    unfolding classAlike alike
+    alike-differs i own l e d = ap (λ (b : Bool). eqb (getD classes u 0) (getD classes q 0) && b) (rw (← mine) (meets-differ closed u q row (rowIn edges q) i own l e (λ h. d (rw row-part h)))) ∙ and-false (eqb (getD classes u 0) (getD classes q 0))
+
+    pub alike-agrees : getD classes q 0 ≡ getD classes u 0 → ((k : ℕ) → k < 8 → bitXor (getD row k 0) (getD (take (8 * q + 8 - 8 * q) (drop (8 * q) edges)) k 0) ≡ ownBits closed u q k) → classAlike edges classes closed u q ≡ true
+    unfolding classAlike alike
+    alike-agrees e h = and-true (eq-eqb (getD classes u 0) (getD classes q 0) (sym e)) (rw (← mine) (meets-all closed u q row (rowIn edges q) 8 (λ k l. rw row-part at (h k l))))
 
 -- a chain goes down
 pub links-less : {u : ℕ} {t : List ℕ} {c c′ : ℕ} → Links u t → (c ≡ 0 → ⊥) → c ≤ 512 → c′ ≡ getD t (1024 + (c - 1)) 0 → c′ < c

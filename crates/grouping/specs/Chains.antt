@@ -1,13 +1,13 @@
 -- Leaders chained by a hash of their rows: rows of twins have one slot.
 use mathlib.Core.Path.{_≡_}
-use mathlib.Core.Bool.{Bool, true, false, cond}
+use mathlib.Core.Bool.{Bool, true, false, _&&_, cond}
 use mathlib.Core.List.{List}
 use Prim.Native.Nat.{ℕ, zero, suc, _+_, _*_, _-_, _/_, _%_, _^_, _≤_, _<_}
 use lib.Bits.{bitXor}
 use lib.Dec.{eqb}
 use lib.ListN.{length, getD}
 use Rattle.model.specs.Graph.{maxNodes, rowWords}
-use Rattle.model.specs.Tables.{markedGraph}
+use Rattle.masking.specs.Masking.{drawn}
 use Rattle.search.specs.Search.{ownBit}
 use Rattle.compressed.specs.Compressed.{alike}
 use Rattle.grouping.specs.Least.{leading}
@@ -46,6 +46,17 @@ slotFor h k = slotIn (bitXor (bitXor h (k / 2 ^ 5)) (k / 2 ^ 23))
 unfoldable pub rowSlot : List ℕ → Bool → ℕ → ℕ
 rowSlot edges closed p = slotFor (hashOf rotated edges closed p rowWords) (hashOf unrotated edges closed p rowWords)
 
+-- a slot moved by a class, and the slot of a row moved by the class of its node
+unfoldable pub slotInClass : ℕ → ℕ → ℕ
+slotInClass s class = (s + 167 * class) % slots
+
+unfoldable pub classedSlot : List ℕ → (Bool → ℕ → ℕ) → Bool → ℕ → ℕ
+classedSlot classes slot closed q = slotInClass (slot closed q) (getD classes q 0)
+
+-- u and q have one class, and their rows agree
+unfoldable pub classAlike : List ℕ → List ℕ → Bool → ℕ → ℕ → Bool
+classAlike edges classes closed u q = eqb (getD classes u 0) (getD classes q 0) && alike edges closed u q
+
 -- a table of chains, of nodes counted from 1: for each slot the last node, and for each node the one before it in its slot
 pub record Links (u : ℕ) (t : List ℕ) : Type 0 where
   pub size : length t ≡ slots + maxNodes
@@ -69,14 +80,14 @@ pub record Entered (u s l : ℕ) (t after : List ℕ) : Type 0 where
   pub links : Links (u + 1) after
   pub chains : (slot : ℕ → ℕ) (leads : ℕ → Bool) → ((q : ℕ) → slot q < slots) → slot u ≡ s → leads u ≡ eqb l u → Chains slot leads u t → Chains slot leads (u + 1) after
 
--- slots that tell rows apart: rows that agree with u's have its slot
-pub record SlotsTell (edges : List ℕ) (slot : Bool → ℕ → ℕ) (u : ℕ) : Type 0 where
+-- slots that tell rows apart: rows of u's class that agree with u's have its slot
+pub record SlotsTell (edges classes : List ℕ) (slot : Bool → ℕ → ℕ) (u : ℕ) : Type 0 where
   pub small : (closed : Bool) (q : ℕ) → slot closed q < slots
-  pub same : (closed : Bool) (q : ℕ) → q < u → alike edges closed u q ≡ true → slot closed q ≡ slot closed u
+  pub same : (closed : Bool) (q : ℕ) → q < u → classAlike edges classes closed u q ≡ true → slot closed q ≡ slot closed u
 
 -- the chains of open and of closed rows, by their slots
-pub record Sought (slot : Bool → ℕ → ℕ) (n : ℕ) (edges marks : List ℕ) (u : ℕ) (opens closeds : List ℕ) : Type 0 where
+pub record Sought (slot : Bool → ℕ → ℕ) (n : ℕ) (edges marks classes : List ℕ) (u : ℕ) (opens closeds : List ℕ) : Type 0 where
   pub open-links : Links u opens
   pub closed-links : Links u closeds
-  pub open-chains : Chains (slot false) (leading (markedGraph n edges marks)) u opens
-  pub closed-chains : Chains (slot true) (leading (markedGraph n edges marks)) u closeds
+  pub open-chains : Chains (slot false) (leading (drawn n edges marks classes)) u opens
+  pub closed-chains : Chains (slot true) (leading (drawn n edges marks classes)) u closeds

@@ -119,3 +119,6 @@ slot-in-lt y = omega arith
 pub slot-lt : (edges : List ℕ) (closed : Bool) (p : ℕ) → rowSlot edges closed p < 1024
 unfolding rowSlot slotFor
 slot-lt edges closed p = slot-in-lt (bitXor (bitXor (hashOf rotated edges closed p 8) (hashOf unrotated edges closed p 8 / 2 ^ 5)) (hashOf unrotated edges closed p 8 / 2 ^ 23))
+
+pub small-slot : (edges : List ℕ) (closed : Bool) (p : ℕ) {s : ℕ} → s ≡ rowSlot edges closed p → s < 1024
+small-slot edges closed p e = omega (arith, slot-lt edges closed p)

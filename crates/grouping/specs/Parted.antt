@@ -11,8 +11,8 @@ use Rattle.compressed.specs.Compressed.{clique, independent, merges}
 use Rattle.grouping.specs.Chains.{Chains, Links, slots}
 
 -- the group that u leads, if it leads one, could be one with none before it
-unfoldable pub apartAt : List ℕ → List ℕ → List ℕ → ℕ → Bool
-apartAt least kinds joined u = not (leads least u) || all (nodes u) (λ q. not (leads least q && merges kinds joined u q))
+unfoldable pub apartAt : List ℕ → List ℕ → List ℕ → List ℕ → ℕ → Bool
+apartAt least kinds classes joined u = not (leads least u) || all (nodes u) (λ q. not (leads least q && merges kinds classes joined u q))
 
 -- a group's kind lets it be one with another by open rows, or by closed ones
 unfoldable pub candidate : List ℕ → Bool → ℕ → Bool

@@ -14,7 +14,7 @@ use Rattle.model.specs.ListLaws.{all-intro, nodes-out}
 use Rattle.buffers.specs.AllLaws.{all-fail, all-pass, failed}
 use Rattle.rows.specs.Rows.{leads}
 use Rattle.compressed.specs.Compressed.{alike, apart, merges}
-use Rattle.grouping.specs.Chains.{Chains, Entered, Links, Met, SlotsTell}
+use Rattle.grouping.specs.Chains.{Chains, Entered, Links, Met, SlotsTell, classAlike}
 use Rattle.grouping.specs.ChainLaws.{chains-keep, chains-none, links-keep}
 use Rattle.grouping.specs.Parted.{New, Parted, apartAt, candidate, chained}
 
@@ -48,25 +48,35 @@ module _ {twin : ℕ → Bool} {a : Bool} {u s : ℕ} {t : List ℕ} (y : not a 
   }
 
 -- who could be one with u's group
-module _ (kinds joined : List ℕ) (u q : ℕ) where
-  merges-by : (closed : Bool) → candidate kinds closed u ≡ true → candidate kinds closed q ≡ true → alike joined closed u q ≡ true → merges kinds joined u q ≡ true
-  unfolding merges candidate
-  merges-by true a b h = or-right (not (eqb (getD kinds u 0) 2) && (not (eqb (getD kinds q 0) 2) && alike joined false u q)) (and-true a (and-true b h))
-  merges-by false a b h = or-left (not (eqb (getD kinds u 0) 1) && (not (eqb (getD kinds q 0) 1) && alike joined true u q)) (and-true a (and-true b h))
+module _ (kinds classes joined : List ℕ) (u q : ℕ) where
+  abbrev sameClass : Bool
+  sameClass = eqb (getD classes u 0) (getD classes q 0)
+
+  -- by open rows, or by closed ones
+  abbrev byOpen : Bool
+  byOpen = not (eqb (getD kinds u 0) 2) && (not (eqb (getD kinds q 0) 2) && alike joined false u q)
+
+  abbrev byClosed : Bool
+  byClosed = not (eqb (getD kinds u 0) 1) && (not (eqb (getD kinds q 0) 1) && alike joined true u q)
+
+  merges-by : (closed : Bool) → candidate kinds closed u ≡ true → candidate kinds closed q ≡ true → classAlike joined classes closed u q ≡ true → merges kinds classes joined u q ≡ true
+  unfolding merges candidate classAlike
+  merges-by true a b h = and-true (and-fst sameClass (alike joined true u q) h) (or-right byOpen (and-true a (and-true b (and-snd sameClass (alike joined true u q) h))))
+  merges-by false a b h = and-true (and-fst sameClass (alike joined false u q) h) (or-left byClosed (and-true a (and-true b (and-snd sameClass (alike joined false u q) h))))
 
   abbrev Merging : Bool → Type 0
-  Merging closed = (candidate kinds closed u ≡ true) × (candidate kinds closed q ≡ true) × (alike joined closed u q ≡ true)
+  Merging closed = (candidate kinds closed u ≡ true) × (candidate kinds closed q ≡ true) × (classAlike joined classes closed u q ≡ true)
 
   three : (a b c : Bool) → (a && (b && c)) ≡ true → (a ≡ true) × (b ≡ true) × (c ≡ true)
   three a b c h = let k = and-snd a (b && c) h in (and-fst a (b && c) h, and-fst b c k, and-snd b c k)
 
-  merges-cases : merges kinds joined u q ≡ true → Merging false ⊎ Merging true
-  unfolding merges candidate
-  merges-cases h = step (or-cases (not (eqb (getD kinds u 0) 2) && (not (eqb (getD kinds q 0) 2) && alike joined false u q)) (not (eqb (getD kinds u 0) 1) && (not (eqb (getD kinds q 0) 1) && alike joined true u q)) h)
+  merges-cases : merges kinds classes joined u q ≡ true → Merging false ⊎ Merging true
+  unfolding merges candidate classAlike
+  merges-cases h = step (and-fst sameClass _ h) (or-cases byOpen byClosed (and-snd sameClass _ h))
     where
-      step : ((not (eqb (getD kinds u 0) 2) && (not (eqb (getD kinds q 0) 2) && alike joined false u q)) ≡ true) ⊎ ((not (eqb (getD kinds u 0) 1) && (not (eqb (getD kinds q 0) 1) && alike joined true u q)) ≡ true) → Merging false ⊎ Merging true
-      step (inl k) = inl (three (not (eqb (getD kinds u 0) 2)) (not (eqb (getD kinds q 0) 2)) (alike joined false u q) k)
-      step (inr k) = inr (three (not (eqb (getD kinds u 0) 1)) (not (eqb (getD kinds q 0) 1)) (alike joined true u q) k)
+      step : eqb (getD classes u 0) (getD classes q 0) ≡ true → (byOpen ≡ true) ⊎ (byClosed ≡ true) → Merging false ⊎ Merging true
+      step e (inl k) = let t = three (not (eqb (getD kinds u 0) 2)) (not (eqb (getD kinds q 0) 2)) (alike joined false u q) k in inl (t .0, t .1, and-true e (t .2))
+      step e (inr k) = let t = three (not (eqb (getD kinds u 0) 1)) (not (eqb (getD kinds q 0) 1)) (alike joined true u q) k in inr (t .0, t .1, and-true e (t .2))
 
 -- u leads no group
 module _ {slot : Bool → ℕ → ℕ} {least kinds : List ℕ} {u : ℕ} where
@@ -81,8 +91,8 @@ module _ {slot : Bool → ℕ → ℕ} {least kinds : List ℕ} {u : ℕ} where
       out : (closed : Bool) → chained least kinds closed u ≡ false
       out closed = unfold chained leads in rw (ne-eqb (getD least u 0) u (λ z. d (e ∙ z)))
 
-module _ (least kinds joined : List ℕ) (u : ℕ) where
-  pub apart-member : {x : ℕ} → x ≡ getD least u 0 → (x ≡ u → ⊥) → true ≡ apartAt least kinds joined u
+module _ (least kinds classes joined : List ℕ) (u : ℕ) where
+  pub apart-member : {x : ℕ} → x ≡ getD least u 0 → (x ≡ u → ⊥) → true ≡ apartAt least kinds classes joined u
   unfolding apartAt leads
   apart-member e d = rw (ne-eqb (getD least u 0) u (λ z. d (e ∙ z)))
 
@@ -97,26 +107,26 @@ module _ (least kinds joined : List ℕ) (u : ℕ) where
     chained-is closed = rw leading
 
     -- a leader before u that could be one with it
-    found : (q : ℕ) → q < u → leads least q ≡ true → merges kinds joined u q ≡ true → apartAt least kinds joined u ≡ false
+    found : (q : ℕ) → q < u → leads least q ≡ true → merges kinds classes joined u q ≡ true → apartAt least kinds classes joined u ≡ false
     unfolding apartAt
-    found q l a m = rw leading (sym (all-fail (λ (p : ℕ). not (leads least p && merges kinds joined u p)) u q l (ap not (and-true a m))))
+    found q l a m = rw leading (sym (all-fail (λ (p : ℕ). not (leads least p && merges kinds classes joined u p)) u q l (ap not (and-true a m))))
 
     -- the chains of open or of closed rows
-    module _ (closed : Bool) {t after : List ℕ} {s : ℕ} {a r : Bool} (k : Chains (slot closed) (chained least kinds closed) u t) (es : s ≡ slot closed u) (ea : candidate kinds closed u ≡ a) (w : New (alike joined closed u) a u s t after r) where
-      hit-apart : r ≡ false → apartAt least kinds joined u ≡ false
+    module _ (closed : Bool) {t after : List ℕ} {s : ℕ} {a r : Bool} (k : Chains (slot closed) (chained least kinds closed) u t) (es : s ≡ slot closed u) (ea : candidate kinds closed u ≡ a) (w : New (classAlike joined classes closed u) a u s t after r) where
+      hit-apart : r ≡ false → apartAt least kinds classes joined u ≡ false
       hit-apart f =
           let i = w .hit f in
           let h = i .1 (slot closed) (chained least kinds closed) (sym es) k in
           let c = both (h .0) (h .2) in
-          found (h .0) (h .1) (c .0) (merges-by kinds joined u (h .0) closed (ea ∙ i .0) (c .1) (h .3))
+          found (h .0) (h .1) (c .0) (merges-by kinds classes joined u (h .0) closed (ea ∙ i .0) (c .1) (h .3))
         where
           both : (q : ℕ) → chained least kinds closed q ≡ true → (leads least q ≡ true) × (candidate kinds closed q ≡ true)
           both q c = unfold chained in (and-fst (leads least q) (candidate kinds closed q) c, and-snd (leads least q) (candidate kinds closed q) c)
 
-      miss-apart : SlotsTell joined slot u → r ≡ true → (q : ℕ) → q < u → leads least q ≡ true → candidate kinds closed u ≡ true → candidate kinds closed q ≡ true → alike joined closed u q ≡ false
-      miss-apart told e q l h cu cq = step (decide (alike joined closed u q))
+      miss-apart : SlotsTell joined classes slot u → r ≡ true → (q : ℕ) → q < u → leads least q ≡ true → candidate kinds closed u ≡ true → candidate kinds closed q ≡ true → classAlike joined classes closed u q ≡ false
+      miss-apart told e q l h cu cq = step (decide (classAlike joined classes closed u q))
         where
-          step : (alike joined closed u q ≡ true) ⊎ (alike joined closed u q ≡ false) → alike joined closed u q ≡ false
+          step : (classAlike joined classes closed u q ≡ true) ⊎ (classAlike joined classes closed u q ≡ false) → classAlike joined classes closed u q ≡ false
           step (inl y) = w .miss e (sym ea ∙ cu) (slot closed) (chained least kinds closed) (sym es) k q l (unfold chained in and-true h cq) (told .same closed q l y)
           step (inr y) = y
 
@@ -131,33 +141,33 @@ module _ (least kinds joined : List ℕ) (u : ℕ) where
     unfolding candidate
     closed-candidate = refl
 
-    module _ {opens closeds opens₁ : List ℕ} {s : ℕ} {r : Bool} (h : Parted slot least kinds u opens closeds) (es : s ≡ slot false u) (w : New (alike joined false u) (not (eqb (getD kinds u 0) 2)) u s opens opens₁ r) where
-      pub apart-refuted : not r ≡ true → false ≡ apartAt least kinds joined u
+    module _ {opens closeds opens₁ : List ℕ} {s : ℕ} {r : Bool} (h : Parted slot least kinds u opens closeds) (es : s ≡ slot false u) (w : New (classAlike joined classes false u) (not (eqb (getD kinds u 0) 2)) u s opens opens₁ r) where
+      pub apart-refuted : not r ≡ true → false ≡ apartAt least kinds classes joined u
       apart-refuted n = sym (hit-apart false (h .open-chains) es open-candidate w (not-true r n))
 
-      module _ (n : not r ≡ false) {closeds₁ : List ℕ} {s′ : ℕ} {r′ : Bool} (es′ : s′ ≡ slot true u) (w′ : New (alike joined true u) (not (eqb (getD kinds u 0) 1)) u s′ closeds closeds₁ r′) where
-        pub apart-told : SlotsTell joined slot u → r′ ≡ apartAt least kinds joined u
+      module _ (n : not r ≡ false) {closeds₁ : List ℕ} {s′ : ℕ} {r′ : Bool} (es′ : s′ ≡ slot true u) (w′ : New (classAlike joined classes true u) (not (eqb (getD kinds u 0) 1)) u s′ closeds closeds₁ r′) where
+        pub apart-told : SlotsTell joined classes slot u → r′ ≡ apartAt least kinds classes joined u
         apart-told told = step (decide r′)
           where
-            each : r′ ≡ true → (q : ℕ) → q < u → leads least q ≡ true → merges kinds joined u q ≡ true → merges kinds joined u q ≡ false
-            each e q l b m = clash (merges-cases kinds joined u q m)
+            each : r′ ≡ true → (q : ℕ) → q < u → leads least q ≡ true → merges kinds classes joined u q ≡ true → merges kinds classes joined u q ≡ false
+            each e q l b m = clash (merges-cases kinds classes joined u q m)
               where
-                clash : Merging kinds joined u q false ⊎ Merging kinds joined u q true → merges kinds joined u q ≡ false
+                clash : Merging kinds classes joined u q false ⊎ Merging kinds classes joined u q true → merges kinds classes joined u q ≡ false
                 clash (inl c) = differ (c .2) (miss-apart false (h .open-chains) es open-candidate w told (not-false r n) q l b (c .0) (c .1))
                 clash (inr c) = differ (c .2) (miss-apart true (h .closed-chains) es′ closed-candidate w′ told e q l b (c .0) (c .1))
 
-            none : r′ ≡ true → (q : ℕ) → q < u → (leads least q && merges kinds joined u q) ≡ false
-            none e q l = at (decide (leads least q && merges kinds joined u q))
+            none : r′ ≡ true → (q : ℕ) → q < u → (leads least q && merges kinds classes joined u q) ≡ false
+            none e q l = at (decide (leads least q && merges kinds classes joined u q))
               where
-                at : ((leads least q && merges kinds joined u q) ≡ true) ⊎ ((leads least q && merges kinds joined u q) ≡ false) → (leads least q && merges kinds joined u q) ≡ false
-                at (inl y) = let m = and-snd (leads least q) (merges kinds joined u q) y in differ m (each e q l (and-fst (leads least q) (merges kinds joined u q) y) m)
+                at : ((leads least q && merges kinds classes joined u q) ≡ true) ⊎ ((leads least q && merges kinds classes joined u q) ≡ false) → (leads least q && merges kinds classes joined u q) ≡ false
+                at (inl y) = let m = and-snd (leads least q) (merges kinds classes joined u q) y in differ m (each e q l (and-fst (leads least q) (merges kinds classes joined u q) y) m)
                 at (inr y) = y
 
-            step : (r′ ≡ true) ⊎ (r′ ≡ false) → r′ ≡ apartAt least kinds joined u
-            step (inl e) = e ∙ sym (unfold apartAt in rw leading (all-intro (nodes u) (λ (p : ℕ). not (leads least p && merges kinds joined u p)) (λ q m. ap not (none e q (nodes-out u q m)))))
+            step : (r′ ≡ true) ⊎ (r′ ≡ false) → r′ ≡ apartAt least kinds classes joined u
+            step (inl e) = e ∙ sym (unfold apartAt in rw leading (all-intro (nodes u) (λ (p : ℕ). not (leads least p && merges kinds classes joined u p)) (λ q m. ap not (none e q (nodes-out u q m)))))
             step (inr e) = e ∙ sym (hit-apart true (h .closed-chains) es′ closed-candidate w′ e)
 
-        pub parted-leader : SlotsTell joined slot u → r′ ≡ true → Parted slot least kinds (u + 1) opens₁ closeds₁
+        pub parted-leader : SlotsTell joined classes slot u → r′ ≡ true → Parted slot least kinds (u + 1) opens₁ closeds₁
         parted-leader told e = record {
           open-links = w .links (not-false r n);
           closed-links = w′ .links e;
@@ -174,11 +184,11 @@ parted-none slot least kinds x y = record {
 }
 
 -- all groups, or up to one that is not apart
-module _ (n : ℕ) (least kinds joined : List ℕ) where
-  pub all-apart : {u : ℕ} → ((q : ℕ) → q < u → apartAt least kinds joined q ≡ true) → n ≤ u → true ≡ apart n least kinds joined
+module _ (n : ℕ) (least kinds classes joined : List ℕ) where
+  pub all-apart : {u : ℕ} → ((q : ℕ) → q < u → apartAt least kinds classes joined q ≡ true) → n ≤ u → true ≡ apart n least kinds classes joined
   unfolding apart apartAt
-  all-apart {u} h l = all-pass (apartAt least kinds joined) n u l h
+  all-apart {u} h l = all-pass (apartAt least kinds classes joined) n u l h
 
-  pub one-merges : {u : ℕ} {b : Bool} → u < n → b ≡ apartAt least kinds joined u → not b ≡ true → false ≡ apart n least kinds joined
+  pub one-merges : {u : ℕ} {b : Bool} → u < n → b ≡ apartAt least kinds classes joined u → not b ≡ true → false ≡ apart n least kinds classes joined
   unfolding apart apartAt
-  one-merges {u} l e f = all-fail (apartAt least kinds joined) n u l (failed e f)
+  one-merges {u} l e f = all-fail (apartAt least kinds classes joined) n u l (failed e f)

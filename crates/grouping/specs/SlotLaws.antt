@@ -8,9 +8,9 @@ use lib.ListN.{getD}
 use Rattle.rows.specs.Rows.{Words}
 use Rattle.compressed.specs.Compressed.{alike}
 use Rattle.sums.specs.AlikeLaws.{alike-closed, alike-open}
-use Rattle.grouping.specs.Chains.{SlotsTell, rowSlot, slotIn}
+use Rattle.grouping.specs.Chains.{SlotsTell, classedSlot, rowSlot, slotIn}
 use Rattle.grouping.specs.HashLaws.{slot-in-lt, slot-lt}
-use Rattle.grouping.specs.ChainLaws.{alike-slot}
+use Rattle.grouping.specs.ChainLaws.{alike-slot, classed-tell}
 use Rattle.grouping.specs.Slots.{SumsTold, groupSlot, rowSum}
 
 -- the slot by a sum
@@ -34,24 +34,27 @@ module _ (joined : List ℕ) {few : Bool} (sums : List ℕ) (closed : Bool) (u :
   by-words f e = rw f e
 
 -- by the words alone
-pub rows-tell : (edges : List ℕ) → Words edges → (u : ℕ) → SlotsTell edges (rowSlot edges) u
-rows-tell edges fit u = record { small = slot-lt edges; same = λ closed q m h. alike-slot edges fit closed u q h }
+pub rows-tell : (edges classes : List ℕ) → Words edges → (u : ℕ) → SlotsTell edges classes (classedSlot classes (rowSlot edges)) u
+rows-tell edges classes fit u = classed-tell edges classes (rowSlot edges) (λ closed q m h. alike-slot edges fit closed u q h)
 
 module _ (joined : List ℕ) (few : Bool) (sums : List ℕ) where
-  pub group-slot-lt : (closed : Bool) (q : ℕ) → groupSlot joined few sums closed q < 1024
+  group-slot-lt : (closed : Bool) (q : ℕ) → groupSlot joined few sums closed q < 1024
   group-slot-lt closed q = step few
     where
       step : (f : Bool) → groupSlot joined f sums closed q < 1024
       step true = unfold groupSlot in slot-in-lt (rowSum sums closed q)
       step false = unfold groupSlot in slot-lt joined closed q
 
+  pub small-group-slot : (closed : Bool) (q : ℕ) {s : ℕ} → s ≡ groupSlot joined few sums closed q → s < 1024
+  small-group-slot closed q e = omega (arith, group-slot-lt closed q)
+
   sum-same : SumsTold joined sums → (closed : Bool) (u q : ℕ) → u < 512 → q < 512 → alike joined closed u q ≡ true → rowSum sums closed q ≡ rowSum sums closed u
   unfolding rowSum
   sum-same t true u q l m h = alike-closed (t .summed) l m (t .irreflexive) h
   sum-same t false u q l m h = alike-open (t .summed) l m h
 
-  pub slots-tell : Words joined → (few ≡ true → SumsTold joined sums) → {u : ℕ} → u < 512 → SlotsTell joined (groupSlot joined few sums) u
-  slots-tell fit told {u} l = record { small = group-slot-lt; same = λ closed q m h. step few told closed q m h }
+  pub slots-tell : (classes : List ℕ) → Words joined → (few ≡ true → SumsTold joined sums) → {u : ℕ} → u < 512 → SlotsTell joined classes (classedSlot classes (groupSlot joined few sums)) u
+  slots-tell classes fit told {u} l = classed-tell joined classes (groupSlot joined few sums) (λ closed q m h. step few told closed q m h)
     where
       step : (f : Bool) → (f ≡ true → SumsTold joined sums) → (closed : Bool) (q : ℕ) → q < u → alike joined closed u q ≡ true → groupSlot joined f sums closed q ≡ groupSlot joined f sums closed u
       step true t closed q m h = unfold groupSlot in ap slotIn (sum-same (t refl) closed u q l (omega arith) h)

@@ -36,7 +36,7 @@ first-cases P q (suc k) = step (P q) refl (first-cases P (suc q) k)
 
 -- what the search returns
 module _ (n u w : ℕ) (edges t : List ℕ) where
-  fit : (q : ℕ) → joins n edges t u w q ≡ true → Fit u w (similarIn n edges u) t q
+  fit : (q : ℕ) → joins n edges t u w q ≡ true → Fit u w (similarIn n edges t u) t q
   unfolding joins
   fit q h =
       let a = and-snd (not (eqb q u)) _ h in
@@ -48,16 +48,16 @@ module _ (n u w : ℕ) (edges t : List ℕ) where
         alike = and-snd (eqb (nodeNumber t q 0) q) _ b;
       }
 
-  unfit : (q : ℕ) → joins n edges t u w q ≡ false → ¬ Fit u w (similarIn n edges u) t q
+  unfit : (q : ℕ) → joins n edges t u w q ≡ false → ¬ Fit u w (similarIn n edges t u) t q
   unfolding joins
   unfit q h x = differ (and-true (ap not (ne-eqb q u (x .not-u))) (and-true (ap not (ne-eqb q w (x .not-w))) (and-true (eq-eqb (nodeNumber t q 0) q (x .leads)) (x .alike)))) h
 
-  pub found : {r : ℕ} → r ≡ firstFrom (joins n edges t u w) 0 n → Found n u w (similarIn n edges u) t r
-  found {r} e = subst (λ x. Found n u w (similarIn n edges u) t x) (sym e) (step (first-cases (joins n edges t u w) 0 n))
+  pub found : {r : ℕ} → r ≡ firstFrom (joins n edges t u w) 0 n → Found n u w (similarIn n edges t u) t r
+  found {r} e = subst (λ x. Found n u w (similarIn n edges t u) t x) (sym e) (step (first-cases (joins n edges t u w) 0 n))
     where
       f : ℕ
       f = firstFrom (joins n edges t u w) 0 n
 
-      step : ((f < 0 + n) × (joins n edges t u w f ≡ true)) ⊎ ((f ≡ 0 + n) × ((p : ℕ) → 0 ≤ p → p < 0 + n → joins n edges t u w p ≡ false)) → Found n u w (similarIn n edges u) t f
+      step : ((f < 0 + n) × (joins n edges t u w f ≡ true)) ⊎ ((f ≡ 0 + n) × ((p : ℕ) → 0 ≤ p → p < 0 + n → joins n edges t u w p ≡ false)) → Found n u w (similarIn n edges t u) t f
       step (inl x) = at (omega (arith, x .0)) (fit f (x .1))
       step (inr x) = nowhere (omega (arith, x .0)) (λ p h. unfit p (x .1 p (omega arith) (omega arith)))

@@ -1,4 +1,4 @@
-// The node table kept in place: for each node the least member of its group, the next greater member, the previous one, the mark.
+// The node table kept in place: for each node the least member of its group, the next greater member, the previous one, the mark, the class.
 ghost use mathlib.Core.Path.{_≡_};
 ghost use mathlib.Core.Logic.{_≢_};
 ghost use Prim.Native.Nat.{_+_, _*_, _≤_, _<_, min, max};
@@ -15,7 +15,7 @@ ghost use Rattle.rings.specs.Steps.{
   Before,
   Built,
   NewLeast,
-  MarksKept,
+  LabelsKept,
   Leading,
   Linked,
   OthersLeft,
@@ -38,6 +38,8 @@ pub const NEXT: usize = 1;
 pub const PREVIOUS: usize = 2;
 
 pub const MARK: usize = 3;
+
+pub const CLASS: usize = Graph::CLASS;
 
 // Number k of node p.
 pub fn number(nodes: &[u16], p: usize, k: usize) -> usize
@@ -173,7 +175,7 @@ pub fn put_back(
     w: usize,
 ) -> usize
     requires { ⌜ Sound n (now nodes) × Ready n (now edges) (now keys) × (u < n) × (w < n) ⌝ }
-    ensures { λ r. ⌜ Back n u w r (similarIn n (now (edges .entry)) u) (now (nodes .entry)) (now (nodes .exit)) ⌝ }
+    ensures { λ r. ⌜ Back n u w r (similarIn n (now (edges .entry)) (now (nodes .entry)) u) (now (nodes .entry)) (now (nodes .exit)) ⌝ }
 {
     let g = search::find_group(edges, nodes, keys, n, n, u, w);
     if g < n {
@@ -186,7 +188,7 @@ pub fn put_back(
 // p joins the group of its least member: it is the last of the ring, or leads one of its own.
 fn append(nodes: &mut [u16], least: &[u16], n: usize, p: usize)
     requires { ⌜ (n ≤ maxNodes) × (length (now nodes) ≡ nodeNumbers * n) × Leading n (now least) × Rings p (now least) (now nodes) × (p < n) ⌝ }
-    ensures { λ _. ⌜ Rings (p + 1) (now (least .entry)) (now (nodes .exit)) × MarksKept (now (nodes .entry)) (now (nodes .exit)) ⌝ }
+    ensures { λ _. ⌜ Rings (p + 1) (now (least .entry)) (now (nodes .exit)) × LabelsKept (now (nodes .entry)) (now (nodes .exit)) ⌝ }
 {
     let l = rows::wide(least[p]);
     store(nodes, p, LEAST, l);
@@ -199,7 +201,7 @@ fn append(nodes: &mut [u16], least: &[u16], n: usize, p: usize)
     link(nodes, n, p, l);
 }
 
-// The node table of a graph, from the least members of its groups: whatever stood there, and the marks kept.
+// The node table of a graph, from the least members of its groups: whatever stood there, and marks and classes kept.
 pub fn build(nodes: &mut [u16], least: &[u16], n: usize)
     requires { ⌜ (n ≤ maxNodes) × (length (now nodes) ≡ nodeNumbers * n) × Leading n (now least) ⌝ }
     ensures { λ _. ⌜ Built n (now (least .entry)) (now (nodes .entry)) (now (nodes .exit)) ⌝ }
@@ -227,7 +229,7 @@ pub fn update_edge(
     v: usize,
     wanted: u16,
 ) -> i16
-    requires { ⌜ Asked n u v wanted (lent (now edges) (now nodes) (now keys)) ⌝ }
+    requires { ⌜ Asked n (change 1 u v wanted) (lent (now edges) (now nodes) (now keys)) ⌝ }
     ensures { λ r. ⌜ (lent (now (edges .exit)) (now (nodes .exit)) (now (keys .exit)) ≡ tablesOf (updated (graphOf n (lent (now (edges .entry)) (now (nodes .entry)) (now (keys .entry)))) (change 1 u v wanted))) × (r ≡ answer (graphOf n (lent (now (edges .entry)) (now (nodes .entry)) (now (keys .entry)))) (change 1 u v wanted)) ⌝ }
 {
     let a = lesser(u, v);
@@ -241,4 +243,22 @@ pub fn update_edge(
     let left = a_left + b_left;
     let joined = a_joined + b_joined;
     difference(left, joined)
+}
+
+// The class of u, in the node table: u is taken out, its class stored, and u put back. How many groups more there are.
+pub fn update_class(
+    edges: &[u64],
+    nodes: &mut [u16],
+    keys: &[u32],
+    n: usize,
+    u: usize,
+    class: usize,
+) -> i16
+    requires { ⌜ Asked n (change 3 u class 0) (lent (now edges) (now nodes) (now keys)) × (class < u16Limit) ⌝ }
+    ensures { λ r. ⌜ (lent (now (edges .entry)) (now (nodes .exit)) (now (keys .entry)) ≡ tablesOf (updated (graphOf n (lent (now (edges .entry)) (now (nodes .entry)) (now (keys .entry)))) (change 3 u class 0))) × (r ≡ answer (graphOf n (lent (now (edges .entry)) (now (nodes .entry)) (now (keys .entry)))) (change 3 u class 0)) ⌝ }
+{
+    let others = take_out(nodes, n, u);
+    store(nodes, u, CLASS, class);
+    let joined = put_back(edges, nodes, keys, n, u, u);
+    difference(others, joined)
 }

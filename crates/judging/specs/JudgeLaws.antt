@@ -6,11 +6,12 @@ use mathlib.Core.Logic.{_⊎_, inl, inr}
 use Prim.Native.Nat.{ℕ, _*_, _≤_, _<_}
 use native.Mathlib.Omega.{arith}
 use lib.Dec.{eqb}
-use lib.ListN.{length}
-use Rattle.model.specs.Graph.{Graph, maxNodes, rowWords}
+use lib.ListN.{length, getD}
+use Rattle.model.specs.Graph.{Graph, Proper, maxNodes, rowWords}
+use Rattle.model.specs.Grouping.{least, similar}
 use Rattle.model.specs.Refusals.{firstOf}
-use Rattle.model.specs.Release.{isVisible}
-use Rattle.model.specs.Reading.{decode, graphBy, isRelease, summaryBy, u16At}
+use Rattle.model.specs.Release.{isVisible, visible}
+use Rattle.model.specs.Reading.{Head, decode, graphBy, isRelease, summaryBy, u16At}
 use Rattle.model.specs.InOrder.{fileBy, groupsFit, inOrder, superedgesFit, toldGroups, toldSuperedges}
 use Rattle.model.specs.InOrderLaws.{in-order-parts}
 use Rattle.model.specs.ReleaseOrderLaws.{release-in-order}
@@ -33,7 +34,7 @@ use Rattle.reader.specs.Bytes.{Bytes}
 use Rattle.reader.specs.BytesLaws.{accepted-in-order}
 use Rattle.reader.specs.AcceptLaws.{in-order-accepted}
 use Rattle.judging.specs.Numbers.{askedNumber, readNumber}
-use Rattle.judging.specs.Judging.{Exact, Judged}
+use Rattle.judging.specs.Judging.{Exact, Judged, held}
 
 -- a release is accepted
 release-accepted : (s : List ℕ) → isRelease s ≡ true → accepted s ≡ true
@@ -59,7 +60,7 @@ answer-none s e = step (decide (isRelease s))
     step (inr t) = t
 
 -- no release, by its number
-judged-no : (s : List ℕ) {first kinds joined sums : List ℕ} → isRelease s ≡ false → Judged s first kinds joined sums answer.NoRelease
+judged-no : (s : List ℕ) {first kinds classes joined sums : List ℕ} → isRelease s ≡ false → Judged s first kinds classes joined sums answer.NoRelease
 judged-no s z = record {
   asked = unfold askedNumber firstOf in rw z;
   read = λ n. unfold readNumber firstOf in rw z;
@@ -72,7 +73,7 @@ judged-no s z = record {
     never : {X : Type 0} (n : ℕ) → answer.NoRelease ≡ answer.Graph n → X
     never n w = let x : _≡_ {A = ℕ} 0 1 = cc in absurd (omega arith)
 
-pub judged-none : (s : List ℕ) {first kinds joined sums : List ℕ} {r : Decoded} → Decodes s first kinds joined r → r ≡ answer.NoRelease → Judged s first kinds joined sums answer.NoRelease
+pub judged-none : (s : List ℕ) {first kinds classes joined sums : List ℕ} {r : Decoded} → Decodes s first kinds classes joined r → r ≡ answer.NoRelease → Judged s first kinds classes joined sums answer.NoRelease
 judged-none s d e = judged-no s (answer-none s (sym e ∙ d .result))
 
 -- the number of the release of a graph of n nodes
@@ -84,8 +85,8 @@ release-number s n t count m = rw (t, count) (step (eqb n m))
     step true = refl
     step false = refl
 
-module _ (s : List ℕ) (bytes : Bytes s) {first kinds joined sums : List ℕ} (n : ℕ) {r : Decoded} (d : Decodes s first kinds joined r) (k : SumsKept s first joined sums) (e : r ≡ answer.Graph n) (w : Words joined) where
-  abbrev gs : List (Bool × List ℕ)
+module _ (s : List ℕ) (bytes : Bytes s) {first kinds classes joined sums : List ℕ} (n : ℕ) {r : Decoded} (d : Decodes s first kinds classes joined r) (k : SumsKept s first joined sums) (e : r ≡ answer.Graph n) (w : Words joined) where
+  abbrev gs : List (Head × List ℕ)
   gs = toldGroups s
 
   abbrev js : List (ℕ × ℕ)
@@ -103,7 +104,7 @@ module _ (s : List ℕ) (bytes : Bytes s) {first kinds joined sums : List ℕ} (
   file : s ≡ fileBy n (toldGroups s) (toldSuperedges s)
   file = accepted-in-order s bytes (known .0) .1 ∙ ap (λ (k : ℕ). fileBy k (toldGroups s) (toldSuperedges s)) (sym (known .1))
 
-  told : Told (toldGroups s) (toldSuperedges s) first kinds joined
+  told : Told (toldGroups s) (toldSuperedges s) first kinds classes joined
   told = d .told (known .0)
 
   rows : rowWords * n ≤ length joined
@@ -123,25 +124,25 @@ module _ (s : List ℕ) (bytes : Bytes s) {first kinds joined sums : List ℕ} (
   pub nodes-few : n ≤ maxNodes
   nodes-few = parts .0
 
-  pub apart-asked : {few : Bool} → few ≡ isFew (length s) n → (n ≤ maxNodes) × (rowWords * n ≤ length joined) × (n ≤ length first) × (n ≤ length kinds) × (length sums ≡ 2 * maxNodes) × (few ≡ true → SumsTold joined sums)
+  pub apart-asked : {few : Bool} → few ≡ isFew (length s) n → (n ≤ maxNodes) × (rowWords * n ≤ length joined) × (n ≤ length first) × (n ≤ length kinds) × (n ≤ length classes) × (length sums ≡ 2 * maxNodes) × (few ≡ true → SumsTold joined sums)
   apart-asked is =
-      (parts .0, rows, omega (arith, parts .0, d .nodes), omega (arith, parts .0, d .groups), k .size, λ f. record { summed = summed (sym is ∙ f); irreflexive = λ p l. compressed .irreflexive p l })
+      (parts .0, rows, omega (arith, parts .0, d .nodes), omega (arith, parts .0, d .groups), omega (arith, parts .0, d .labels), k .size, λ f. record { summed = summed (sym is ∙ f); irreflexive = λ p l. compressed .irreflexive p l })
 
-  graph : unfolded n first kinds joined ≡ decode s
-  graph = told-unfolded n (toldGroups s) (toldSuperedges s) ordered told ∙ sym (ap decode file ∙ decode-file n (toldGroups s) (toldSuperedges s))
+  graph : held n first kinds classes joined ≡ decode s
+  graph = sym (told-unfolded n (toldGroups s) (toldSuperedges s) ordered told) ∙ sym (ap decode file ∙ decode-file n (toldGroups s) (toldSuperedges s))
 
-  same : apart n first kinds joined ≡ isRelease s
+  same : apart n first kinds classes joined ≡ isRelease s
   same = told-apart n (toldGroups s) (toldSuperedges s) ordered told w ∙ sym (ap isRelease file ∙ in-order-release n (toldGroups s) (toldSuperedges s) ordered)
 
-  pub judged-other : {b : Bool} → b ≡ apart n first kinds joined → b ≡ false → Judged s first kinds joined sums answer.NoRelease
+  pub judged-other : {b : Bool} → b ≡ apart n first kinds classes joined → b ≡ false → Judged s first kinds classes joined sums answer.NoRelease
   judged-other c z = judged-no s (sym same ∙ sym c ∙ z)
 
-  pub judged-release : {b : Bool} → b ≡ apart n first kinds joined → b ≡ true → Judged s first kinds joined sums (answer.Graph n)
+  pub judged-release : {b : Bool} → b ≡ apart n first kinds classes joined → b ≡ true → Judged s first kinds classes joined sums (answer.Graph n)
   judged-release {b} c z = record {
     asked = unfold askedNumber firstOf in rw is;
     read = release-number s n is (sym (ap (λ (g : Graph). g .nodeCount) graph) ∙ unfold unfolded in refl);
-    graph = λ m x. let q : n ≡ m = cc in ap (λ (k : ℕ). unfolded k first kinds joined) (sym q) ∙ graph;
-    exact = λ m x. let q : n ≡ m = cc in subst (λ (k : ℕ). Exact k first kinds joined) q exact;
+    graph = λ m x. let q : n ≡ m = cc in ap (λ (k : ℕ). held k first kinds classes joined) (sym q) ∙ graph;
+    exact = λ m x. let q : n ≡ m = cc in subst (λ (k : ℕ). Exact k first kinds classes joined) q exact;
     cubed = λ m x. let q : n ≡ m = cc in subst (λ (j : ℕ). isFew (length s) j ≡ true → Cubed j first sums) q cubed;
     summed = λ m x. let q : n ≡ m = cc in subst (λ (j : ℕ). isFew (length s) j ≡ true → JoinedSummed joined sums) q summed;
   }
@@ -149,15 +150,18 @@ module _ (s : List ℕ) (bytes : Bytes s) {first kinds joined sums : List ℕ} (
       is : isRelease s ≡ true
       is = sym same ∙ sym c ∙ z
 
-      by-groups : unfolded n first kinds joined ≡ graphBy n (summaryBy (toldGroups s) (toldSuperedges s))
-      by-groups = told-unfolded n (toldGroups s) (toldSuperedges s) ordered told
+      by-groups : held n first kinds classes joined ≡ graphBy n (summaryBy (toldGroups s) (toldSuperedges s))
+      by-groups = sym (told-unfolded n (toldGroups s) (toldSuperedges s) ordered told)
 
-      below : (p : ℕ) → isVisible (unfolded n first kinds joined) p ≡ true → p < maxNodes
-      below p v = let l : p < n = unfold unfolded in visible-inside (unfolded n first kinds joined) p v in omega (arith, parts .0)
+      below : (p : ℕ) → isVisible (held n first kinds classes joined) p ≡ true → p < maxNodes
+      below p v = let l : p < n = unfold unfolded in visible-inside (held n first kinds classes joined) p v in omega (arith, parts .0)
 
-      exact : Exact n first kinds joined
+      exact : Exact n first kinds classes joined
       exact = record {
         compressed = compressed;
-        proper = rw by-groups (told-proper n (toldGroups s) (toldSuperedges s) (parts .0) (parts .1));
-        told = λ p v. rw by-groups (told .first p (below p v) ∙ release-least n (toldGroups s) (toldSuperedges s) ordered (sym (ap isRelease file) ∙ is) p (rw by-groups at v));
+        labels = d .labels;
+        proper = subst Proper (sym by-groups) (told-proper n (toldGroups s) (toldSuperedges s) (parts .0) (parts .1));
+        told = λ p v.
+            subst (λ (g : Graph). getD first p 0 ≡ least (visible g .nodes) (similar (visible g)) p) (sym by-groups)
+            (told .first p (below p v) ∙ release-least n (toldGroups s) (toldSuperedges s) ordered (sym (ap isRelease file) ∙ is) p (subst (λ (g : Graph). isVisible g p ≡ true) by-groups v));
       }

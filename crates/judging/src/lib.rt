@@ -12,18 +12,19 @@ pub fn judge(
     file: &[u8],
     least: &mut [u16],
     kinds: &mut [u16],
+    classes: &mut [u16],
     joined: &mut [u64],
     sums: &mut [u32],
 ) -> Decoded
-    requires { ⌜ Blank (now file) (now least) (now kinds) (now joined) × (now sums ≡ replicate (2 * maxNodes) 0) ⌝ }
-    ensures { λ r. ⌜ Judged (now (file .entry)) (now (least .exit)) (now (kinds .exit)) (now (joined .exit)) (now (sums .exit)) r ⌝ }
+    requires { ⌜ Blank (now file) (now least) (now kinds) (now classes) (now joined) × (now sums ≡ replicate (2 * maxNodes) 0) ⌝ }
+    ensures { λ r. ⌜ Judged (now (file .entry)) (now (least .exit)) (now (kinds .exit)) (now (classes .exit)) (now (joined .exit)) (now (sums .exit)) r ⌝ }
 {
-    let told = reader::decode(file, least, kinds, joined, sums);
+    let told = reader::decode(file, least, kinds, classes, joined, sums);
     let Decoded::Graph { n } = told else {
         return Decoded::NoRelease;
     };
     let few = reader::are_few(file.len(), n);
-    if !grouping::are_apart(joined, least, kinds, n, few, sums) {
+    if !grouping::are_apart(joined, least, kinds, classes, n, few, sums) {
         return Decoded::NoRelease;
     }
     Decoded::Graph { n }

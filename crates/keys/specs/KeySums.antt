@@ -8,7 +8,7 @@ use lib.ListN.{length, getD, set}
 use Rattle.model.specs.Lists.{nodes}
 use Rattle.model.specs.Graph.{Graph, maxNodes, rowWords, whole}
 use Rattle.model.specs.Grouping.{cube, least, openKey, similar}
-use Rattle.model.specs.Tables.{bitAt, edgeBit, graphIn}
+use Rattle.model.specs.Tables.{bitAt, classedIn, edgeBit, graphIn}
 use Rattle.rows.specs.Rows.{keyOf, movedKey}
 
 -- p's row has no bit for a number n or above
@@ -71,10 +71,10 @@ pub record AllLead (m : ℕ) (lst : List ℕ) : Type 0 where
   pub size : length lst ≡ maxNodes
   pub own : (p : ℕ) → p < m → getD lst p 0 ≡ p
 
--- lst has the least member of each node's group, by an edge table
-pub record LeastTold (n : ℕ) (edges lst : List ℕ) : Type 0 where
+-- lst has the least member of each node's group, by an edge table and classes
+pub record LeastTold (n : ℕ) (edges : List ℕ) (class : ℕ → ℕ) (lst : List ℕ) : Type 0 where
   pub size : n ≤ length lst
-  pub told : (p : ℕ) → p < n → getD lst p 0 ≡ least (nodes n) (similar (whole (graphIn n edges))) p
+  pub told : (p : ℕ) → p < n → getD lst p 0 ≡ least (nodes n) (similar (whole (classedIn n edges class))) p
 
 -- the keys of p are those of a row whose cubes add up to sum
 pub record KeysPut (p sum : ℕ) (t after : List ℕ) : Type 0 where

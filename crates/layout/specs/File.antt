@@ -1,4 +1,4 @@
--- What the writer writes, from the least members of the groups, the next members and the edges.
+-- What the writer writes, from the least members of the groups, the next members, the classes and the edges.
 -- `least` has the least member of each visible node's group, and a number n or above for a hidden node.
 use mathlib.Core.Path.{_≡_}
 use mathlib.Core.Bool.{Bool, false, cond}
@@ -41,12 +41,13 @@ firstTwo e (a ∷ b ∷ l) = e a b
 abbrev pub groupMark : Bool → List ℕ
 groupMark c = 0x47 ∷ cond c 0x43 0x49 ∷ []
 
-unfoldable pub groupBytes : (ℕ → ℕ → Bool) → List ℕ → List ℕ
-groupBytes e g = groupMark (firstTwo e g) ++ (u16 (length g) ++ u16Bytes g)
+-- a group's mark, its count, the class of its first member, and its members
+unfoldable pub groupBytes : (ℕ → ℕ → Bool) → List ℕ → List ℕ → List ℕ
+groupBytes e classes g = groupMark (firstTwo e g) ++ (u16 (length g) ++ (u16 (getD classes (headOr 0 g) 0) ++ u16Bytes g))
 
 -- the groups of the leaders ls
-unfoldable pub groupsBytes : (ℕ → ℕ → Bool) → (ℕ → List ℕ) → List ℕ → List ℕ
-groupsBytes e members ls = flat (λ i. groupBytes e (members (getD ls i 0))) (length ls) 0
+unfoldable pub groupsBytes : (ℕ → ℕ → Bool) → List ℕ → (ℕ → List ℕ) → List ℕ → List ℕ
+groupsBytes e classes members ls = flat (λ i. groupBytes e classes (members (getD ls i 0))) (length ls) 0
 
 -- superedges: the positions after i of the groups that the i-th has one to; their records
 unfoldable pub superedgeBetween : (ℕ → ℕ → Bool) → List ℕ → ℕ → ℕ → Bool
@@ -101,12 +102,12 @@ unfoldable pub fileSuperedges : ℕ → List ℕ → List ℕ → ℕ
 fileSuperedges n least edges = superedgeTotal (edgeBit edges) (leadersOf n least)
 
 unfoldable pub fileLength : ℕ → List ℕ → List ℕ → ℕ
-fileLength n least edges = 10 + 4 * fileGroups n least + 2 * fileNodes n least + 6 * fileSuperedges n least edges
+fileLength n least edges = 10 + 6 * fileGroups n least + 2 * fileNodes n least + 6 * fileSuperedges n least edges
 
-unfoldable pub fileOf : ℕ → List ℕ → List ℕ → List ℕ
-fileOf n least edges =
+unfoldable pub fileOf : ℕ → List ℕ → List ℕ → List ℕ → List ℕ
+fileOf n least classes edges =
     headRecord n (fileNodes n least) (fileGroups n least)
-    ++ (groupsBytes (edgeBit edges) (membersOf n least) (leadersOf n least) ++ (superedgeBytes (edgeBit edges) (leadersOf n least) ++ endRecord))
+    ++ (groupsBytes (edgeBit edges) classes (membersOf n least) (leadersOf n least) ++ (superedgeBytes (edgeBit edges) (leadersOf n least) ++ endRecord))
 
 -- what is asked of the tables: the groups hold each visible node once
 pub record Partition (n : ℕ) (least edges : List ℕ) : Type 0 where
@@ -116,8 +117,8 @@ pub record Partition (n : ℕ) (least edges : List ℕ) : Type 0 where
   pub once : length (concat (map (membersOf n least) (leadersOf n least))) ≡ fileNodes n least
 
 -- all that writing gives: 18 and the buffer as it was if it is too short, else the numbers, and the file before what stood behind it
-unfoldable pub writtenFile : ℕ → List ℕ → List ℕ → List ℕ → Released
-writtenFile n least edges out =
+unfoldable pub writtenFile : ℕ → List ℕ → List ℕ → List ℕ → List ℕ → Released
+writtenFile n least classes edges out =
     cond (ltb (length out) (fileLength n least edges)) (releaseRefused out 18)
     (record {
       result = 0;
@@ -125,5 +126,5 @@ writtenFile n least edges out =
       groups = fileGroups n least;
       superedges = fileSuperedges n least edges;
       bytes = fileLength n least edges;
-      out = onto (fileOf n least edges) out;
+      out = onto (fileOf n least classes edges) out;
     })

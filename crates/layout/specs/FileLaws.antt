@@ -8,7 +8,7 @@ use native.Mathlib.Numerals.{add-one}
 use lib.Dec.{ltb}
 use lib.ListN.{length, getD, set}
 use borrow.Author.Tests.{eq-eqb, ne-eqb, lt-ltb, le-ltb}
-use Rattle.model.specs.Lists.{concat}
+use Rattle.model.specs.Lists.{concat, headOr}
 use Rattle.model.specs.Tables.{edgeBit}
 use Rattle.model.specs.Release.{headRecord, superedgeRecord, u16}
 use Rattle.model.specs.ReleaseLaws.{length-u16s}
@@ -122,21 +122,26 @@ pub length-members : (l : List ℕ) → length (u16Bytes l) ≡ 2 * length l
 unfolding u16Bytes
 length-members l = length-u16s l
 
-pub length-group : (e : ℕ → ℕ → Bool) (g : List ℕ) → length (groupBytes e g) ≡ 4 + 2 * length g
+pub length-group : (e : ℕ → ℕ → Bool) (classes g : List ℕ) → length (groupBytes e classes g) ≡ 6 + 2 * length g
 unfolding groupBytes u16
-length-group e g = omega (arith, length-members g)
+length-group e classes g = omega (arith, length-members g)
 
--- the members first, then the mark, then the count between them
-pub wrote-group : (e : ℕ → ℕ → Bool) (g : List ℕ) {s : List ℕ} {at : ℕ} {s₁ : List ℕ} {to : ℕ} {c : Bool} {s₂ : List ℕ} {a k : ℕ} {s₃ : List ℕ} {b : ℕ}
-    → Wrote s (at + 4) (u16Bytes g) s₁ to → c ≡ firstTwo e g → Wrote s₁ at (groupMark c) s₂ a → k ≡ length g → Wrote s₂ a (u16 k) s₃ b → Wrote s at (groupBytes e g) s₃ to
+-- a group starts with its least member
+pub chain-head : (next : List ℕ) (n l : ℕ) → l < n → headOr 0 (chain n next n l) ≡ l
+chain-head next zero l h = absurd (omega arith)
+chain-head next (suc n) l h = rw (chain-on n next (suc n) l h)
+
+-- the members first, then the mark, the count and the class before them
+pub wrote-group : (e : ℕ → ℕ → Bool) (classes g : List ℕ) {s : List ℕ} {at : ℕ} {s₁ : List ℕ} {to : ℕ} {c : Bool} {s₂ : List ℕ} {a k : ℕ} {s₃ : List ℕ} {b l w : ℕ} {s₄ : List ℕ} {d : ℕ}
+    → Wrote s (at + 6) (u16Bytes g) s₁ to → c ≡ firstTwo e g → Wrote s₁ at (groupMark c) s₂ a → k ≡ length g → Wrote s₂ a (u16 k) s₃ b → headOr 0 g ≡ l → w ≡ getD classes l 0 → Wrote s₃ b (u16 w) s₄ d → Wrote s at (groupBytes e classes g) s₄ to
 unfolding groupBytes
-wrote-group e g {s} {at} {s₁} {to} {c} {s₂} {a} {k} {s₃} {b} m q h count w =
-    let two : Wrote s₁ at (groupMark c ++ u16 k) s₃ b = wrote-then h w in
-    let there : b ≡ at + 4 = omega (arith, w .place, h .place, length-u16 k) in
-    rw (← q, ← count) (rw (append-assoc (groupMark c) (u16 k) (u16Bytes g)) at (wrote-before m (rw there at two)))
+wrote-group e classes g {s} {at} {s₁} {to} {c} {s₂} {a} {k} {s₃} {b} {l} {w} {s₄} {d} m q h count v first class x =
+    let head : Wrote s₁ at (groupMark c ++ (u16 k ++ u16 w)) s₄ d = wrote-then h (wrote-then v x) in
+    let there : d ≡ at + 6 = omega (arith, x .place, v .place, h .place, length-u16 k, length-u16 w) in
+    rw (← q, ← count, first, ← class) (rw (append-assoc (groupMark c) (u16 k ++ u16 w) (u16Bytes g), append-assoc (u16 k) (u16 w) (u16Bytes g)) at (wrote-before m (rw there at head)))
 
 -- where the members end
-pub members-end : (g : List ℕ) (at : ℕ) {s t : List ℕ} {to : ℕ} → Wrote s (at + 4) (u16Bytes g) t to → to ≡ at + 4 + 2 * length g
+pub members-end : (g : List ℕ) (at : ℕ) {s t : List ℕ} {to : ℕ} → Wrote s (at + 6) (u16Bytes g) t to → to ≡ at + 6 + 2 * length g
 members-end g at w = omega (arith, w .place, length-members g)
 
 -- tests of the code
@@ -165,16 +170,20 @@ unfolding later
 later-length e ls i = omega (arith, scan-length (superedgeBetween e ls i) (length ls) (i + 1))
 
 -- room for the parts of a group
-pub room-members : (e : ℕ → ℕ → Bool) (g : List ℕ) (at : ℕ) {k : ℕ} → at + length (groupBytes e g) ≤ k → at + 4 + length (u16Bytes g) ≤ k
-room-members e g at h = omega (arith, length-group e g, length-members g)
+pub room-members : (e : ℕ → ℕ → Bool) (classes g : List ℕ) (at : ℕ) {k : ℕ} → at + length (groupBytes e classes g) ≤ k → at + 6 + length (u16Bytes g) ≤ k
+room-members e classes g at h = omega (arith, length-group e classes g, length-members g)
 
-pub room-mark : (e : ℕ → ℕ → Bool) (g : List ℕ) (at : ℕ) {s : List ℕ} {x : ℕ} {bs t : List ℕ} {y : ℕ} → at + length (groupBytes e g) ≤ length s → Wrote s x bs t y → at + 2 ≤ length t
-room-mark e g at h w = omega (arith, length-group e g, wrote-length w)
+pub room-mark : (e : ℕ → ℕ → Bool) (classes g : List ℕ) (at : ℕ) {s : List ℕ} {x : ℕ} {bs t : List ℕ} {y : ℕ} → at + length (groupBytes e classes g) ≤ length s → Wrote s x bs t y → at + 2 ≤ length t
+room-mark e classes g at h w = omega (arith, length-group e classes g, wrote-length w)
 
-pub room-count : (e : ℕ → ℕ → Bool) (g : List ℕ) {at : ℕ} {s : List ℕ} {x : ℕ} {bs t : List ℕ} {y : ℕ} (c : Bool) {u : List ℕ} {a : ℕ} → at + length (groupBytes e g) ≤ length s → Wrote s x bs t y → Wrote t at (groupMark c) u a → a + 2 ≤ length u
-room-count e g c h w v = omega (arith, length-group e g, wrote-length w, wrote-length v, v .place)
+module _ (e : ℕ → ℕ → Bool) (classes g : List ℕ) {at : ℕ} {s : List ℕ} {x : ℕ} {bs t : List ℕ} {y : ℕ} (c : Bool) {u : List ℕ} {a : ℕ} (h : at + length (groupBytes e classes g) ≤ length s) (w : Wrote s x bs t y) (v : Wrote t at (groupMark c) u a) where
+  pub room-count : a + 2 ≤ length u
+  room-count = omega (arith, length-group e classes g, wrote-length w, wrote-length v, v .place)
 
-pub members-few : (next : List ℕ) (n l at : ℕ) {s : List ℕ} {t : List ℕ} {to : ℕ} → n ≤ 512 → Wrote s (at + 4) (u16Bytes (chain n next n l)) t to → to ≤ at + 1028
+  pub room-class : (k : ℕ) {r : List ℕ} {b : ℕ} → Wrote u a (u16 k) r b → b + 2 ≤ length r
+  room-class k p = omega (arith, length-group e classes g, wrote-length w, wrote-length v, v .place, p .place, wrote-length p, length-u16 k)
+
+pub members-few : (next : List ℕ) (n l at : ℕ) {s : List ℕ} {t : List ℕ} {to : ℕ} → n ≤ 512 → Wrote s (at + 6) (u16Bytes (chain n next n l)) t to → to ≤ at + 1030
 members-few next n l at h w = omega (arith, members-end (chain n next n l) at w, chain-length n next n l)
 
 pub later-small : (e : ℕ → ℕ → Bool) (ls : List ℕ) (i : ℕ) {k : ℕ} → length ls ≤ 512 → k ≡ length (later e ls i) → k ≤ 512

@@ -1,4 +1,4 @@
--- Where the least members and the edges are those of a graph's visible part, the file is its release.
+-- Where the least members, the classes and the edges are those of a graph's visible part, the file is its release.
 use mathlib.Core.Path.{_≡_, refl, sym, ap, ap₂, _∙_}
 use mathlib.Core.Bool.{Bool, true, false, _&&_, cond}
 use mathlib.Core.List.{List, [], _∷_, _++_, map, append-assoc, List·Memᴰ·head, List·Memᴰ·tail}
@@ -10,16 +10,16 @@ use lib.Dec.{eqb, ltb}
 use lib.ListN.{length, getD, drop, drop-of-length-le}
 use lib.Seq.{drop-cons}
 use borrow.Author.Tests.{eqb-true, eq-eqb, ne-eqb, lt-ltb, le-ltb}
-use Rattle.model.specs.Lists.{_∈_, concat, nodes}
+use Rattle.model.specs.Lists.{_∈_, concat, headOr, nodes}
 use Rattle.model.specs.Graph.{Graph}
 use Rattle.model.specs.Grouping.{Kind, adjacent, algorithm1, clique, group, independent, isClique, kindOf, leaders, least, similar, singleton}
 use Rattle.model.specs.Tables.{edgeBit}
-use Rattle.model.specs.Release.{encode, groupRecord, isVisible, kindByte, release, superedgeCount, superedgeRecord, superedges, superedgesFrom, visible, visibleGroups}
+use Rattle.model.specs.Release.{encode, groupRecord, isVisible, kindByte, release, superedgeCount, superedgeRecord, superedges, superedgesFrom, visible, visibleClass, visibleGroups}
 use Rattle.model.specs.Calls.{releaseRefused, released}
 use Rattle.model.specs.TestLaws.{decide, iff-eq}
-use Rattle.model.specs.ListLaws.{Ascending, filter-ascending, filter-cong, filter-elim, filter-intro, nodes-in, nodes-out}
+use Rattle.model.specs.ListLaws.{Ascending, filter-ascending, filter-cong, filter-elim, filter-intro, headOr-in, nodes-in, nodes-out}
 use Rattle.model.specs.TwinLaws.{Simple, similar-refl, similar-sym, similar-trans}
-use Rattle.model.specs.ClassLaws.{Equivalence, group-out, leader-out, leaders-apart, leaders-ascending, least-eq, least-in, least-le, least-rel, same-group}
+use Rattle.model.specs.ClassLaws.{Equivalence, group-in, group-out, leader-out, leaders-apart, leaders-ascending, least-eq, least-in, least-le, least-rel, same-group}
 use Rattle.model.specs.SummaryLaws.{adjacent-law, algorithm1-classes, clique-law, equivalence, length-groups}
 use Rattle.model.specs.TableLaws.{map-cong}
 use Rattle.model.specs.ReleaseLaws.{length-concat-groups, length-superedge-records, visible-ascending, visible-simple}
@@ -85,7 +85,7 @@ module _ (e d : ℕ → ℕ → Bool) (G : ℕ → List ℕ) (ls : List ℕ) (la
   unfolding superedgeBytes
   superedges-are = sym (on-is 0)
 
-module _ (g : Graph) (lst edges : List ℕ) (t : Truth g lst edges) where
+module _ (g : Graph) (lst classes edges : List ℕ) (t : Truth g lst classes edges) where
   abbrev n : ℕ
   n = g .nodeCount
 
@@ -208,21 +208,25 @@ module _ (g : Graph) (lst edges : List ℕ) (t : Truth g lst edges) where
         below : a < b
         below = ascends (filter-ascending (r l) vs asc) .0 b (List·Memᴰ·head refl)
 
-    record-is : groupBytes (edgeBit edges) (group vs r l) ≡ groupRecord (visible g) (group vs r l)
-    unfolding groupBytes groupRecord u16Bytes
-    record-is = rw (first-two (group vs r l) refl, kind-byte (kindOf (visible g .edge) (group vs r l)))
+    class-of : visible g .class (headOr 0 (group vs r l)) ≡ getD classes (headOr 0 (group vs r l)) 0
+    unfolding visibleClass
+    class-of = let o = out-vs _ (group-out vs r l _ (headOr-in 0 (group vs r l) l (group-in vs r l l (l-in l m) (similar-refl (visible g) l))) .0) in rw o (sym (t .class-is _ o))
 
-  records-are : concat (map (groupBytes (edgeBit edges)) (algorithm1 (visible g))) ≡ concat (map (groupRecord (visible g)) (algorithm1 (visible g)))
+    record-is : groupBytes (edgeBit edges) classes (group vs r l) ≡ groupRecord (visible g) (group vs r l)
+    unfolding groupBytes groupRecord u16Bytes
+    record-is = rw (first-two (group vs r l) refl, class-of, kind-byte (kindOf (visible g .edge) (group vs r l)))
+
+  records-are : concat (map (groupBytes (edgeBit edges) classes) (algorithm1 (visible g))) ≡ concat (map (groupRecord (visible g)) (algorithm1 (visible g)))
   unfolding concat
   records-are = rw (algorithm1-classes (visible g) graph asc) (go (leaders vs r) (λ l m. m))
     where
-      go : (ls : List ℕ) → ((l : ℕ) → l ∈ ls → l ∈ leaders vs r) → concat (map (groupBytes (edgeBit edges)) (map (group vs r) ls)) ≡ concat (map (groupRecord (visible g)) (map (group vs r) ls))
+      go : (ls : List ℕ) → ((l : ℕ) → l ∈ ls → l ∈ leaders vs r) → concat (map (groupBytes (edgeBit edges) classes) (map (group vs r) ls)) ≡ concat (map (groupRecord (visible g)) (map (group vs r) ls))
       go [] h = refl
       go (l ∷ ls) h = ap₂ (λ (a b : List ℕ). a ++ b) (record-is l (h l (List·Memᴰ·head refl))) (go ls (λ x m. h x (List·Memᴰ·tail m)))
 
-  groups-are : groupsBytes (edgeBit edges) (membersOf n lst) (leadersOf n lst) ≡ concat (map (groupRecord (visible g)) (visibleGroups g))
+  groups-are : groupsBytes (edgeBit edges) classes (membersOf n lst) (leadersOf n lst) ≡ concat (map (groupRecord (visible g)) (visibleGroups g))
   unfolding visibleGroups
-  groups-are = groups-list (edgeBit edges) (membersOf n lst) (leadersOf n lst) ∙ ap (λ (gs : List (List ℕ)). concat (map (groupBytes (edgeBit edges)) gs)) groups-is ∙ records-are
+  groups-are = groups-list (edgeBit edges) classes (membersOf n lst) (leadersOf n lst) ∙ ap (λ (gs : List (List ℕ)). concat (map (groupBytes (edgeBit edges) classes) gs)) groups-is ∙ records-are
 
   -- leaders with an edge have adjacent groups
   meets-law : (i j : ℕ) → i < j → j < length (leaders vs r) → adjacent (visible g .edge) (group vs r (getD (leaders vs r) i 0)) (group vs r (getD (leaders vs r) j 0)) ≡ superedgeBetween (edgeBit edges) (leaders vs r) i j
@@ -258,14 +262,14 @@ module _ (g : Graph) (lst edges : List ℕ) (t : Truth g lst edges) where
   unfolding fileSuperedges superedgeCount
   superedge-count-is = omega (arith, length-superedges (edgeBit edges) (leadersOf n lst), ap length superedge-records, length-superedge-records (superedges (visible g .edge) 0 (visibleGroups g)))
 
-  pub file-is : fileOf n lst edges ≡ release g
+  pub file-is : fileOf n lst classes edges ≡ release g
   unfolding fileOf release encode visibleGroups
   file-is = rw (nodes-is, group-count-is, groups-are, superedge-records)
 
   pub length-file-is : fileLength n lst edges ≡ length (release g)
-  length-file-is = sym (length-file n lst edges truth-partition) ∙ ap length file-is
+  length-file-is = sym (length-file n lst classes edges truth-partition) ∙ ap length file-is
 
   -- all that writing gives is what model's call gives
-  pub written-is : (out : List ℕ) → writtenFile n lst edges out ≡ cond (ltb (length out) (length (release g))) (releaseRefused out 18) (released g out)
+  pub written-is : (out : List ℕ) → writtenFile n lst classes edges out ≡ cond (ltb (length out) (length (release g))) (releaseRefused out 18) (released g out)
   unfolding writtenFile released
   written-is out = rw (length-file-is, nodes-is, group-count-is, superedge-count-is, file-is)

@@ -54,15 +54,15 @@ scan-passes P n = upward (λ p. (i : ℕ) → i < length (scan P n p) → P (get
     step p h below (inr t) = rw (scan-no P n p h t) below
 
 -- the table of next members gives the groups
-pub groups-linked : (e : ℕ → ℕ → Bool) (n : ℕ) (least next : List ℕ) → n ≤ 512 → NextLinked n least next → groupsBytes e (chain n next n) (leadersOf n least) ≡ groupsBytes e (membersOf n least) (leadersOf n least)
+pub groups-linked : (e : ℕ → ℕ → Bool) (classes : List ℕ) (n : ℕ) (least next : List ℕ) → n ≤ 512 → NextLinked n least next → groupsBytes e classes (chain n next n) (leadersOf n least) ≡ groupsBytes e classes (membersOf n least) (leadersOf n least)
 unfolding groupsBytes leadersOf membersOf leads belongs
-groups-linked e n least next small k = flat-cong _ _ (length (scan (leads least) n 0)) (λ i h. ap (groupBytes e) (chain-scan n least next small k _ (scan-below (leads least) n 0 i h) n _ (omega arith) (scan-below (leads least) n 0 i h) (scan-passes (leads least) n 0 i h))) 0
+groups-linked e classes n least next small k = flat-cong _ _ (length (scan (leads least) n 0)) (λ i h. ap (groupBytes e classes) (chain-scan n least next small k _ (scan-below (leads least) n 0 i h) n _ (omega arith) (scan-below (leads least) n 0 i h) (scan-passes (leads least) n 0 i h))) 0
 
 -- lengths
-length-groups : (e : ℕ → ℕ → Bool) (gs : List (List ℕ)) → length (concat (map (groupBytes e) gs)) ≡ 4 * length gs + 2 * length (concat gs)
+length-groups : (e : ℕ → ℕ → Bool) (classes : List ℕ) (gs : List (List ℕ)) → length (concat (map (groupBytes e classes) gs)) ≡ 6 * length gs + 2 * length (concat gs)
 unfolding concat
-length-groups e [] = refl
-length-groups e (g ∷ gs) = omega (arith, length-append (groupBytes e g) (concat (map (groupBytes e) gs)), length-group e g, length-groups e gs, length-append g (concat gs))
+length-groups e classes [] = refl
+length-groups e classes (g ∷ gs) = omega (arith, length-append (groupBytes e classes g) (concat (map (groupBytes e classes) gs)), length-group e classes g, length-groups e classes gs, length-append g (concat gs))
 
 pub length-to : (i : ℕ) (js : List ℕ) → length (superedgesTo i js) ≡ 6 * length js
 unfolding superedgesTo concat
@@ -78,26 +78,26 @@ map-map : (f : List ℕ → List ℕ) (g : ℕ → List ℕ) (l : List ℕ) → 
 map-map f g [] = refl
 map-map f g (x ∷ xs) = ap (λ (r : List (List ℕ)). f (g x) ∷ r) (map-map f g xs)
 
-pub groups-list : (e : ℕ → ℕ → Bool) (members : ℕ → List ℕ) (ls : List ℕ) → groupsBytes e members ls ≡ concat (map (groupBytes e) (map members ls))
+pub groups-list : (e : ℕ → ℕ → Bool) (classes : List ℕ) (members : ℕ → List ℕ) (ls : List ℕ) → groupsBytes e classes members ls ≡ concat (map (groupBytes e classes) (map members ls))
 unfolding groupsBytes
-groups-list e members ls = flat-list (λ l. groupBytes e (members l)) ls ∙ ap concat (map-map (groupBytes e) members ls)
+groups-list e classes members ls = flat-list (λ l. groupBytes e classes (members l)) ls ∙ ap concat (map-map (groupBytes e classes) members ls)
 
-pub length-groupsBytes : (e : ℕ → ℕ → Bool) (members : ℕ → List ℕ) (ls : List ℕ) → length (groupsBytes e members ls) ≡ 4 * length ls + 2 * length (concat (map members ls))
-length-groupsBytes e members ls = omega (arith, ap length (groups-list e members ls), length-groups e (map members ls), length-map ls members)
+pub length-groupsBytes : (e : ℕ → ℕ → Bool) (classes : List ℕ) (members : ℕ → List ℕ) (ls : List ℕ) → length (groupsBytes e classes members ls) ≡ 6 * length ls + 2 * length (concat (map members ls))
+length-groupsBytes e classes members ls = omega (arith, ap length (groups-list e classes members ls), length-groups e classes (map members ls), length-map ls members)
 
 pub length-superedges : (e : ℕ → ℕ → Bool) (ls : List ℕ) → length (superedgeBytes e ls) ≡ 6 * superedgeTotal e ls
 unfolding superedgeBytes superedgeTotal
 length-superedges e ls = length-super e ls 0
 
-pub length-file : (n : ℕ) (least edges : List ℕ) → Partition n least edges → length (fileOf n least edges) ≡ fileLength n least edges
+pub length-file : (n : ℕ) (least classes edges : List ℕ) → Partition n least edges → length (fileOf n least classes edges) ≡ fileLength n least edges
 unfolding fileOf fileLength headRecord u16 endRecord fileSuperedges fileGroups
-length-file n least edges g =
+length-file n least classes edges g =
     omega (
       arith,
       g .once,
-      length-groupsBytes (edgeBit edges) (membersOf n least) (leadersOf n least),
+      length-groupsBytes (edgeBit edges) classes (membersOf n least) (leadersOf n least),
       length-superedges (edgeBit edges) (leadersOf n least),
-      length-append (groupsBytes (edgeBit edges) (membersOf n least) (leadersOf n least)) (superedgeBytes (edgeBit edges) (leadersOf n least) ++ endRecord),
+      length-append (groupsBytes (edgeBit edges) classes (membersOf n least) (leadersOf n least)) (superedgeBytes (edgeBit edges) (leadersOf n least) ++ endRecord),
       length-append (superedgeBytes (edgeBit edges) (leadersOf n least)) endRecord,
     )
 
@@ -119,62 +119,62 @@ pub length-head : (n m g : ℕ) → length (headRecord n m g) ≡ 8
 unfolding headRecord u16
 length-head n m g = refl
 
-file-parts : (n : ℕ) (least edges : List ℕ) → length (fileOf n least edges) ≡ 10 + length (groupsBytes (edgeBit edges) (membersOf n least) (leadersOf n least)) + length (superedgeBytes (edgeBit edges) (leadersOf n least))
+file-parts : (n : ℕ) (least classes edges : List ℕ) → length (fileOf n least classes edges) ≡ 10 + length (groupsBytes (edgeBit edges) classes (membersOf n least) (leadersOf n least)) + length (superedgeBytes (edgeBit edges) (leadersOf n least))
 unfolding fileOf headRecord u16 endRecord
-file-parts n least edges =
+file-parts n least classes edges =
     omega (
       arith,
-      length-append (groupsBytes (edgeBit edges) (membersOf n least) (leadersOf n least)) (superedgeBytes (edgeBit edges) (leadersOf n least) ++ endRecord),
+      length-append (groupsBytes (edgeBit edges) classes (membersOf n least) (leadersOf n least)) (superedgeBytes (edgeBit edges) (leadersOf n least) ++ endRecord),
       length-append (superedgeBytes (edgeBit edges) (leadersOf n least)) endRecord,
     )
 
-pub room-head : (n : ℕ) (least edges : List ℕ) {k : ℕ} → length (fileOf n least edges) ≤ k → 0 + 8 ≤ k
-room-head n least edges h = omega (arith, file-parts n least edges)
+pub room-head : (n : ℕ) (least classes edges : List ℕ) {k : ℕ} → length (fileOf n least classes edges) ≤ k → 0 + 8 ≤ k
+room-head n least classes edges h = omega (arith, file-parts n least classes edges)
 
-pub groups-same : (n : ℕ) (least edges next ls : List ℕ) → Partition n least edges → NextLinked n least next → ls ≡ leadersOf n least
-    → groupsBytes (edgeBit edges) (chain n next n) ls ≡ groupsBytes (edgeBit edges) (membersOf n least) (leadersOf n least)
-groups-same n least edges next ls g k q = ap (groupsBytes (edgeBit edges) (chain n next n)) q ∙ groups-linked (edgeBit edges) n least next (g .small) k
+pub groups-same : (n : ℕ) (least classes edges next ls : List ℕ) → Partition n least edges → NextLinked n least next → ls ≡ leadersOf n least
+    → groupsBytes (edgeBit edges) classes (chain n next n) ls ≡ groupsBytes (edgeBit edges) classes (membersOf n least) (leadersOf n least)
+groups-same n least classes edges next ls g k q = ap (groupsBytes (edgeBit edges) classes (chain n next n)) q ∙ groups-linked (edgeBit edges) classes n least next (g .small) k
 
-module _ (n : ℕ) (least edges next ls : List ℕ) (g : Partition n least edges) (k : NextLinked n least next) (q : ls ≡ leadersOf n least) (s : List ℕ) (room : length (fileOf n least edges) ≤ length s) where
+module _ (n : ℕ) (least classes edges next ls : List ℕ) (g : Partition n least edges) (k : NextLinked n least next) (q : ls ≡ leadersOf n least) (s : List ℕ) (room : length (fileOf n least classes edges) ≤ length s) where
   module _ (m c : ℕ) {s₁ : List ℕ} {a : ℕ} (h : Wrote s 0 (headRecord n m c) s₁ a) where
-    pub room-groups : a + length (groupsBytes (edgeBit edges) (chain n next n) ls) ≤ length s₁
-    room-groups = omega (arith, file-parts n least edges, h .place, wrote-length h, length-head n m c, ap length (groups-same n least edges next ls g k q))
+    pub room-groups : a + length (groupsBytes (edgeBit edges) classes (chain n next n) ls) ≤ length s₁
+    room-groups = omega (arith, file-parts n least classes edges, h .place, wrote-length h, length-head n m c, ap length (groups-same n least classes edges next ls g k q))
 
-    module _ {s₂ : List ℕ} {b : ℕ} (w : Wrote s₁ a (groupsBytes (edgeBit edges) (chain n next n) ls) s₂ b) where
+    module _ {s₂ : List ℕ} {b : ℕ} (w : Wrote s₁ a (groupsBytes (edgeBit edges) classes (chain n next n) ls) s₂ b) where
       pub room-super : b + length (superedgeBytes (edgeBit edges) ls) ≤ length s₂
-      room-super = omega (arith, file-parts n least edges, h .place, wrote-length h, length-head n m c, ap length (groups-same n least edges next ls g k q), w .place, wrote-length w, ap (λ (x : List ℕ). length (superedgeBytes (edgeBit edges) x)) q)
+      room-super = omega (arith, file-parts n least classes edges, h .place, wrote-length h, length-head n m c, ap length (groups-same n least classes edges next ls g k q), w .place, wrote-length w, ap (λ (x : List ℕ). length (superedgeBytes (edgeBit edges) x)) q)
 
       module _ {s₃ : List ℕ} {d : ℕ} (v : Wrote s₂ b (superedgeBytes (edgeBit edges) ls) s₃ d) where
         pub room-end : d + 2 ≤ length s₃
-        room-end = omega (arith, file-parts n least edges, h .place, wrote-length h, length-head n m c, ap length (groups-same n least edges next ls g k q), w .place, wrote-length w, v .place, wrote-length v, ap (λ (x : List ℕ). length (superedgeBytes (edgeBit edges) x)) q)
+        room-end = omega (arith, file-parts n least classes edges, h .place, wrote-length h, length-head n m c, ap length (groups-same n least classes edges next ls g k q), w .place, wrote-length w, v .place, wrote-length v, ap (λ (x : List ℕ). length (superedgeBytes (edgeBit edges) x)) q)
 
-        pub wrote-file : m ≡ fileNodes n least → c ≡ length ls → {s₄ : List ℕ} {f : ℕ} → Wrote s₃ d (0x45 ∷ 0x4E ∷ []) s₄ f → Wrote s 0 (fileOf n least edges) s₄ f
+        pub wrote-file : m ≡ fileNodes n least → c ≡ length ls → {s₄ : List ℕ} {f : ℕ} → Wrote s₃ d (0x45 ∷ 0x4E ∷ []) s₄ f → Wrote s 0 (fileOf n least classes edges) s₄ f
         unfolding fileOf fileGroups endRecord
         wrote-file em ec t =
             let e₁ : c ≡ length (leadersOf n least) = ec ∙ ap length q in
-            rw (← em, ← e₁, ← groups-same n least edges next ls g k q, ← q) (wrote-then h (wrote-then w (wrote-then v t)))
+            rw (← em, ← e₁, ← groups-same n least classes edges next ls g k q, ← q) (wrote-then h (wrote-then w (wrote-then v t)))
 
 -- all that writing gives, from the numbers that the code has counted
-pub length-is : (n : ℕ) (least edges : List ℕ) {g m s : ℕ} → g ≡ fileGroups n least → m ≡ fileNodes n least → s ≡ fileSuperedges n least edges → 10 + 4 * g + 2 * m + 6 * s ≡ fileLength n least edges
+pub length-is : (n : ℕ) (least edges : List ℕ) {g m s : ℕ} → g ≡ fileGroups n least → m ≡ fileNodes n least → s ≡ fileSuperedges n least edges → 10 + 6 * g + 2 * m + 6 * s ≡ fileLength n least edges
 unfolding fileLength
 length-is n least edges eg em es = omega arith
 
-module _ (n : ℕ) (least edges : List ℕ) {k : ℕ} (ek : k ≡ fileLength n least edges) where
-  pub room-is : {l : ℕ} → Partition n least edges → k ≤ l → length (fileOf n least edges) ≤ l
-  room-is t h = omega (arith, length-file n least edges t)
+module _ (n : ℕ) (least classes edges : List ℕ) {k : ℕ} (ek : k ≡ fileLength n least edges) where
+  pub room-is : {l : ℕ} → Partition n least edges → k ≤ l → length (fileOf n least classes edges) ≤ l
+  room-is t h = omega (arith, length-file n least classes edges t)
 
-  pub refused : (out : List ℕ) → length out < k → releaseRefused out 18 ≡ writtenFile n least edges out
+  pub refused : (out : List ℕ) → length out < k → releaseRefused out 18 ≡ writtenFile n least classes edges out
   unfolding writtenFile
   refused out h =
       let l : length out < fileLength n least edges = omega arith in
       rw (lt-ltb (length out) (fileLength n least edges) l)
 
-  pub done : {g m s : ℕ} → g ≡ fileGroups n least → m ≡ fileNodes n least → s ≡ fileSuperedges n least edges → (out : List ℕ) {t : List ℕ} {f : ℕ} → Partition n least edges → k ≤ length out → Wrote out 0 (fileOf n least edges) t f
-      → record { result = 0; nodes = m; groups = g; superedges = s; bytes = k; out = t } ≡ writtenFile n least edges out
+  pub done : {g m s : ℕ} → g ≡ fileGroups n least → m ≡ fileNodes n least → s ≡ fileSuperedges n least edges → (out : List ℕ) {t : List ℕ} {f : ℕ} → Partition n least edges → k ≤ length out → Wrote out 0 (fileOf n least classes edges) t f
+      → record { result = 0; nodes = m; groups = g; superedges = s; bytes = k; out = t } ≡ writtenFile n least classes edges out
   unfolding writtenFile
   done eg em es out {t} p h w =
       let l : fileLength n least edges ≤ length out = omega arith in
-      let b : t ≡ onto (fileOf n least edges) out = w .bytes ∙ sets-onto (fileOf n least edges) out (omega (arith, length-file n least edges p)) in
+      let b : t ≡ onto (fileOf n least classes edges) out = w .bytes ∙ sets-onto (fileOf n least classes edges) out (omega (arith, length-file n least classes edges p)) in
       rw (le-ltb (length out) (fileLength n least edges) l) (rw (← eg, ← em, ← es, ← ek, b) refl)
 
 pub leaders-taken : (n : ℕ) (least : List ℕ) {s t : List ℕ} {r : ℕ} → n ≤ length s → Wrote s 0 (scan (leads least) n 0) t r → take r t ≡ leadersOf n least

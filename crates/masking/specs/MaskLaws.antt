@@ -13,11 +13,11 @@ use lib.Seq.{getD-set-other, getD-set-same}
 use borrow.Author.Tests.{eqb-false, eqb-true, lt-ltb, ltb-false, ltb-true}
 use Rattle.model.specs.Graph.{Graph, Proper, View, rowWords}
 use Rattle.model.specs.Grouping.{least, similar}
-use Rattle.model.specs.Tables.{bitAt, edgeBit, edgesOf, edgesIn, markedGraph}
+use Rattle.model.specs.Tables.{bitAt, edgeBit, edgesIn, edgesOf}
 use Rattle.model.specs.Release.{isVisible, visible, visibleEdge, visiblePart}
 use Rattle.model.specs.History.{Alike}
 use Rattle.model.specs.TestLaws.{and-fst, decide}
-use Rattle.model.specs.TableLaws.{edges-in, simple-test}
+use Rattle.model.specs.TableLaws.{edges-in, graph-test}
 use Rattle.model.specs.ReleaseLaws.{alike-visible}
 use Rattle.model.specs.ReadBackLaws.{visible-proper}
 use Rattle.layout.specs.Truth.{Truth}
@@ -26,11 +26,11 @@ use Rattle.rows.specs.BitLaws.{bit-and, bit-zero}
 use Rattle.search.specs.Search.{Within}
 use Rattle.rows.specs.EdgeLaws.{edges-by-bits}
 use Rattle.search.specs.SearchLaws.{ready}
-use Rattle.masking.specs.Masking.{Apart, Drawn, RowPut, cutWord, keptWord, maskedWord, shown}
+use Rattle.masking.specs.Masking.{Apart, Drawn, RowPut, cutWord, drawn, keptWord, maskedWord, shown}
 
-pub visible-is : (n : ℕ) (edges marks : List ℕ) (p : ℕ) → isVisible (markedGraph n edges marks) p ≡ (ltb p n && shown marks p)
-unfolding isVisible markedGraph shown
-visible-is n edges marks p = once (ltb p n) (eqb (getD marks p 0) 1)
+pub visible-is : (n : ℕ) (edges marks classes : List ℕ) (p : ℕ) → isVisible (drawn n edges marks classes) p ≡ (ltb p n && shown marks p)
+unfolding isVisible drawn shown
+visible-is n edges marks classes p = once (ltb p n) (eqb (getD marks p 0) 1)
   where
     once : (x w : Bool) → (x && not (x && w)) ≡ (x && not w)
     once true w = refl
@@ -104,68 +104,68 @@ kept-bit mask marks p q = step (shown marks p)
     step true = let z : 8 * 0 + q / 64 ≡ q / 64 = omega arith in rw z
     step false = bit-zero (q % 64)
 
-module _ {n : ℕ} {edges marks : List ℕ} (d : Drawn n edges marks) where
+module _ {n : ℕ} {edges marks mask t after : List ℕ} {i : ℕ} (size : length t ≡ rowWords * n) (chosen : Marking (shown marks) mask n) (m : Masking edges mask marks i t after) (all : n ≤ i) (classes : List ℕ) where
+  word-lt : (j : ℕ) → getD after j 0 < 2 ^ 64
+  unfolding maskedWord
+  word-lt j = step (decide (ltb j (8 * n)))
+    where
+      step : (ltb j (8 * n) ≡ true) ⊎ (ltb j (8 * n) ≡ false) → getD after j 0 < 2 ^ 64
+      step (inl s) =
+          let l : j < 8 * n = ltb-true j (8 * n) s in
+          let e : j ≡ 8 * (j / 8) + j % 8 = omega arith in
+          rw e (omega (arith, m .words (j / 8) (j % 8) (omega arith) (omega arith), and-le-r (getD edges (8 * (j / 8) + j % 8) 0) (keptWord mask marks (j / 8) (j % 8)), kept-lt mask marks (j / 8) (j % 8) (chosen .words)))
+      step (inr s) = rw (List·getD-eq-default after 0 {n = j} (omega (arith, m .size, ltb-false j (8 * n) s))) (pow-pos 64)
+
+  bit-is : (p q : ℕ) → p < n → q < 512 → edgeBit after p q ≡ visible (drawn n edges marks classes) .edge p q
+  unfolding visibleEdge drawn edgesIn edgeBit maskedWord
+  bit-is p q hp hq = word ∙ rw (visible-is n edges marks classes p, visible-is n edges marks classes q, lt-ltb p n hp) (sorted (edgeBit edges p q) (shown marks p) (ltb q n) (shown marks q))
+    where
+      sorted : (b s l v : Bool) → (b && (s && (l && v))) ≡ (s && ((l && v) && (l && b)))
+      sorted true true true true = refl
+      sorted true true true false = refl
+      sorted true true false v = refl
+      sorted true false l v = refl
+      sorted false true true true = refl
+      sorted false true true false = refl
+      sorted false true false v = refl
+      sorted false false l v = refl
+
+      kept : bitAt (keptWord mask marks p (q / 64)) (q % 64) ≡ (shown marks p && (ltb q n && shown marks q))
+      kept = kept-bit mask marks p q ∙ ap (λ (b : Bool). shown marks p && b) (chosen .bits q hq)
+
+      word : edgeBit after p q ≡ (edgeBit edges p q && (shown marks p && (ltb q n && shown marks q)))
+      word =
+          ap (λ (x : ℕ). bitAt x (q % 64)) (m .words p (q / 64) (omega arith) (omega arith))
+          ∙ bit-and (getD edges (8 * p + q / 64) 0) (keptWord mask marks p (q / 64)) (q % 64)
+          ∙ ap (λ (b : Bool). edgeBit edges p q && b) kept
+
+  pub masking-done : after ≡ edgesOf (visiblePart (drawn n edges marks classes))
+  unfolding visiblePart drawn
+  masking-done = edges-by-bits (visiblePart (drawn n edges marks classes)) after (m .size ∙ size) word-lt bit-is
+
+module _ {n : ℕ} {edges marks classes : List ℕ} (d : Drawn n edges marks classes) where
   abbrev g : Graph
-  g = markedGraph n edges marks
+  g = drawn n edges marks classes
 
-  module _ {mask t after : List ℕ} {i : ℕ} (size : length t ≡ rowWords * n) (chosen : Marking (shown marks) mask n) (m : Masking edges mask marks i t after) (all : n ≤ i) where
-    word-lt : (j : ℕ) → getD after j 0 < 2 ^ 64
-    unfolding maskedWord
-    word-lt j = step (decide (ltb j (8 * n)))
-      where
-        step : (ltb j (8 * n) ≡ true) ⊎ (ltb j (8 * n) ≡ false) → getD after j 0 < 2 ^ 64
-        step (inl s) =
-            let l : j < 8 * n = ltb-true j (8 * n) s in
-            let e : j ≡ 8 * (j / 8) + j % 8 = omega arith in
-            rw e (omega (arith, m .words (j / 8) (j % 8) (omega arith) (omega arith), and-le-r (getD edges (8 * (j / 8) + j % 8) 0) (keptWord mask marks (j / 8) (j % 8)), kept-lt mask marks (j / 8) (j % 8) (chosen .words)))
-        step (inr s) = rw (List·getD-eq-default after 0 {n = j} (omega (arith, m .size, ltb-false j (8 * n) s))) (pow-pos 64)
-
-    bit-is : (p q : ℕ) → p < n → q < 512 → edgeBit after p q ≡ visible (markedGraph n edges marks) .edge p q
-    unfolding visibleEdge markedGraph edgesIn edgeBit maskedWord
-    bit-is p q hp hq = word ∙ rw (visible-is n edges marks p, visible-is n edges marks q, lt-ltb p n hp) (sorted (edgeBit edges p q) (shown marks p) (ltb q n) (shown marks q))
-      where
-        sorted : (b s l v : Bool) → (b && (s && (l && v))) ≡ (s && ((l && v) && (l && b)))
-        sorted true true true true = refl
-        sorted true true true false = refl
-        sorted true true false v = refl
-        sorted true false l v = refl
-        sorted false true true true = refl
-        sorted false true true false = refl
-        sorted false true false v = refl
-        sorted false false l v = refl
-
-        kept : bitAt (keptWord mask marks p (q / 64)) (q % 64) ≡ (shown marks p && (ltb q n && shown marks q))
-        kept = kept-bit mask marks p q ∙ ap (λ (b : Bool). shown marks p && b) (chosen .bits q hq)
-
-        word : edgeBit after p q ≡ (edgeBit edges p q && (shown marks p && (ltb q n && shown marks q)))
-        word =
-            ap (λ (x : ℕ). bitAt x (q % 64)) (m .words p (q / 64) (omega arith) (omega arith))
-            ∙ bit-and (getD edges (8 * p + q / 64) 0) (keptWord mask marks p (q / 64)) (q % 64)
-            ∙ ap (λ (b : Bool). edgeBit edges p q && b) kept
-
-    pub masking-done : after ≡ edgesOf (visiblePart (markedGraph n edges marks))
-    unfolding visiblePart markedGraph
-    masking-done = edges-by-bits (visiblePart g) after (m .size ∙ size) word-lt bit-is
-
-  part-proper : Proper (visiblePart (markedGraph n edges marks))
-  part-proper = visible-proper g (d .proper .small) (simple-test g (d .proper))
+  part-proper : Proper (visiblePart (drawn n edges marks classes))
+  part-proper = visible-proper g (d .proper .small) (graph-test g (d .proper))
 
   -- what the masked table tells
-  module _ {masked : List ℕ} (e : masked ≡ edgesOf (visiblePart (markedGraph n edges marks))) where
-    masked-edge : edgesIn n masked ≡ visible (markedGraph n edges marks) .edge
-    unfolding visiblePart markedGraph
+  module _ {masked : List ℕ} (e : masked ≡ edgesOf (visiblePart (drawn n edges marks classes))) where
+    masked-edge : edgesIn n masked ≡ visible (drawn n edges marks classes) .edge
+    unfolding visiblePart drawn
     masked-edge = ap (edgesIn n) e ∙ edges-in (visiblePart g) part-proper
 
     masked-within : Within n masked
-    unfolding visiblePart markedGraph
+    unfolding visiblePart drawn
     masked-within = rw e (record { small = d .small; edges-of = ready (visiblePart g) part-proper .edges-of })
 
-    hidden-edge : (p q : ℕ) → shown marks q ≡ false → visible (markedGraph n edges marks) .edge p q ≡ false
+    hidden-edge : (p q : ℕ) → shown marks q ≡ false → visible (drawn n edges marks classes) .edge p q ≡ false
     unfolding visibleEdge
-    hidden-edge p q h = rw (visible-is n edges marks q, h, and-false (ltb q n)) (and-false (isVisible g p))
+    hidden-edge p q h = rw (visible-is n edges marks classes q, h, and-false (ltb q n)) (and-false (isVisible g p))
 
-    pub masked-apart : Apart n masked marks
-    unfolding markedGraph
+    pub masked-apart : Apart n masked marks classes
+    unfolding drawn
     masked-apart = record {
       proper = record {
         small = d .small;
@@ -173,31 +173,36 @@ module _ {n : ℕ} {edges marks : List ℕ} (d : Drawn n edges marks) where
         irreflexive = λ p. rw masked-edge (unfold visiblePart in part-proper .irreflexive p);
         inside = λ p q t. unfold edgesIn in ltb-true p n (and-fst (ltb p n) _ t);
         held = λ p t. ltb-true p n (and-fst (ltb p n) _ t);
+        classed = d .proper .classed;
+        unclassed = d .proper .unclassed;
       };
       within = masked-within;
       marked = d .marked;
+      labelled = d .labelled;
       none = λ p q h. rw masked-edge (hidden-edge p q h);
     }
 
-    masked-alike : Alike (markedGraph n masked marks) (markedGraph n edges marks)
-    unfolding markedGraph
-    masked-alike = record { marks = record { nodeCount = refl; hidden = λ p h. refl }; edge = λ p q x y. rw masked-edge (both p q (told p x) (told q y)) }
+    masked-alike : Alike (drawn n masked marks classes) (drawn n edges marks classes)
+    unfolding drawn
+    masked-alike = record { marks = record { nodeCount = refl; hidden = λ p h. refl }; edge = λ p q x y. rw masked-edge (both p q (told p x) (told q y)); class = λ p h. refl }
       where
-        told : (p : ℕ) → isVisible (markedGraph n masked marks) p ≡ true → isVisible (markedGraph n edges marks) p ≡ true
-        told p x = visible-is n edges marks p ∙ sym (visible-is n masked marks p) ∙ x
+        told : (p : ℕ) → isVisible (drawn n masked marks classes) p ≡ true → isVisible (drawn n edges marks classes) p ≡ true
+        told p x = visible-is n edges marks classes p ∙ sym (visible-is n masked marks classes p) ∙ x
 
-        both : (p q : ℕ) → isVisible (markedGraph n edges marks) p ≡ true → isVisible (markedGraph n edges marks) q ≡ true → visible (markedGraph n edges marks) .edge p q ≡ edgesIn n edges p q
+        both : (p q : ℕ) → isVisible (drawn n edges marks classes) p ≡ true → isVisible (drawn n edges marks classes) q ≡ true → visible (drawn n edges marks classes) .edge p q ≡ edgesIn n edges p q
         both p q x y = unfold visibleEdge in rw (x, y)
 
-    pub masked-truth : {lst : List ℕ} → Truth (markedGraph n masked marks) lst masked → Truth (markedGraph n edges marks) lst masked
+    pub masked-truth : {lst : List ℕ} → Truth (drawn n masked marks classes) lst classes masked → Truth (drawn n edges marks classes) lst classes masked
     masked-truth {lst} t = record {
       proper = d .proper;
-      size = unfold markedGraph in t .size;
-      rows = unfold markedGraph in t .rows;
+      size = unfold drawn in t .size;
+      labelled = unfold drawn in d .labelled;
+      rows = unfold drawn in t .rows;
       visible-least = λ p h. t .visible-least p (seen p ∙ h) ∙ ap (λ (v : View). least (v .nodes) (similar v) p) (alike-visible _ _ masked-alike);
-      hidden-least = λ p l h. unfold markedGraph in t .hidden-least p l (seen p ∙ h);
+      hidden-least = λ p l h. unfold drawn in t .hidden-least p l (seen p ∙ h);
+      class-is = λ p h. unfold drawn in t .class-is p (seen p ∙ h);
       edge-is = λ p q x y. t .edge-is p q (seen p ∙ x) (seen q ∙ y) ∙ ap (λ (v : View). v .edge p q) (alike-visible _ _ masked-alike);
     }
       where
-        seen : (p : ℕ) → isVisible (markedGraph n masked marks) p ≡ isVisible (markedGraph n edges marks) p
-        seen p = visible-is n masked marks p ∙ sym (visible-is n edges marks p)
+        seen : (p : ℕ) → isVisible (drawn n masked marks classes) p ≡ isVisible (drawn n edges marks classes) p
+        seen p = visible-is n masked marks classes p ∙ sym (visible-is n edges marks classes p)

@@ -6,16 +6,21 @@ use Prim.Native.Nat.{ℕ, _+_, _*_, _≤_, _<_}
 use lib.Bits.{bitAnd}
 use lib.Dec.{eqb}
 use lib.ListN.{length, getD}
-use Rattle.model.specs.Graph.{Proper, maxNodes, rowWords}
-use Rattle.model.specs.Tables.{edgesIn, markedGraph}
+use Rattle.model.specs.Graph.{Graph, Proper, maxNodes, rowWords}
+use Rattle.model.specs.Tables.{edgesIn, graphWith}
 use Rattle.search.specs.Search.{Within}
 
--- the edge table and the marks tell a graph: edges without direction, none from a node to itself
-pub record Drawn (n : ℕ) (edges marks : List ℕ) : Type 0 where
+-- the graph of n nodes that an edge table, marks (1: hidden) and classes tell
+unfoldable pub drawn : ℕ → List ℕ → List ℕ → List ℕ → Graph
+drawn n edges marks classes = graphWith n edges (λ p. getD marks p 0) (λ p. getD classes p 0)
+
+-- it is one: edges without direction, none from a node to itself, classes below 256
+pub record Drawn (n : ℕ) (edges marks classes : List ℕ) : Type 0 where
   pub small : n ≤ maxNodes
-  pub proper : Proper (markedGraph n edges marks)
+  pub proper : Proper (drawn n edges marks classes)
   pub size : length edges ≡ rowWords * n
   pub marked : n ≤ length marks
+  pub labelled : n ≤ length classes
 
 -- node q is not marked as hidden
 unfoldable pub shown : List ℕ → ℕ → Bool
@@ -40,8 +45,9 @@ pub record RowPut (p k : ℕ) (word : ℕ → ℕ) (t after : List ℕ) : Type 0
   pub earlier : (i : ℕ) → i < rowWords * p → getD after i 0 ≡ getD t i 0
 
 -- hidden nodes have no edges
-pub record Apart (n : ℕ) (edges marks : List ℕ) : Type 0 where
-  pub proper : Proper (markedGraph n edges marks)
+pub record Apart (n : ℕ) (edges marks classes : List ℕ) : Type 0 where
+  pub proper : Proper (drawn n edges marks classes)
   pub within : Within n edges
   pub marked : n ≤ length marks
+  pub labelled : n ≤ length classes
   pub none : (p q : ℕ) → shown marks q ≡ false → edgesIn n edges p q ≡ false

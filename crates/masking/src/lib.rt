@@ -1,12 +1,13 @@
 // The edges between visible nodes.
 ghost use mathlib.Core.Path.{_≡_};
-ghost use Prim.Native.Nat.{_+_, _*_, _≤_, _<_};
+ghost use mathlib.Core.List.{List};
+ghost use Prim.Native.Nat.{ℕ, _+_, _*_, _≤_, _<_};
 ghost use lib.ListN.{length};
 ghost use Rattle.model.specs.Graph.{maxNodes, rowWords};
-ghost use Rattle.model.specs.Tables.{edgesOf, markedGraph};
+ghost use Rattle.model.specs.Tables.{edgesOf};
 ghost use Rattle.model.specs.Release.{visiblePart};
 ghost use Rattle.layout.specs.Words.{Marking};
-ghost use Rattle.masking.specs.Masking.{Drawn, RowPut, cutWord, maskedWord, shown};
+ghost use Rattle.masking.specs.Masking.{RowPut, cutWord, drawn, maskedWord, shown};
 use rows::Graph;
 
 // Whether node q is visible.
@@ -57,8 +58,8 @@ fn mask_node(edges: &[u64], hidden: &[u16], set: &[u64; 8], p: usize, masked: &m
 
 // The edges between visible nodes.
 pub fn mask_edges(edges: &[u64], hidden: &[u16], n: usize, masked: &mut [u64])
-    requires { ⌜ Drawn n (now edges) (now hidden) × (length (now masked) ≡ rowWords * n) ⌝ }
-    ensures { λ _. ⌜ now (masked .exit) ≡ edgesOf (visiblePart (markedGraph n (now (edges .entry)) (now (hidden .entry)))) ⌝ }
+    requires { ⌜ (n ≤ maxNodes) × (n ≤ length (now hidden)) × (rowWords * n ≤ length (now edges)) × (length (now masked) ≡ rowWords * n) ⌝ }
+    ensures { λ _. ⌜ ((classes : List ℕ) → now (masked .exit) ≡ edgesOf (visiblePart (drawn n (now (edges .entry)) (now (hidden .entry)) classes))) ⌝ }
 {
     let set = visible_set(hidden, n);
     for p in 0..n {

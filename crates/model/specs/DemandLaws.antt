@@ -14,7 +14,7 @@ use Rattle.model.specs.Grouping.{algorithm1, least, similar}
 use Rattle.model.specs.Summary.{Summarises, Summary}
 use Rattle.model.specs.Tables.{Tables, graphOf, groupsIn, tablesOf}
 use Rattle.model.specs.Refusals.{Lengths, firstOf, lengths, pairReasons, wrongSize, Reasons, judged}
-use Rattle.model.specs.Updates.{RevealsNobody, Update, answers, batchGraph, refusal, refusalIn, updateReasons, updatesIn}
+use Rattle.model.specs.Updates.{LeavesClasses, RevealsNobody, Update, answers, batchGraph, refusal, refusalIn, updateReasons, updatesIn}
 use Rattle.model.specs.Release.{release, superedgeCount, superedges, visible, visibleGroups, visiblePart, isVisible, visibleEdge}
 use Rattle.model.specs.Lists.{_∈_, all, nodes}
 use Rattle.model.specs.Steps.{Stepped, run}
@@ -32,9 +32,9 @@ use Rattle.model.specs.HiddenLaws.{seen-equivalence, seen-in}
 use Rattle.model.specs.SummaryLaws.{algorithm1-summarises, share-similar, similar-share}
 use Rattle.model.specs.GroupDistanceLaws.{distance-by-groups, summarises-unfolds}
 use Rattle.model.specs.FewestLaws.{fewest}
-use Rattle.model.specs.TableLaws.{groups-told, held-proper, held-tables, proper-simple, read-back, simple-test}
+use Rattle.model.specs.TableLaws.{graph-test, groups-told, held-proper, held-tables, proper-simple, read-back}
 use Rattle.model.specs.ReleaseLaws.{alike-visible, length-release, non-interference, visible-ascending, visible-simple, alike-node}
-use Rattle.model.specs.UpdateLaws.{answer-accepted, answer-near, answer-told, length-answers, mark-answer, proper-batch, reveal-accepted, update-refused, wanted-holds}
+use Rattle.model.specs.UpdateLaws.{answer-accepted, answer-near, answer-told, asked-holds, class-near, length-answers, mark-answer, proper-batch, reveal-accepted, update-refused}
 use Rattle.model.specs.FrozenLaws.{batch-alike, frozen-refused, reveals-nobody}
 use Rattle.model.specs.HistoryLaws.{Kept, history-told, kept-graph, kept-holds, kept-size, lengths-of, lengthsFor, name-stays, opened-size, returned, right-size}
 use Rattle.model.specs.RefusalLaws.{first-passes, judged-refused, judged-related, judged-result}
@@ -257,7 +257,7 @@ module _ (n : ℕ) (t : Tables) (file : List ℕ) (w : wrongSize n (lengths t) �
       read-again out k = rw call (unfold released in (refl, ap (λ (s : List ℕ). onto s out) back))
         where
           v : Proper (visiblePart g)
-          v = visible-proper g (h .small) (simple-test g h)
+          v = visible-proper g (h .small) (graph-test g h)
 
           back : release (visiblePart g) ≡ file
           back = non-interference (visiblePart g) g (visible-alike g) ∙ sym same
@@ -374,7 +374,7 @@ demand2 = record {
       let h = history-told s n cs ok .0 in
       record { back = returned n l w _ _ h name ds z; stays = name-stays n l w _ _ h name ds z };
   grouped = λ x. grouped-exactly (lengths (tablesOfSource x)) (graphOfSource x) (tablesOfSource x) (kept x);
-  answered = λ x c ok. record { effect = wanted-holds (graphOfSource x) c (kept x .proper) ok; difference = answer-accepted (graphOfSource x) c ok; range = answer-near (graphOfSource x) c (kept x .proper) ok; mark = λ e. mark-answer (graphOfSource x) c e ok };
+  answered = λ x c ok. record { effect = asked-holds (graphOfSource x) c (kept x .proper) ok; difference = answer-accepted (graphOfSource x) c ok; range = answer-near (graphOfSource x) c (kept x .proper) ok; mark = λ e. mark-answer (graphOfSource x) c e ok; class = class-near (graphOfSource x) c (kept x .proper) ok };
   unfolded = λ x. file-summarises (graphOfSource x) (kept x .proper);
   reading = read-exactly;
   asking = asked-exactly;
@@ -393,7 +393,7 @@ module _ (a b : Graph) (s t : Tables) (ks : Kept (lengths s) a s) (kt : Kept (le
   abbrev cs : List Update
   cs = updatesIn xs
 
-  alike-told : (map refusalIn (answers a cs) ≡ map refusalIn (answers b cs)) × Alike (batchGraph a cs) (batchGraph b cs)
+  alike-told : (LeavesClasses a cs → map refusalIn (answers a cs) ≡ map refusalIn (answers b cs)) × Alike (batchGraph a cs) (batchGraph b cs)
   alike-told = batch-alike a b (ks .proper) (kt .proper) h cs nobody
 
   told-on : (g : Graph) → map refusalIn (onto (answers g cs) out) ≡ map refusalIn (answers g cs) ++ map refusalIn (drop (length cs) out)
@@ -402,15 +402,15 @@ module _ (a b : Graph) (s t : Tables) (ks : Kept (lengths s) a s) (kt : Kept (le
   after-back : (g : Graph) → Proper g → a .nodeCount ≡ g .nodeCount → graphOf (a .nodeCount) (tablesOf (batchGraph g cs)) ≡ batchGraph g cs
   after-back g k e = let p = proper-batch cs g k in ap (λ (n : ℕ). graphOf n (tablesOf (batchGraph g cs))) (e ∙ sym (p .1)) ∙ read-back (batchGraph g cs) (p .0)
 
-  pub applied-alike : AppliedAlike (a .nodeCount) (applyCall (a .nodeCount) s xs out) (applyCall (b .nodeCount) t xs out)
+  pub applied-alike : AppliedAlike (a .nodeCount) (LeavesClasses a (updatesIn xs)) (applyCall (a .nodeCount) s xs out) (applyCall (b .nodeCount) t xs out)
   unfolding applyCall applyReasons
   applied-alike =
-      judged-related (AppliedAlike (a .nodeCount)) (applyReasons (a .nodeCount) s xs out) (applyReasons (b .nodeCount) t xs out) (applyRefused s out) (applyRefused t out) _ _
+      judged-related (AppliedAlike (a .nodeCount) (LeavesClasses a cs)) (applyReasons (a .nodeCount) s xs out) (applyReasons (b .nodeCount) t xs out) (applyRefused s out) (applyRefused t out) _ _
       (rw (kept-size ks, kept-size kt, kept-holds ks (a .nodeCount) refl, kept-holds kt (b .nodeCount) refl))
-      (λ z. record { result = refl; refusals = refl; after = rw (kept-graph ks (a .nodeCount) refl, kept-graph kt (a .nodeCount) (h .marks .nodeCount)) h })
+      (λ z. record { result = refl; refusals = λ w. refl; after = rw (kept-graph ks (a .nodeCount) refl, kept-graph kt (a .nodeCount) (h .marks .nodeCount)) h })
       (λ z. rw (kept-graph ks (a .nodeCount) refl, kept-graph kt (b .nodeCount) refl) (record {
         result = refl;
-        refusals = told-on a ∙ ap (λ (x : List ℕ). x ++ map refusalIn (drop (length cs) out)) (alike-told .0) ∙ sym (told-on b);
+        refusals = λ w. told-on a ∙ ap (λ (x : List ℕ). x ++ map refusalIn (drop (length cs) out)) (alike-told .0 w) ∙ sym (told-on b);
         after = rw (after-back a (ks .proper) refl, after-back b (kt .proper) (h .marks .nodeCount)) (alike-told .1);
       }))
 

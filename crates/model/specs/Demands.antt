@@ -2,7 +2,7 @@
 -- they hold is proved in DemandLaws (demand1, demand2, demand3). Every call of the code is equated with its definition in
 -- Calls, so what is said here of openCall, applyCall, releaseCall and the others is said of the code.
 use mathlib.Core.Path.{_≡_}
-use mathlib.Core.Bool.{Bool, true, false, _&&_, _||_}
+use mathlib.Core.Bool.{Bool, true, false, not, _&&_, _||_}
 use mathlib.Core.List.{List, [], _∷_, map, List·Memᴰ}
 use mathlib.Core.Logic.{_↔_}
 use Prim.Native.Nat.{ℕ, _+_, _*_, _≤_, _<_}
@@ -17,7 +17,7 @@ use Rattle.model.specs.Tables.{Tables, graphOf, groupsIn, tablesOf}
 use Rattle.model.specs.Store.{isKept, keptGraph, placesIn}
 use Rattle.model.specs.Steps.{run}
 use Rattle.model.specs.Refusals.{Reasons, firstOf, lengths, wrongSize}
-use Rattle.model.specs.Updates.{RevealsNobody, Update, answer, answers, batchGraph, groupCount, isFrozen, onEdge, refusal, refusalIn, there, updateReasons, updated, updatesIn}
+use Rattle.model.specs.Updates.{LeavesClasses, RevealsNobody, Update, answer, answers, asked, batchGraph, groupCount, isFrozen, onClass, onMark, refusal, refusalIn, there, updateReasons, updated, updatesIn}
 use Rattle.model.specs.Release.{release, superedgeCount, visible, visibleGroups, visiblePart, isVisible}
 use Rattle.model.specs.Reading.{summaryIn}
 use Rattle.model.specs.Queries.{leaderIn, pairs}
@@ -58,18 +58,21 @@ pub record Demand1 : Type 0 where
 pub record GroupedExactly (g : Graph) (t : Tables) : Type 0 where
   -- the groups are exactly those of Algorithm 1
   pub groups : groupsIn (g .nodeCount) (t .nodes) ≡ algorithm1 (whole g)
-  -- two nodes stand in one of them exactly if line 6 of Algorithm 1 holds for the two
+  -- two nodes stand in one of them exactly if they are of one class and line 6 of Algorithm 1 holds for the two
   pub shared : (p q : ℕ) → p < g .nodeCount → q < g .nodeCount → Share (groupsIn (g .nodeCount) (t .nodes)) p q ↔ (similar (whole g) p q ≡ true)
-  -- unfolding them, with the kinds and superedges that the tables tell, gives exactly the edges that the accepted updates leave
+  -- unfolding them, with the kinds, superedges and classes that the tables tell, gives exactly the edges and classes that the
+  -- accepted updates leave
   pub exact : Summarises (whole g) (summaryOf (whole (graphOf (g .nodeCount) t)) (groupsIn (g .nodeCount) (t .nodes)))
 
--- what an accepted update wants holds after it, and it answers with the groups after it minus the groups before it, from -2 to 2
+-- what an accepted update asks holds after it, and it answers with the groups after it minus the groups before it, from -2 to 2
 pub record Answered (g : Graph) (c : Update) : Type 0 where
-  pub effect : there (updated g c) c ≡ c .wanted
+  pub effect : there (updated g c) c ≡ asked c
   pub difference : answer g c ≡ subℕ (groupCount (updated g c)) (groupCount g)
   pub range : natAbs (answer g c) ≤ 2
   -- an update of a mark leaves the groups as they are
-  pub mark : onEdge c ≡ false → answer g c ≡ pos 0
+  pub mark : onMark c ≡ true → answer g c ≡ pos 0
+  -- one of a class moves them by at most one
+  pub class : onClass c ≡ true → natAbs (answer g c) ≤ 1
 
 -- the bytes are no graph's release, for any n to 512
 abbrev pub NoRelease : List ℕ → Type 0
@@ -83,7 +86,7 @@ pub record ReadExactly (n : ℕ) (t : Tables) (file : List ℕ) : Type 0 where
   pub other : readCall n t file .result ≡ 20 ↔ ((g : Graph) × Proper g × (g .nodeCount ≡ n → ⊥) × (file ≡ release g))
   -- 0 exactly if it is the release of a graph with n nodes
   pub done : readCall n t file .result ≡ 0 ↔ ((g : Graph) × Proper g × (g .nodeCount ≡ n) × (file ≡ release g))
-  -- the tables are then those of the visible part, whose hidden nodes have no edges
+  -- the tables are then those of the visible part, whose hidden nodes have no edges and class 0
   pub tables : (g : Graph) → Proper g → g .nodeCount ≡ n → file ≡ release g → readCall n t file .tables ≡ tablesOf (visiblePart g)
   -- released again, it has the same bytes
   pub again : readCall n t file .result ≡ 0 → (out : List ℕ) → length file ≤ length out
@@ -163,25 +166,25 @@ pub record Faithful (x : Source) (g : Graph) (t : Tables) : Type 0 where
   -- a shorter one is refused with 18 and left as it is
   pub short : (out : List ℕ) → length out < length (release g)
       → releaseCall (g .nodeCount) t out ≡ releaseRefused out 18
-  pub bytes : length (release g) ≡ 10 + 4 * length (visibleGroups g) + 2 * length (visible g .nodes) + 6 * superedgeCount g
-  -- its groups unfold to the edges among visible nodes, and its head counts them
+  pub bytes : length (release g) ≡ 10 + 6 * length (visibleGroups g) + 2 * length (visible g .nodes) + 6 * superedgeCount g
+  -- its groups unfold to the edges among visible nodes, each is of one class, and its head counts them
   pub summarises : Summarises (visible g) (summaryIn (release g))
   pub counted : summaryIn (release g) .count ≡ length (visibleGroups g)
-  -- every other division of these nodes that unfolds to the same edges has at least as many groups
+  -- every other division of these nodes into groups of one class that unfolds to the same edges has at least as many groups
   pub fewest : (d : Summary) → Summarises (visible g) d → length (visibleGroups g) ≤ d .count
 
--- what one batch did to tables of two graphs alike in what is visible
-pub record AppliedAlike (n : ℕ) (a b : Applied) : Type 0 where
+-- what one batch did to tables of two graphs alike in what is visible; whether it leaves the classes of hidden nodes
+pub record AppliedAlike (n : ℕ) (leaves : Type 0) (a b : Applied) : Type 0 where
   pub result : a .result ≡ b .result
   -- the same updates are refused, by the same numbers
-  pub refusals : map refusalIn (a .answers) ≡ map refusalIn (b .answers)
+  pub refusals : leaves → map refusalIn (a .answers) ≡ map refusalIn (b .answers)
   -- and the graphs are alike in what is visible afterwards
   pub after : Alike (graphOf n (a .tables)) (graphOf n (b .tables))
 
 pub record Demand3 : Type 0 where
   pub each : (x : Source) → Faithful x (graphOfSource x) (tablesOfSource x)
-  -- two sources with equally many nodes, the same ones hidden and the same edges among the rest: their releases are alike in
-  -- every number and every byte, and a buffer is too short for the one exactly when it is too short for the other
+  -- two sources with equally many nodes, the same ones hidden and the same edges among the rest and classes of them: their releases
+  -- are alike in every number and every byte, and a buffer is too short for the one exactly when it is too short for the other
   pub alike : (x y : Source) → Alike (graphOfSource x) (graphOfSource y) → (out : List ℕ)
       → releaseCall (graphOfSource x .nodeCount) (tablesOfSource x) out ≡ releaseCall (graphOfSource y .nodeCount) (tablesOfSource y) out
   -- an update of an edge that names a hidden node is refused, and by which number does not depend on any edge
@@ -191,8 +194,8 @@ pub record Demand3 : Type 0 where
   -- one batch that reveals nobody does not tell two sources apart that are alike in what is visible, but for the numbers from -2 to 2
   -- that accepted updates answer: these count groups of the whole graph
   pub batches : (x y : Source) → Alike (graphOfSource x) (graphOfSource y) → (xs : List ℕ) → RevealsNobody (graphOfSource x) (updatesIn xs) → (out : List ℤ)
-      → AppliedAlike (graphOfSource x .nodeCount) (applyCall (graphOfSource x .nodeCount) (tablesOfSource x) xs out) (applyCall (graphOfSource y .nodeCount) (tablesOfSource y) xs out)
-  -- every batch whose updates are of edges, or to hide, is one that reveals nobody
-  pub nobody : (g : Graph) (cs : List Update) → ((c : Update) → List·Memᴰ c cs → (onEdge c || eqb (c .wanted) 1) ≡ true) → RevealsNobody g cs
+      → AppliedAlike (graphOfSource x .nodeCount) (LeavesClasses (graphOfSource x) (updatesIn xs)) (applyCall (graphOfSource x .nodeCount) (tablesOfSource x) xs out) (applyCall (graphOfSource y .nodeCount) (tablesOfSource y) xs out)
+  -- every batch whose updates are of edges or classes, or to hide, is one that reveals nobody
+  pub nobody : (g : Graph) (cs : List Update) → ((c : Update) → List·Memᴰ c cs → (not (onMark c) || eqb (c .wanted) 1) ≡ true) → RevealsNobody g cs
   -- the number of a refusal is told by the answer
   pub told : (x : Source) (c : Update) → refusalIn (answer (graphOfSource x) c) ≡ refusal (graphOfSource x) c

@@ -212,7 +212,7 @@ unfolding emptyGraph
 edgeCount-batch n cs = omega (arith, batch-adds cs (emptyGraph n) (nodes n) (nodes-ascending n), edgeCount-none (nodes n))
 
 -- so few edges make a short release
-pub release-le : (g : Graph) → Proper g → length (release g) ≤ 10 + 6 * g .nodeCount + 6 * edgeCount (whole g .edge) (whole g .nodes)
+pub release-le : (g : Graph) → Proper g → length (release g) ≤ 10 + 8 * g .nodeCount + 6 * edgeCount (whole g .edge) (whole g .nodes)
 unfolding visibleGroups superedgeCount leaders
 release-le g h =
     omega (

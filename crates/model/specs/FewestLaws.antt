@@ -22,6 +22,9 @@ module _ (v : View) (g : Simple v) (asc : Ascending (v .nodes)) (d : Summary) (s
   unfolding reconstruct closed
   inside-ours p q mp mq h = kind (decide (d .cliques (d .groupOf p)))
     where
+      one-class : v .class p ≡ v .class q
+      one-class = sym (s .classed p mp) ∙ ap (d .classes) h ∙ s .classed q mq
+
       -- the nodes that p has an edge to, by p's group alone
       Tie : ℕ → ℕ → Bool
       Tie i x = cond (eqb i (d .groupOf x)) (d .cliques i) (d .superedges i (d .groupOf x) || d .superedges (d .groupOf x) i)
@@ -40,8 +43,8 @@ module _ (v : View) (g : Simple v) (asc : Ascending (v .nodes)) (d : Summary) (s
           by-case (inr t) (inr u) = rw (k, u, t) (or-false (d .superedges (d .groupOf p) (d .groupOf x) || d .superedges (d .groupOf x) (d .groupOf p)))
 
       kind : (d .cliques (d .groupOf p) ≡ true) ⊎ (d .cliques (d .groupOf p) ≡ false) → similar v p q ≡ true
-      kind (inl c) = similar-N+ v p q (trueTwins-by v p q (λ x m. full c p x mp m refl ∙ sym (full c q x mq m (sym h))))
-      kind (inr c) = similar-N v p q (falseTwins-by v p q (λ x m. by-superedges c p x mp m refl ∙ sym (by-superedges c q x mq m (sym h))))
+      kind (inl c) = similar-N+ v p q one-class (trueTwins-by v p q (λ x m. full c p x mp m refl ∙ sym (full c q x mq m (sym h))))
+      kind (inr c) = similar-N v p q one-class (falseTwins-by v p q (λ x m. by-superedges c p x mp m refl ∙ sym (by-superedges c q x mq m (sym h))))
 
   pub fewest : length (algorithm1 v) ≤ d .count
   fewest = rw (algorithm1-classes v g asc) (fewest-classes (v .nodes) (similar v) (equivalence v g asc) asc (d .count) (d .groupOf) (s .placed) inside-ours)

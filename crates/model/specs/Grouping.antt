@@ -20,9 +20,9 @@ falseTwins v p q = all (v .nodes) (λ r. Bool·beq (v .edge p r) (v .edge q r))
 unfoldable pub trueTwins : View → ℕ → ℕ → Bool
 trueTwins v p q = all (v .nodes) (λ r. Bool·beq (closed (v .edge) p r) (closed (v .edge) q r))
 
--- Algorithm 1, line 6
+-- who shares a group: nodes of one class for which line 6 of Algorithm 1 holds
 unfoldable pub similar : View → ℕ → ℕ → Bool
-similar v p q = falseTwins v p q || trueTwins v p q
+similar v p q = eqb (v .class p) (v .class q) && (falseTwins v p q || trueTwins v p q)
 
 -- Algorithm 1, lines 3 to 8, for any relation r in the place of line 6: `us` are the nodes that the loop of line 3 has yet to
 -- come to, `done` those whose status is True.

@@ -10,10 +10,10 @@ use borrow.Author.Tests.{eqb-false, eqb-true, ltb-false, ltb-true, ne-eqb}
 use Rattle.model.specs.Lists.{_∈_, nodes}
 use Rattle.model.specs.Graph.{Graph, Proper, whole}
 use Rattle.model.specs.Grouping.{closed, falseTwins, least, similar, trueTwins}
-use Rattle.model.specs.Release.{isVisible, visible, visibleEdge}
+use Rattle.model.specs.Release.{isVisible, visible, visibleClass, visibleEdge}
 use Rattle.model.specs.TestLaws.{decide, differ, iff-eq}
 use Rattle.model.specs.ListLaws.{Ascending, filter-elim, filter-intro, nodes-ascending, nodes-in, nodes-out}
-use Rattle.model.specs.TwinLaws.{Simple, falseTwins-at, falseTwins-by, similar-N, similar-N+, similar-cases, trueTwins-at, trueTwins-by, trueTwins-edge}
+use Rattle.model.specs.TwinLaws.{Simple, falseTwins-at, falseTwins-by, similar-N, similar-N+, similar-cases, similar-class, trueTwins-at, trueTwins-by, trueTwins-edge}
 use Rattle.model.specs.ClassLaws.{Equivalence, least-in, least-le, least-rel}
 use Rattle.model.specs.SummaryLaws.{equivalence}
 use Rattle.model.specs.ReleaseLaws.{visible-ascending, visible-simple}
@@ -39,6 +39,10 @@ module _ (g : Graph) (none : (p q : ℕ) → isVisible g q ≡ false → g .edge
       step : (isVisible g q ≡ true) ⊎ (isVisible g q ≡ false) → (isVisible g p && (isVisible g q && g .edge p q)) ≡ g .edge p q
       step (inl k) = rw (h, k)
       step (inr k) = rw (h, k, none p q k)
+
+  pub class-seen : (p : ℕ) → isVisible g p ≡ true → visible g .class p ≡ g .class p
+  unfolding visibleClass
+  class-seen p h = rw h
 
   -- similar among all nodes is similar among the visible
   module _ (u q : ℕ) (hu : isVisible g u ≡ true) (hq : isVisible g q ≡ true) where
@@ -70,15 +74,15 @@ module _ (g : Graph) (none : (p q : ℕ) → isVisible g q ≡ false → g .edge
         at x (inr v) = rw (none u x v, none q x v, other u x hu v, other q x hq v)
 
     pub similar-seen : similar (whole g) u q ≡ similar (visible g) u q
-    similar-seen = iff-eq (similar (whole g) u q) (similar (visible g) u q) (λ h. there (similar-cases (whole g) u q h)) (λ h. back (similar-cases (visible g) u q h))
+    similar-seen = iff-eq (similar (whole g) u q) (similar (visible g) u q) (λ h. there (class-seen u hu ∙ similar-class (whole g) u q h ∙ sym (class-seen q hq)) (similar-cases (whole g) u q h)) (λ h. back (sym (class-seen u hu) ∙ similar-class (visible g) u q h ∙ class-seen q hq) (similar-cases (visible g) u q h))
       where
-        there : (falseTwins (whole g) u q ≡ true) ⊎ (trueTwins (whole g) u q ≡ true) → similar (visible g) u q ≡ true
-        there (inl t) = similar-N (visible g) u q (to-false t)
-        there (inr t) = similar-N+ (visible g) u q (to-true t)
+        there : visible g .class u ≡ visible g .class q → (falseTwins (whole g) u q ≡ true) ⊎ (trueTwins (whole g) u q ≡ true) → similar (visible g) u q ≡ true
+        there e (inl t) = similar-N (visible g) u q e (to-false t)
+        there e (inr t) = similar-N+ (visible g) u q e (to-true t)
 
-        back : (falseTwins (visible g) u q ≡ true) ⊎ (trueTwins (visible g) u q ≡ true) → similar (whole g) u q ≡ true
-        back (inl t) = similar-N (whole g) u q (of-false t)
-        back (inr t) = similar-N+ (whole g) u q (of-true t)
+        back : g .class u ≡ g .class q → (falseTwins (visible g) u q ≡ true) ⊎ (trueTwins (visible g) u q ≡ true) → similar (whole g) u q ≡ true
+        back e (inl t) = similar-N (whole g) u q e (of-false t)
+        back e (inr t) = similar-N+ (whole g) u q e (of-true t)
 
 -- and that is proper
 module _ (g : Graph) (proper : Proper g) where
@@ -106,9 +110,9 @@ module _ (g : Graph) (proper : Proper g) where
   eq-all : Equivalence (nodes (g .nodeCount)) (similar (whole g))
   eq-all = equivalence (whole g) simple-all asc-all
 
-  -- p has no edge
+  -- p has no edge, and is of class 0
   abbrev Lone : ℕ → Type 0
-  Lone p = (q : ℕ) → g .edge p q ≡ false
+  Lone p = ((q : ℕ) → g .edge p q ≡ false) × (g .class p ≡ 0)
 
   edge-outside : (p q : ℕ) → g .nodeCount ≤ q → g .edge p q ≡ false
   edge-outside p q l = step (decide (g .edge p q))
@@ -118,16 +122,16 @@ module _ (g : Graph) (proper : Proper g) where
       step (inr t) = t
 
   pub isolated-similar : (p q : ℕ) → Lone p → Lone q → similar (whole g) p q ≡ true
-  isolated-similar p q a b = similar-N (whole g) p q (falseTwins-by (whole g) p q (λ x m. a x ∙ sym (b x)))
+  isolated-similar p q a b = similar-N (whole g) p q (a .1 ∙ sym (b .1)) (falseTwins-by (whole g) p q (λ x m. a .0 x ∙ sym (b .0 x)))
 
   pub similar-isolated : (p q : ℕ) → q < g .nodeCount → Lone p → similar (whole g) p q ≡ true → Lone q
-  similar-isolated p q hq a h x = step (decide (ltb x (g .nodeCount))) (decide (eqb p q)) (similar-cases (whole g) p q h)
+  similar-isolated p q hq a h = (λ x. step x (decide (ltb x (g .nodeCount))) (decide (eqb p q)) (similar-cases (whole g) p q h), sym (similar-class (whole g) p q h) ∙ a .1)
     where
-      step : (ltb x (g .nodeCount) ≡ true) ⊎ (ltb x (g .nodeCount) ≡ false) → (eqb p q ≡ true) ⊎ (eqb p q ≡ false) → (falseTwins (whole g) p q ≡ true) ⊎ (trueTwins (whole g) p q ≡ true) → g .edge q x ≡ false
-      step (inr b) e t = edge-outside q x (ltb-false x (g .nodeCount) b)
-      step (inl b) (inl e) t = ap (λ (z : ℕ). g .edge z x) (sym (eqb-true p q e)) ∙ a x
-      step (inl b) (inr e) (inl t) = sym (falseTwins-at (whole g) p q t x (nodes-in (g .nodeCount) x (ltb-true x (g .nodeCount) b))) ∙ a x
-      step (inl b) (inr e) (inr t) = differ (trueTwins-edge (whole g) simple-all p q (nodes-in (g .nodeCount) q hq) (eqb-false p q e) t) (a q)
+      step : (x : ℕ) → (ltb x (g .nodeCount) ≡ true) ⊎ (ltb x (g .nodeCount) ≡ false) → (eqb p q ≡ true) ⊎ (eqb p q ≡ false) → (falseTwins (whole g) p q ≡ true) ⊎ (trueTwins (whole g) p q ≡ true) → g .edge q x ≡ false
+      step x (inr b) e t = edge-outside q x (ltb-false x (g .nodeCount) b)
+      step x (inl b) (inl e) t = ap (λ (z : ℕ). g .edge z x) (sym (eqb-true p q e)) ∙ a .0 x
+      step x (inl b) (inr e) (inl t) = sym (falseTwins-at (whole g) p q t x (nodes-in (g .nodeCount) x (ltb-true x (g .nodeCount) b))) ∙ a .0 x
+      step x (inl b) (inr e) (inr t) = differ (trueTwins-edge (whole g) simple-all p q (nodes-in (g .nodeCount) q hq) (eqb-false p q e) t) (a .0 q)
 
   -- a visible node's group is the same, if all of its group among all nodes are visible
   pub least-visible : ((p q : ℕ) → isVisible g q ≡ false → g .edge p q ≡ false) → (p : ℕ) → isVisible g p ≡ true → ((q : ℕ) → q < g .nodeCount → similar (whole g) p q ≡ true → isVisible g q ≡ true)
@@ -147,7 +151,7 @@ module _ (g : Graph) (proper : Proper g) where
         least-le vs r eq asc p b (seen-in g b vb) (sym (similar-seen g none p b v vb) ∙ rb),
       )
 
-  -- the least of the nodes without edges is the least member of the group of each
+  -- the least of these is the least member of the group of each
   pub least-isolated : (p m : ℕ) → p < g .nodeCount → Lone p → m < g .nodeCount → Lone m → ((q : ℕ) → q < g .nodeCount → Lone q → m ≤ q) → m ≡ least (nodes (g .nodeCount)) (similar (whole g)) p
   least-isolated p m hp a hm b low =
       let n = g .nodeCount in

@@ -138,7 +138,7 @@ history s n cs = run callStep s (opening n ∷ cs)
 abbrev pub plain : State → ℕ → List Call → Stepped Plain (List Outcome)
 plain s n cs = run (plainStep (roomOf s)) unopened (opening n ∷ cs)
 
--- its tables, and its plain graph: of tables handed in, read off the edge bits and marks
+-- its tables, and its plain graph: of tables handed in, read off the edge bits, marks and classes
 abbrev pub tablesOfSource : Source → Tables
 tablesOfSource (byHistory s n cs ok) = history s n cs .after .tables
 tablesOfSource (handedIn t n w h) = t
@@ -162,7 +162,8 @@ pub record SameHidden (a b : Graph) : Type 0 where
   pub nodeCount : a .nodeCount ≡ b .nodeCount
   pub hidden : (p : ℕ) → p < a .nodeCount → a .hidden p ≡ b .hidden p
 
--- these, and the same edges among the rest
+-- these, and the same edges among the rest and classes of them
 pub record Alike (a b : Graph) : Type 0 where
   pub marks : SameHidden a b
   pub edge : (p q : ℕ) → isVisible a p ≡ true → isVisible a q ≡ true → a .edge p q ≡ b .edge p q
+  pub class : (p : ℕ) → isVisible a p ≡ true → a .class p ≡ b .class p

@@ -9,11 +9,11 @@ use lib.Dec.{eqb, ltb, leb}
 use lib.ListN.{length, getD, drop, length-append, length-map}
 use borrow.Author.Tests.{eqb-true, eq-eqb, ltb-true, ltb-false, lt-ltb, leb-true, le-leb, not-true}
 use Rattle.model.specs.Lists.{_∈_, concat, filter, headOr, member, nodes}
-use Rattle.model.specs.Graph.{maxNodes}
+use Rattle.model.specs.Graph.{maxClasses, maxNodes}
 use Rattle.model.specs.Summary.{position}
 use Rattle.model.specs.Release.{endRecord, headRecord, superedgeRecord, u16}
-use Rattle.model.specs.Reading.{afterGroups, groupsAt, hasPair, superedgesAt, u16At}
-use Rattle.model.specs.InOrder.{cliqueAt, fileBy, follows, groupFits, groupsFit, inOrder, markedRecord, membersAt, membersFit, membersIn, pairKey, superedgesFit, toldGroups, toldSuperedges}
+use Rattle.model.specs.Reading.{Head, afterGroups, groupsAt, hasPair, superedgesAt, u16At}
+use Rattle.model.specs.InOrder.{classAt, cliqueAt, fileBy, follows, groupFits, groupsFit, inOrder, markedRecord, membersAt, membersFit, membersIn, pairKey, superedgesFit, toldGroups, toldSuperedges}
 use Rattle.model.specs.TestLaws.{and-fst, and-snd, and-true, decide, differ, iff-eq, or-cases, or-left, or-none, or-right}
 use Rattle.model.specs.ListLaws.{Ascending, filter-ascending, filter-cong, filter-elim, filter-intro, length-filter, member-elim, member-intro, nodes-ascending, nodes-in, nodes-out, pigeonhole, same-ascending}
 use Rattle.model.specs.TableLaws.{length-nodes}
@@ -21,38 +21,42 @@ use Rattle.model.specs.ReleaseLaws.{length-superedge-records, one-of, pa
 use Rattle.model.specs.ReadingLaws.{superedges-back, u16s-back, u16s-rest}
 
 -- group records read back
-marked-count : (g : Bool × List ℕ) (r : List ℕ) → u16At (markedRecord g ++ r) 2 ≡ length (g .1)
+marked-count : (g : Head × List ℕ) (r : List ℕ) → u16At (markedRecord g ++ r) 2 ≡ length (g .1)
 unfolding markedRecord u16At u16
 marked-count g r = omega arith
 
-marked-body : (g : Bool × List ℕ) (r : List ℕ) → drop 4 (markedRecord g ++ r) ≡ concat (map u16 (g .1)) ++ r
+marked-body : (g : Head × List ℕ) (r : List ℕ) → drop 6 (markedRecord g ++ r) ≡ concat (map u16 (g .1)) ++ r
 unfolding markedRecord u16
 marked-body g r = refl
 
-marked-mark : (g : Bool × List ℕ) (r : List ℕ) → eqb (getD (markedRecord g ++ r) 1 0) 0x43 ≡ g .0
+marked-mark : (g : Head × List ℕ) (r : List ℕ) → eqb (getD (markedRecord g ++ r) 1 0) 0x43 ≡ g .0 .clique
 unfolding markedRecord
-marked-mark g r = mark (g .0)
+marked-mark g r = mark (g .0 .clique)
   where
     mark : (q : Bool) → eqb (cond q 0x43 0x49) 0x43 ≡ q
     mark true = refl
     mark false = refl
 
-marked-next : (g : Bool × List ℕ) (r : List ℕ) → drop (2 * u16At (markedRecord g ++ r) 2) (drop 4 (markedRecord g ++ r)) ≡ r
+marked-class : (g : Head × List ℕ) (r : List ℕ) → u16At (markedRecord g ++ r) 4 ≡ g .0 .class
+unfolding markedRecord u16At u16
+marked-class g r = omega arith
+
+marked-next : (g : Head × List ℕ) (r : List ℕ) → drop (2 * u16At (markedRecord g ++ r) 2) (drop 6 (markedRecord g ++ r)) ≡ r
 marked-next g r = rw (marked-count g r, marked-body g r) (u16s-rest (g .1) r)
 
-marked-back : (gs : List (Bool × List ℕ)) (r : List ℕ) → groupsAt (length gs) (concat (map markedRecord gs) ++ r) ≡ gs
+marked-back : (gs : List (Head × List ℕ)) (r : List ℕ) → groupsAt (length gs) (concat (map markedRecord gs) ++ r) ≡ gs
 unfolding groupsAt concat
 marked-back [] r = refl
 marked-back (g ∷ gs) r =
     rw (append-assoc (markedRecord g) (concat (map markedRecord gs)) r)
     (ap₂ _∷_
-    (ap₂ (λ (b : Bool) (l : List ℕ). (b, l)) (marked-mark g rest) (rw (marked-count g rest, marked-body g rest) (u16s-back (g .1) rest)))
+    (ap₂ (λ (h : Head) (l : List ℕ). (h, l)) (ap₂ (λ (b : Bool) (k : ℕ). record { clique = b; class = k }) (marked-mark g rest) (marked-class g rest)) (rw (marked-count g rest, marked-body g rest) (u16s-back (g .1) rest)))
     (ap (groupsAt (length gs)) (marked-next g rest) ∙ marked-back gs r))
   where
     rest : List ℕ
     rest = concat (map markedRecord gs) ++ r
 
-marked-after : (gs : List (Bool × List ℕ)) (r : List ℕ) → afterGroups (length gs) (concat (map markedRecord gs) ++ r) ≡ r
+marked-after : (gs : List (Head × List ℕ)) (r : List ℕ) → afterGroups (length gs) (concat (map markedRecord gs) ++ r) ≡ r
 unfolding afterGroups concat
 marked-after [] r = refl
 marked-after (g ∷ gs) r =
@@ -60,7 +64,7 @@ marked-after (g ∷ gs) r =
     (ap (afterGroups (length gs)) (marked-next g (concat (map markedRecord gs) ++ r)) ∙ marked-after gs r)
 
 -- a file tells what it is made of
-module _ (n : ℕ) (gs : List (Bool × List ℕ)) (js : List (ℕ × ℕ)) where
+module _ (n : ℕ) (gs : List (Head × List ℕ)) (js : List (ℕ × ℕ)) where
   abbrev tail : List ℕ
   tail = concat (map superedgeRecord js) ++ endRecord
 
@@ -91,7 +95,7 @@ module _ (n : ℕ) (gs : List (Bool × List ℕ)) (js : List (ℕ × ℕ)) where
       ∙ superedges-back js (length (fileBy n gs js)) long
 
 -- the three parts of the order
-pub in-order-parts : (n : ℕ) (gs : List (Bool × List ℕ)) (js : List (ℕ × ℕ)) → inOrder n gs js ≡ true → (n ≤ maxNodes) × (groupsFit n (λ p. false) 0 gs ≡ true) × (superedgesFit (length gs) 0 js ≡ true)
+pub in-order-parts : (n : ℕ) (gs : List (Head × List ℕ)) (js : List (ℕ × ℕ)) → inOrder n gs js ≡ true → (n ≤ maxNodes) × (groupsFit n (λ p. false) 0 gs ≡ true) × (superedgesFit (length gs) 0 js ≡ true)
 unfolding inOrder
 in-order-parts n gs js t =
     let r : (groupsFit n (λ p. false) 0 gs && superedgesFit (length gs) 0 js) ≡ true = and-snd (leb n maxNodes) _ t in
@@ -148,21 +152,30 @@ head-in (x ∷ xs) h = List·Memᴰ·head refl
 
 -- a group that fits, at its position
 module _ (n : ℕ) where
-  group-fitting : (taken : ℕ → Bool) (low : ℕ) (g : Bool × List ℕ) → groupFits n taken low g ≡ true → MembersFitting n taken low (g .1) × (cond (g .0) 2 1 ≤ length (g .1))
+  group-fitting : (taken : ℕ → Bool) (low : ℕ) (g : Head × List ℕ) → groupFits n taken low g ≡ true → MembersFitting n taken low (g .1) × (cond (g .0 .clique) 2 1 ≤ length (g .1))
   unfolding groupFits
-  group-fitting taken low g t = (members-fitting n taken low (g .1) (and-snd (leb (cond (g .0) 2 1) (length (g .1))) _ t), leb-true (cond (g .0) 2 1) (length (g .1)) (and-fst (leb (cond (g .0) 2 1) (length (g .1))) _ t))
+  group-fitting taken low g t =
+      let s = and-snd (ltb (g .0 .class) maxClasses) _ t in
+      let size = leb (cond (g .0 .clique) 2 1) (length (g .1)) in
+      (members-fitting n taken low (g .1) (and-snd size _ s), leb-true (cond (g .0 .clique) 2 1) (length (g .1)) (and-fst size _ s))
 
-  pub fits-at : (taken : ℕ → Bool) (low : ℕ) (gs : List (Bool × List ℕ)) → groupsFit n taken low gs ≡ true → (i : ℕ) → i < length gs → MembersFitting n taken low (membersAt gs i) × (cond (cliqueAt gs i) 2 1 ≤ length (membersAt gs i))
+  pub class-at : (taken : ℕ → Bool) (low : ℕ) (gs : List (Head × List ℕ)) → groupsFit n taken low gs ≡ true → (i : ℕ) → i < length gs → classAt gs i < maxClasses
+  unfolding groupsFit groupFits classAt
+  class-at taken low [] t i l = absurd (omega arith)
+  class-at taken low (g ∷ gs) t zero l = ltb-true (g .0 .class) maxClasses (and-fst (ltb (g .0 .class) maxClasses) _ (and-fst (groupFits n taken low g) _ t))
+  class-at taken low (g ∷ gs) t (suc i) l = class-at (λ p. member p (g .1) || taken p) (suc (headOr 0 (g .1))) gs (and-snd (groupFits n taken low g) _ t) i (omega arith)
+
+  pub fits-at : (taken : ℕ → Bool) (low : ℕ) (gs : List (Head × List ℕ)) → groupsFit n taken low gs ≡ true → (i : ℕ) → i < length gs → MembersFitting n taken low (membersAt gs i) × (cond (cliqueAt gs i) 2 1 ≤ length (membersAt gs i))
   unfolding groupsFit membersAt cliqueAt
   fits-at taken low [] t i l = absurd (omega arith)
   fits-at taken low (g ∷ gs) t zero l = group-fitting taken low g (and-fst (groupFits n taken low g) _ t)
   fits-at taken low (g ∷ gs) t (suc i) l = step (fits-at (λ p. member p (g .1) || taken p) (suc (headOr 0 (g .1))) gs (and-snd (groupFits n taken low g) _ t) i (omega arith)) (group-fitting taken low g (and-fst (groupFits n taken low g) _ t))
     where
-      step : MembersFitting n (λ p. member p (g .1) || taken p) (suc (headOr 0 (g .1))) (membersAt gs i) × (cond (cliqueAt gs i) 2 1 ≤ length (membersAt gs i)) → MembersFitting n taken low (g .1) × (cond (g .0) 2 1 ≤ length (g .1)) → MembersFitting n taken low (membersAt gs i) × (cond (cliqueAt gs i) 2 1 ≤ length (membersAt gs i))
+      step : MembersFitting n (λ p. member p (g .1) || taken p) (suc (headOr 0 (g .1))) (membersAt gs i) × (cond (cliqueAt gs i) 2 1 ≤ length (membersAt gs i)) → MembersFitting n taken low (g .1) × (cond (g .0 .clique) 2 1 ≤ length (g .1)) → MembersFitting n taken low (membersAt gs i) × (cond (cliqueAt gs i) 2 1 ≤ length (membersAt gs i))
       step f h = (
         record {
           ascends = f .0 .ascends;
-          from-low = λ p m. omega (arith, f .0 .from-low p m, h .0 .from-low (headOr 0 (g .1)) (head-in (g .1) (size-one (g .0) (length (g .1)) (h .1))));
+          from-low = λ p m. omega (arith, f .0 .from-low p m, h .0 .from-low (headOr 0 (g .1)) (head-in (g .1) (size-one (g .0 .clique) (length (g .1)) (h .1))));
           below = f .0 .below;
           free = λ p m. or-none (member p (g .1)) (taken p) (f .0 .free p m) .1;
         },
@@ -170,7 +183,7 @@ module _ (n : ℕ) where
       )
 
   -- what comes later has no member of a group, and members above its first
-  later : (taken : ℕ → Bool) (low : ℕ) (gs : List (Bool × List ℕ)) → groupsFit n taken low gs ≡ true → (i j p : ℕ) → i < j → j < length gs → p ∈ membersAt gs j → (p ∈ membersAt gs i → ⊥) × (headOr 0 (membersAt gs i) < p)
+  later : (taken : ℕ → Bool) (low : ℕ) (gs : List (Head × List ℕ)) → groupsFit n taken low gs ≡ true → (i j p : ℕ) → i < j → j < length gs → p ∈ membersAt gs j → (p ∈ membersAt gs i → ⊥) × (headOr 0 (membersAt gs i) < p)
   unfolding groupsFit membersAt
   later taken low [] t i j p l h m = absurd (omega arith)
   later taken low (g ∷ gs) t i zero p l h m = absurd (omega arith)
@@ -199,14 +212,14 @@ position-le p (g ∷ gs) (suc i) l m = step (member p g) (position-le p gs i (om
     step true h = omega arith
     step false h = omega arith
 
-abbrev pub placeOf : List (Bool × List ℕ) → ℕ → ℕ
+abbrev pub placeOf : List (Head × List ℕ) → ℕ → ℕ
 placeOf gs p = position p (map (λ g. g .1) gs)
 
-length-members : (gs : List (Bool × List ℕ)) → length (map (λ (g : Bool × List ℕ). g .1) gs) ≡ length gs
+length-members : (gs : List (Head × List ℕ)) → length (map (λ (g : Head × List ℕ). g .1) gs) ≡ length gs
 length-members gs = length-map gs (λ g. g .1)
 
 -- groups that fit
-module _ (n : ℕ) (gs : List (Bool × List ℕ)) (fits : groupsFit n (λ p. false) 0 gs ≡ true) where
+module _ (n : ℕ) (gs : List (Head × List ℕ)) (fits : groupsFit n (λ p. false) 0 gs ≡ true) where
   fitting : (i : ℕ) → i < length gs → MembersFitting n (λ p. false) 0 (membersAt gs i)
   fitting i l = fits-at n (λ p. false) 0 gs fits i l .0
 
@@ -337,16 +350,16 @@ module _ (g : ℕ) (few : g ≤ 65536) where
           ap₂ (λ (s t : ℕ). (s, t)) (e .0) (e .1)
 
 -- the first members of the groups
-abbrev pub firsts : List (Bool × List ℕ) → List ℕ
+abbrev pub firsts : List (Head × List ℕ) → List ℕ
 firsts gs = map (λ g. headOr 0 (g .1)) gs
 
-pub firsts-in : (gs : List (Bool × List ℕ)) (i : ℕ) → i < length gs → headOr 0 (membersAt gs i) ∈ firsts gs
+pub firsts-in : (gs : List (Head × List ℕ)) (i : ℕ) → i < length gs → headOr 0 (membersAt gs i) ∈ firsts gs
 unfolding membersAt
 firsts-in [] i l = absurd (omega arith)
 firsts-in (g ∷ gs) zero l = List·Memᴰ·head refl
 firsts-in (g ∷ gs) (suc i) l = List·Memᴰ·tail (firsts-in gs i (omega arith))
 
-pub firsts-out : (gs : List (Bool × List ℕ)) (p : ℕ) → p ∈ firsts gs → (i : ℕ) × (i < length gs) × (p ≡ headOr 0 (membersAt gs i))
+pub firsts-out : (gs : List (Head × List ℕ)) (p : ℕ) → p ∈ firsts gs → (i : ℕ) × (i < length gs) × (p ≡ headOr 0 (membersAt gs i))
 unfolding membersAt
 firsts-out [] p m = absurd (List·Memᴰ·not-nil m)
 firsts-out (g ∷ gs) p m = step (firsts-out gs p) (List·Memᴰ·cases-cons m)
@@ -355,7 +368,7 @@ firsts-out (g ∷ gs) p m = step (firsts-out gs p) (List·Memᴰ·cases-cons m)
     step below (inl z) = (0, omega arith, z)
     step below (inr k) = let r = below k in (suc (r .0), omega (arith, r .1), r .2)
 
-pub firsts-ascending : (gs : List (Bool × List ℕ)) → ((i j : ℕ) → i < j → j < length gs → headOr 0 (membersAt gs i) < headOr 0 (membersAt gs j)) → Ascending (firsts gs)
+pub firsts-ascending : (gs : List (Head × List ℕ)) → ((i j : ℕ) → i < j → j < length gs → headOr 0 (membersAt gs i) < headOr 0 (membersAt gs j)) → Ascending (firsts gs)
 unfolding membersAt
 firsts-ascending [] h = tt
 firsts-ascending (g ∷ gs) h = (
@@ -364,18 +377,19 @@ firsts-ascending (g ∷ gs) h = (
 )
 
 -- groups by their first members, and by their members
-pub groups-by-firsts : (M : ℕ → List ℕ) (gs : List (Bool × List ℕ)) → ((i : ℕ) → i < length gs → M (headOr 0 (membersAt gs i)) ≡ membersAt gs i) → map M (firsts gs) ≡ map (λ g. g .1) gs
+pub groups-by-firsts : (M : ℕ → List ℕ) (gs : List (Head × List ℕ)) → ((i : ℕ) → i < length gs → M (headOr 0 (membersAt gs i)) ≡ membersAt gs i) → map M (firsts gs) ≡ map (λ g. g .1) gs
 unfolding membersAt
 groups-by-firsts M [] h = refl
 groups-by-firsts M (g ∷ gs) h = ap₂ _∷_ (h 0 (omega arith)) (groups-by-firsts M gs (λ i l. h (suc i) (omega arith)))
 
-pub groups-by-members : (C : List ℕ → Bool) (gs : List (Bool × List ℕ)) → ((i : ℕ) → i < length gs → C (membersAt gs i) ≡ cliqueAt gs i) → map (λ (l : List ℕ). (C l, l)) (map (λ g. g .1) gs) ≡ gs
-unfolding membersAt cliqueAt
-groups-by-members C [] h = refl
-groups-by-members C (g ∷ gs) h = ap₂ _∷_ (ap (λ (b : Bool). (b, g .1)) (h 0 (omega arith))) (groups-by-members C gs (λ i l. h (suc i) (omega arith)))
+pub groups-by-members : (C : List ℕ → Bool) (K : List ℕ → ℕ) (gs : List (Head × List ℕ)) → ((i : ℕ) → i < length gs → C (membersAt gs i) ≡ cliqueAt gs i) → ((i : ℕ) → i < length gs → K (membersAt gs i) ≡ classAt gs i)
+    → map (λ (l : List ℕ). (record { clique = C l; class = K l }, l)) (map (λ g. g .1) gs) ≡ gs
+unfolding membersAt cliqueAt classAt
+groups-by-members C K [] h k = refl
+groups-by-members C K (g ∷ gs) h k = ap₂ _∷_ (ap₂ (λ (b : Bool) (x : ℕ). (record { clique = b; class = x }, g .1)) (h 0 (omega arith)) (k 0 (omega arith))) (groups-by-members C K gs (λ i l. h (suc i) (omega arith)) (λ i l. k (suc i) (omega arith)))
 
 -- the groups hold each node once, so there are no more members than nodes
-module _ (n : ℕ) (gs : List (Bool × List ℕ)) (fits : groupsFit n (λ p. false) 0 gs ≡ true) where
+module _ (n : ℕ) (gs : List (Head × List ℕ)) (fits : groupsFit n (λ p. false) 0 gs ≡ true) where
   abbrev inGroup : ℕ → Bool
   inGroup p = ltb (placeOf gs p) (length gs)
 

@@ -12,17 +12,17 @@ use Rattle.model.specs.Lists.{_∈_, any, headOr, nodes, sameList}
 use Rattle.model.specs.Graph.{Graph, Proper, View, maxNodes}
 use Rattle.model.specs.Grouping.{adjacent, algorithm1, closed, falseTwins, group, isClique, kindOf, leaders, least, similar, trueTwins}
 use Rattle.model.specs.Summary.{Summarises, position, reconstruct}
-use Rattle.model.specs.Tables.{simple}
+use Rattle.model.specs.Tables.{isGraph}
 use Rattle.model.specs.Release.{release, superedges, visible}
-use Rattle.model.specs.Reading.{graphBy, hasPair, isRelease, summaryBy}
-use Rattle.model.specs.InOrder.{cliqueAt, closedAt, couldMerge, fileBy, groupView, groupsFit, inOrder, irreducible, membersAt, openAt, pairKey, superedgesFit, toldGroups}
+use Rattle.model.specs.Reading.{Head, graphBy, hasPair, isRelease, summaryBy}
+use Rattle.model.specs.InOrder.{classAt, cliqueAt, closedAt, couldMerge, fileBy, groupView, groupsFit, inOrder, irreducible, membersAt, openAt, pairKey, superedgesFit, toldGroups}
 use Rattle.model.specs.TestLaws.{and-fst, and-snd, and-true, decide, differ, iff-eq, or-cases, or-left, or-right}
 use Rattle.model.specs.ListLaws.{Ascending, all-elim, all-intro, any-elim, any-intro, filter-ascending, headOr-le, nodes-in, nodes-out, same-ascending, same-eq, same-refl}
-use Rattle.model.specs.TwinLaws.{Simple, falseTwins-at, falseTwins-by, falseTwins-no-edge, similar-N, similar-N+, similar-cases, trueTwins-at, trueTwins-by, trueTwins-edge}
+use Rattle.model.specs.TwinLaws.{Simple, falseTwins-at, falseTwins-by, falseTwins-no-edge, similar-N, similar-N+, similar-cases, similar-class, trueTwins-at, trueTwins-by, trueTwins-edge}
 use Rattle.model.specs.ClassLaws.{Equivalence, group-in, group-out, leader-in, leader-out, leaders-ascending, least-in, least-le, least-rel}
 use Rattle.model.specs.SummaryLaws.{algorithm1-classes, equivalence, kind-clique, position-similar}
 use Rattle.model.specs.FewestLaws.{inside-ours}
-use Rattle.model.specs.TableLaws.{simple-test}
+use Rattle.model.specs.TableLaws.{graph-test}
 use Rattle.model.specs.ReleaseLaws.{visible-ascending, visible-simple}
 use Rattle.model.specs.ReadingLaws.{all-at, marked, members-back}
 use Rattle.model.specs.InOrderLaws.{clique-two, file-told-groups, first-in, firsts, firsts-ascend, firsts-ascending, firsts-in, firsts-out, groups-by-firsts, groups-by-members, groups-few, in-order-parts, members-ascend, members-one, pair-fits, place-in, place-of, placeOf, same-pairs}
@@ -44,7 +44,7 @@ only-member p q (x ∷ []) h (List·Memᴰ·head a) (List·Memᴰ·head b) = a �
 only-member p q (x ∷ y ∷ l) h a b = absurd (omega arith)
 
 -- groups and superedges in order that summarise a graph, all of whose members are its nodes
-module _ (v : View) (g : Simple v) (n : ℕ) (gs : List (Bool × List ℕ)) (js : List (ℕ × ℕ))
+module _ (v : View) (g : Simple v) (n : ℕ) (gs : List (Head × List ℕ)) (js : List (ℕ × ℕ))
     (fits : groupsFit n (λ p. false) 0 gs ≡ true)
     (ordered : superedgesFit (length gs) 0 js ≡ true)
     (s : Summarises v (summaryBy gs js))
@@ -72,6 +72,9 @@ module _ (v : View) (g : Simple v) (n : ℕ) (gs : List (Bool × List ℕ)) (js 
   outer-edge : (p q : ℕ) → p ∈ v .nodes → q ∈ v .nodes → (place p ≡ place q → ⊥) → v .edge p q ≡ joined (place p) (place q)
   unfolding reconstruct summaryBy
   outer-edge p q mp mq e = sym (s .exact p q mp mq) ∙ rw (ne-eqb (place p) (place q) e)
+
+  class-of : (p : ℕ) → p ∈ v .nodes → classAt gs (place p) ≡ v .class p
+  class-of p m = unfold summaryBy classAt in s .classed p m
 
   no-loop : (i : ℕ) → joined i i ≡ false
   no-loop i = rw (eq-eqb i i refl)
@@ -157,24 +160,30 @@ module _ (v : View) (g : Simple v) (n : ℕ) (gs : List (Bool × List ℕ)) (js 
   -- two groups could be one exactly if members of the one are similar to those of the other
   pub merge-similar : (p q : ℕ) → p ∈ v .nodes → q ∈ v .nodes → (place p ≡ place q → ⊥) → couldMerge gs js (place p) (place q) ≡ similar v p q
   unfolding couldMerge summaryBy
-  merge-similar p q mp mq apart = iff-eq _ (similar v p q) (λ t. there (or-cases _ _ t)) (λ t. back (similar-cases v p q t))
+  merge-similar p q mp mq apart = iff-eq _ (similar v p q) (λ t. there (same (and-fst _ _ t)) (or-cases _ _ (and-snd (eqb (classAt gs (place p)) (classAt gs (place q))) _ t))) (λ t. and-true (classes (similar-class v p q t)) (back (similar-cases v p q t)))
     where
+      same : eqb (classAt gs (place p)) (classAt gs (place q)) ≡ true → v .class p ≡ v .class q
+      same t = sym (class-of p mp) ∙ eqb-true (classAt gs (place p)) (classAt gs (place q)) t ∙ class-of q mq
+
+      classes : v .class p ≡ v .class q → eqb (classAt gs (place p)) (classAt gs (place q)) ≡ true
+      classes e = eq-eqb (classAt gs (place p)) (classAt gs (place q)) (class-of p mp ∙ e ∙ sym (class-of q mq))
+
       at-row : (x : ℕ) → x ∈ v .nodes → place x ∈ nodes (length gs)
       at-row x m = nodes-in (length gs) (place x) (at x m)
 
-      there : ((openAt gs (place p) && (openAt gs (place q) && falseTwins (groupView gs js) (place p) (place q))) ≡ true) ⊎ ((closedAt gs (place p) && (closedAt gs (place q) && trueTwins (groupView gs js) (place p) (place q))) ≡ true) → similar v p q ≡ true
-      there (inl t) =
+      there : v .class p ≡ v .class q → ((openAt gs (place p) && (openAt gs (place q) && falseTwins (groupView gs js) (place p) (place q))) ≡ true) ⊎ ((closedAt gs (place p) && (closedAt gs (place q) && trueTwins (groupView gs js) (place p) (place q))) ≡ true) → similar v p q ≡ true
+      there e (inl t) =
           let a = and-fst (openAt gs (place p)) _ t in
           let u = and-snd (openAt gs (place p)) _ t in
           let b = and-fst (openAt gs (place q)) _ u in
           let c = and-snd (openAt gs (place q)) _ u in
-          similar-N v p q (falseTwins-by v p q (λ x m. open-row p x mp m a ∙ falseTwins-at (groupView gs js) (place p) (place q) c (place x) (at-row x m) ∙ sym (open-row q x mq m b)))
-      there (inr t) =
+          similar-N v p q e (falseTwins-by v p q (λ x m. open-row p x mp m a ∙ falseTwins-at (groupView gs js) (place p) (place q) c (place x) (at-row x m) ∙ sym (open-row q x mq m b)))
+      there e (inr t) =
           let a = and-fst (closedAt gs (place p)) _ t in
           let u = and-snd (closedAt gs (place p)) _ t in
           let b = and-fst (closedAt gs (place q)) _ u in
           let c = and-snd (closedAt gs (place q)) _ u in
-          similar-N+ v p q (trueTwins-by v p q (λ x m. closed-row p x mp m a ∙ trueTwins-at (groupView gs js) (place p) (place q) c (place x) (at-row x m) ∙ sym (closed-row q x mq m b)))
+          similar-N+ v p q e (trueTwins-by v p q (λ x m. closed-row p x mp m a ∙ trueTwins-at (groupView gs js) (place p) (place q) c (place x) (at-row x m) ∙ sym (closed-row q x mq m b)))
 
       back : (falseTwins v p q ≡ true) ⊎ (trueTwins v p q ≡ true) → ((openAt gs (place p) && (openAt gs (place q) && falseTwins (groupView gs js) (place p) (place q))) || (closedAt gs (place p) && (closedAt gs (place q) && trueTwins (groupView gs js) (place p) (place q)))) ≡ true
       back (inl t) =
@@ -211,6 +220,12 @@ module _ (v : View) (g : Simple v) (n : ℕ) (gs : List (Bool × List ℕ)) (js 
           let py = place-of n gs fits i (o .0) l (o .1) in
           any-intro (membersAt gs i) _ x mx (any-intro (membersAt gs i) (v .edge x) (o .0) (o .1)
           (inner-edge x (o .0) (member-node i x l mx) (member-node i (o .0) l (o .1)) (px ∙ sym py) ∙ and-true (ap (cliqueAt gs) px ∙ t) (ap not (ne-eqb x (o .0) (o .2)))))
+
+  class-first : (i : ℕ) → i < length gs → v .class (headOr 0 (membersAt gs i)) ≡ classAt gs i
+  class-first i l =
+      let m = first-in n gs fits i l in
+      let x = headOr 0 (membersAt gs i) in
+      sym (class-of x (member-node i x l m)) ∙ ap (classAt gs) (place-of n gs fits i x l m)
 
   pair-adjacent : (i j : ℕ) → i < j → j < length gs → adjacent (v .edge) (membersAt gs i) (membersAt gs j) ≡ hasPair js i j
   unfolding adjacent summaryBy
@@ -307,7 +322,7 @@ module _ (v : View) (g : Simple v) (n : ℕ) (gs : List (Bool × List ℕ)) (js 
     groups-are = algorithm1-classes v g asc ∙ ap (map (group vs r)) leaders-are ∙ groups-by-firsts (group vs r) gs group-is
 
     pub marked-are : map (marked v) (algorithm1 v) ≡ gs
-    marked-are = ap (map (marked v)) groups-are ∙ groups-by-members (λ l. isClique (kindOf (v .edge) l)) gs (mark-kind asc)
+    marked-are = ap (map (marked v)) groups-are ∙ groups-by-members (λ l. isClique (kindOf (v .edge) l)) (λ l. v .class (headOr 0 l)) gs (mark-kind asc) class-first
 
     pub superedges-are : superedges (v .edge) 0 (algorithm1 v) ≡ js
     superedges-are = ap (superedges (v .edge) 0) groups-are ∙ same-pairs (length gs) few 0 0 told js in-order ordered there back
@@ -315,7 +330,7 @@ module _ (v : View) (g : Simple v) (n : ℕ) (gs : List (Bool × List ℕ)) (js 
         told : List (ℕ × ℕ)
         told = superedges (v .edge) 0 (map (λ g. g .1) gs)
 
-        size : length (map (λ (g : Bool × List ℕ). g .1) gs) ≡ length gs
+        size : length (map (λ (g : Head × List ℕ). g .1) gs) ≡ length gs
         size = length-map gs (λ g. g .1)
 
         in-order : superedgesFit (length gs) 0 told ≡ true
@@ -331,7 +346,7 @@ module _ (v : View) (g : Simple v) (n : ℕ) (gs : List (Bool × List ℕ)) (js 
         back i j t = let f = pair-fits (length gs) 0 js ordered i j t in same i j (f .0) (f .1) ∙ t
 
 -- no two groups that could be one
-pub irreducible-out : (gs : List (Bool × List ℕ)) (js : List (ℕ × ℕ)) → irreducible gs js ≡ true → (i j : ℕ) → i < length gs → j < length gs → couldMerge gs js i j ≡ true → i ≡ j
+pub irreducible-out : (gs : List (Head × List ℕ)) (js : List (ℕ × ℕ)) → irreducible gs js ≡ true → (i j : ℕ) → i < length gs → j < length gs → couldMerge gs js i j ≡ true → i ≡ j
 unfolding irreducible
 irreducible-out gs js t i j a b c = step (or-cases (eqb i j) (not (couldMerge gs js i j)) (all-elim (nodes (length gs)) (λ j. eqb i j || not (couldMerge gs js i j)) (all-elim (nodes (length gs)) _ t i (nodes-in (length gs) i a)) j (nodes-in (length gs) j b)))
   where
@@ -339,7 +354,7 @@ irreducible-out gs js t i j a b c = step (or-cases (eqb i j) (not (couldMerge gs
     step (inl e) = eqb-true i j e
     step (inr e) = differ c (not-true (couldMerge gs js i j) e)
 
-pub irreducible-in : (gs : List (Bool × List ℕ)) (js : List (ℕ × ℕ)) → ((i j : ℕ) → i < length gs → j < length gs → (i ≡ j → ⊥) → couldMerge gs js i j ≡ false) → irreducible gs js ≡ true
+pub irreducible-in : (gs : List (Head × List ℕ)) (js : List (ℕ × ℕ)) → ((i j : ℕ) → i < length gs → j < length gs → (i ≡ j → ⊥) → couldMerge gs js i j ≡ false) → irreducible gs js ≡ true
 unfolding irreducible
 irreducible-in gs js h = all-intro (nodes (length gs)) _ (λ i m. all-intro (nodes (length gs)) _ (λ j k. step i j m k (decide (eqb i j))))
   where
@@ -347,7 +362,7 @@ irreducible-in gs js h = all-intro (nodes (length gs)) _ (λ i m. all-intro (nod
     step i j m k (inl e) = or-left _ e
     step i j m k (inr e) = or-right (eqb i j) (ap not (h i j (nodes-out (length gs) i m) (nodes-out (length gs) j k) (eqb-false i j e)))
 
-module _ (n : ℕ) (gs : List (Bool × List ℕ)) (js : List (ℕ × ℕ)) (small : n ≤ maxNodes) (fits : groupsFit n (λ p. false) 0 gs ≡ true) (ordered : superedgesFit (length gs) 0 js ≡ true) where
+module _ (n : ℕ) (gs : List (Head × List ℕ)) (js : List (ℕ × ℕ)) (small : n ≤ maxNodes) (fits : groupsFit n (λ p. false) 0 gs ≡ true) (ordered : superedgesFit (length gs) 0 js ≡ true) where
   abbrev G : Graph
   G = graphBy n (summaryBy gs js)
 
@@ -371,7 +386,7 @@ module _ (n : ℕ) (gs : List (Bool × List ℕ)) (js : List (ℕ × ℕ)) (smal
 
   -- a file that is the release of its graph has the groups of Algorithm 1, no two of which could be one
   pub released-groups : fileBy n gs js ≡ release (graphBy n (summaryBy gs js)) → map (λ g. g .1) gs ≡ algorithm1 (visible (graphBy n (summaryBy gs js)))
-  released-groups e = ap (map (λ (g : Bool × List ℕ). g .1)) same ∙ members-back v view-simple asc (algorithm1 v)
+  released-groups e = ap (map (λ (g : Head × List ℕ). g .1)) same ∙ members-back v view-simple asc (algorithm1 v)
     where
       same : gs ≡ map (marked v) (algorithm1 v)
       same = sym (file-told-groups n gs js) ∙ ap toldGroups (e ∙ release-file G proper) ∙ file-told-groups (G .nodeCount) (map (marked v) (algorithm1 v)) (superedges (v .edge) 0 (algorithm1 v))
@@ -411,18 +426,18 @@ module _ (n : ℕ) (gs : List (Bool × List ℕ)) (js : List (ℕ × ℕ)) (smal
           step (inr e) = irreducible-out gs js t (placeOf gs p) (placeOf gs q) (told-place n gs js small fits p mp) (told-place n gs js small fits q mq) (merging p q mp mq (eqb-false (placeOf gs p) (placeOf gs q) e) ∙ h)
 
   -- a file is a release exactly if it is that of its graph
-  release-test : isRelease (fileBy n gs js) ≡ (leb (G .nodeCount) maxNodes && (simple G && sameList (fileBy n gs js) (release G)))
+  release-test : isRelease (fileBy n gs js) ≡ (leb (G .nodeCount) maxNodes && (isGraph G && sameList (fileBy n gs js) (release G)))
   unfolding isRelease
   release-test = rw (decode-file n gs js)
 
   pub release-same : isRelease (fileBy n gs js) ≡ true → fileBy n gs js ≡ release (graphBy n (summaryBy gs js))
-  release-same t = same-eq (fileBy n gs js) (release G) (and-snd (simple G) _ (and-snd (leb (G .nodeCount) maxNodes) _ (sym release-test ∙ t)))
+  release-same t = same-eq (fileBy n gs js) (release G) (and-snd (isGraph G) _ (and-snd (leb (G .nodeCount) maxNodes) _ (sym release-test ∙ t)))
 
   release-irreducible : isRelease (fileBy n gs js) ≡ irreducible gs js
   release-irreducible = iff-eq (isRelease (fileBy n gs js)) (irreducible gs js) (λ t. released-irreducible (release-same t)) back
     where
       back : irreducible gs js ≡ true → isRelease (fileBy n gs js) ≡ true
-      back t = release-test ∙ and-true (le-leb (G .nodeCount) maxNodes (proper .small)) (and-true (simple-test G proper) (rw (irreducible-released t) (same-refl (fileBy n gs js))))
+      back t = release-test ∙ and-true (le-leb (G .nodeCount) maxNodes (proper .small)) (and-true (graph-test G proper) (rw (irreducible-released t) (same-refl (fileBy n gs js))))
 
-pub in-order-release : (n : ℕ) (gs : List (Bool × List ℕ)) (js : List (ℕ × ℕ)) → inOrder n gs js ≡ true → isRelease (fileBy n gs js) ≡ irreducible gs js
+pub in-order-release : (n : ℕ) (gs : List (Head × List ℕ)) (js : List (ℕ × ℕ)) → inOrder n gs js ≡ true → isRelease (fileBy n gs js) ≡ irreducible gs js
 in-order-release n gs js o = let s = in-order-parts n gs js o in release-irreducible n gs js (s .0) (s .1) (s .2)

@@ -9,17 +9,17 @@ use lib.Dec.{eqb, ltb}
 use lib.ListN.{length, getD, drop}
 use lib.Seq.{drop-at}
 use borrow.Author.Tests.{eqb-true, eqb-false, eq-eqb, ne-eqb, ltb-true, ltb-false, lt-ltb}
-use Rattle.model.specs.Lists.{_∈_, concat, member}
+use Rattle.model.specs.Lists.{_∈_, concat, headOr, member}
 use Rattle.model.specs.Graph.{View}
 use Rattle.model.specs.Grouping.{Kind, adjacent, algorithm1, clique, group, independent, isClique, kindOf, leaders, similar, singleton}
 use Rattle.model.specs.Summary.{Summarises, Summary, position, reconstruct, summaryOf}
 use Rattle.model.specs.Release.{encode, endRecord, groupRecord, headRecord, kindByte, superedgeRecord, superedges, superedgesFrom, u16}
-use Rattle.model.specs.Reading.{afterGroups, groupsAt, hasPair, isMark, summaryBy, summaryIn, superedgesAt, u16At, u16s}
+use Rattle.model.specs.Reading.{Head, afterGroups, groupsAt, hasPair, isMark, summaryBy, summaryIn, superedgesAt, u16At, u16s}
 use Rattle.model.specs.TestLaws.{and-one, decide, differ, iff-eq}
 use Rattle.model.specs.ListLaws.{Ascending, map-out, member-elim, member-intro}
 use Rattle.model.specs.TwinLaws.{Simple, similar-sym}
 use Rattle.model.specs.ClassLaws.{group-out}
-use Rattle.model.specs.SummaryLaws.{adjacent-law, algorithm1-classes, algorithm1-summarises, clique-law, position-group, position-in, position-similar}
+use Rattle.model.specs.SummaryLaws.{adjacent-law, algorithm1-classes, algorithm1-summarises, clique-law, position-class, position-group, position-in, position-similar}
 use Rattle.model.specs.ReleaseLaws.{length-encode, length-u16s}
 use Rattle.model.specs.UpdateLaws.{apart}
 
@@ -36,8 +36,8 @@ pub u16s-rest : (l r : List ℕ) → drop (2 * length l) (concat (map u16 l) ++ 
 u16s-rest l r = drop-at (concat (map u16 l)) r (2 * length l) (length-u16s l)
 
 module _ (v : View) where
-  abbrev pub marked : List ℕ → Bool × List ℕ
-  marked g = (isClique (kindOf (v .edge) g), g)
+  abbrev pub marked : List ℕ → Head × List ℕ
+  marked g = (record { clique = isClique (kindOf (v .edge) g); class = v .class (headOr 0 g) }, g)
 
   mark-back : (k : Kind) → eqb (kindByte k) 0x43 ≡ isClique k
   unfolding kindByte isClique
@@ -50,7 +50,7 @@ module _ (v : View) where
   unfolding groupRecord u16At u16
   count-back g r = omega arith
 
-  pub body : (g r : List ℕ) → drop 4 (groupRecord v g ++ r) ≡ concat (map u16 g) ++ r
+  pub body : (g r : List ℕ) → drop 6 (groupRecord v g ++ r) ≡ concat (map u16 g) ++ r
   unfolding groupRecord u16
   body g r = refl
 
@@ -58,7 +58,11 @@ module _ (v : View) where
   unfolding groupRecord
   first g r = mark-back (kindOf (v .edge) g)
 
-  pub next : (g r : List ℕ) → drop (2 * u16At (groupRecord v g ++ r) 2) (drop 4 (groupRecord v g ++ r)) ≡ r
+  class-back : (g r : List ℕ) → u16At (groupRecord v g ++ r) 4 ≡ v .class (headOr 0 g)
+  unfolding groupRecord u16At u16
+  class-back g r = omega arith
+
+  pub next : (g r : List ℕ) → drop (2 * u16At (groupRecord v g ++ r) 2) (drop 6 (groupRecord v g ++ r)) ≡ r
   next g r = rw (count-back g r, body g r) (u16s-rest g r)
 
   pub groups-back : (gs : List (List ℕ)) (r : List ℕ) → groupsAt (length gs) (concat (map (groupRecord v) gs) ++ r) ≡ map marked gs
@@ -67,7 +71,7 @@ module _ (v : View) where
   groups-back (g ∷ gs) r =
       rw (append-assoc (groupRecord v g) (concat (map (groupRecord v) gs)) r)
       (ap₂ _∷_
-      (ap₂ (λ (b : Bool) (l : List ℕ). (b, l)) (first g rest) (rw (count-back g rest, body g rest) (u16s-back g rest)))
+      (ap₂ (λ (h : Head) (l : List ℕ). (h, l)) (ap₂ (λ (b : Bool) (k : ℕ). record { clique = b; class = k }) (first g rest) (class-back g rest)) (rw (count-back g rest, body g rest) (u16s-back g rest)))
       (ap (groupsAt (length gs)) (next g rest) ∙ groups-back gs r))
     where
       rest : List ℕ
@@ -189,14 +193,19 @@ module _ (v : View) (g : Simple v) (asc : Ascending (v .nodes)) where
   abbrev told : Summary
   told = summaryBy (map (marked v) gs) (superedges (v .edge) 0 gs)
 
-  pub members-back : (l : List (List ℕ)) → map (λ (g : Bool × List ℕ). g .1) (map (marked v) l) ≡ l
+  pub members-back : (l : List (List ℕ)) → map (λ (g : Head × List ℕ). g .1) (map (marked v) l) ≡ l
   members-back [] = refl
   members-back (x ∷ xs) = ap (λ (l : List (List ℕ)). x ∷ l) (members-back xs)
 
-  marks-back : (l : List (List ℕ)) (i : ℕ) → i < length l → getD (map (λ (g : Bool × List ℕ). g .0) (map (marked v) l)) i false ≡ isClique (kindOf (v .edge) (getD l i []))
+  marks-back : (l : List (List ℕ)) (i : ℕ) → i < length l → getD (map (λ (g : Head × List ℕ). g .0 .clique) (map (marked v) l)) i false ≡ isClique (kindOf (v .edge) (getD l i []))
   marks-back [] i h = absurd (omega arith)
   marks-back (x ∷ xs) zero h = refl
   marks-back (x ∷ xs) (suc i) h = marks-back xs i (omega arith)
+
+  classes-back : (l : List (List ℕ)) (i : ℕ) → i < length l → getD (map (λ (g : Head × List ℕ). g .0 .class) (map (marked v) l)) i 0 ≡ v .class (headOr 0 (getD l i []))
+  classes-back [] i h = absurd (omega arith)
+  classes-back (x ∷ xs) zero h = refl
+  classes-back (x ∷ xs) (suc i) h = classes-back xs i (omega arith)
 
   abbrev pos : ℕ → ℕ
   pos p = position p gs
@@ -236,6 +245,10 @@ module _ (v : View) (g : Simple v) (asc : Ascending (v .nodes)) where
       step (inl h) (inr x) = rw (h, x) (and-one (isClique (kindOf (v .edge) (group (v .nodes) r p))) ∙ clique-law v g asc p q mp mq (eqb-false p q x) h)
       step (inr h) x = rw h (superedge-at p q mp mq h)
 
+  read-class-of : (p : ℕ) → p ∈ v .nodes → told .classes (told .groupOf p) ≡ v .class p
+  unfolding summaryBy
+  read-class-of p m = rw (members-back gs, classes-back gs (pos p) (position-in v g asc p m)) (position-class v g asc p m)
+
   pub length-marked : (l : List (List ℕ)) → length (map (marked v) l) ≡ length l
   length-marked [] = refl
   length-marked (x ∷ xs) = ap suc (length-marked xs)
@@ -262,12 +275,20 @@ module _ (v : View) (g : Simple v) (asc : Ascending (v .nodes)) where
       step (inl x) (inr y) = rw (x, y)
       step (inr x) y = rw x
 
+  pub read-class : (p : ℕ) → cond (ltb (told .groupOf p) (told .count)) (told .classes (told .groupOf p)) 0 ≡ cond (member p (v .nodes)) (v .class p) 0
+  read-class p = rw (read-placed p) (step (decide (member p (v .nodes))))
+    where
+      step : (member p (v .nodes) ≡ true) ⊎ (member p (v .nodes) ≡ false) → cond (member p (v .nodes)) (told .classes (told .groupOf p)) 0 ≡ cond (member p (v .nodes)) (v .class p) 0
+      step (inl x) = rw x (read-class-of p (member-elim p (v .nodes) x))
+      step (inr x) = rw x
+
   -- the summary that a file tells is one of the graph
   pub told-summarises : Summarises v told
   told-summarises = record {
     placed = λ p m. ltb-true (told .groupOf p) (told .count) (read-placed p ∙ member-intro p (v .nodes) m);
     inhabited = λ i l. at i (algorithm1-summarises v g asc .inhabited i (unfold summaryOf in rw told-count at l));
     exact = read-exact;
+    classed = read-class-of;
   }
     where
       at : (i : ℕ) → (p : ℕ) × (p ∈ v .nodes) × (summaryOf v gs .groupOf p ≡ i) → (p : ℕ) × (p ∈ v .nodes) × (told .groupOf p ≡ i)

@@ -4,7 +4,7 @@ use mathlib.Core.List.{List, [], _∷_, _++_, map}
 use Prim.Native.Nat.{ℕ, suc, _/_, _%_}
 use lib.Dec.{ltb}
 use lib.ListN.{length}
-use Rattle.model.specs.Lists.{concat, filter, nodes}
+use Rattle.model.specs.Lists.{concat, filter, headOr, nodes}
 use Rattle.model.specs.Graph.{Graph, View}
 use Rattle.model.specs.Grouping.{Kind, adjacent, algorithm1, clique, independent, kindOf, singleton}
 
@@ -16,13 +16,17 @@ isVisible g p = ltb p (g .nodeCount) && not (g .hidden p)
 unfoldable pub visibleEdge : Graph → ℕ → ℕ → Bool
 visibleEdge g p q = isVisible g p && (isVisible g q && g .edge p q)
 
--- the visible nodes and the edges between them
-abbrev pub visible : Graph → View
-visible g = record { nodes = filter (isVisible g) (nodes (g .nodeCount)); edge = visibleEdge g }
+-- the class of a visible node
+unfoldable pub visibleClass : Graph → ℕ → ℕ
+visibleClass g p = cond (isVisible g p) (g .class p) 0
 
--- the graph without its hidden nodes' edges
+-- the visible nodes, the edges between them and their classes
+abbrev pub visible : Graph → View
+visible g = record { nodes = filter (isVisible g) (nodes (g .nodeCount)); edge = visibleEdge g; class = visibleClass g }
+
+-- the graph without its hidden nodes' edges and classes
 unfoldable pub visiblePart : Graph → Graph
-visiblePart g = record { nodeCount = g .nodeCount; edge = visibleEdge g; hidden = λ p. ltb p (g .nodeCount) && g .hidden p }
+visiblePart g = record { nodeCount = g .nodeCount; edge = visibleEdge g; hidden = λ p. ltb p (g .nodeCount) && g .hidden p; class = visibleClass g }
 
 -- groups are worked out on those, not taken from the whole graph
 unfoldable pub visibleGroups : Graph → List (List ℕ)
@@ -45,7 +49,7 @@ kindByte independent = 0x49
 kindByte clique = 0x43
 
 unfoldable pub groupRecord : View → List ℕ → List ℕ
-groupRecord v g = 0x47 ∷ kindByte (kindOf (v .edge) g) ∷ (u16 (length g) ++ concat (map u16 g))
+groupRecord v g = 0x47 ∷ kindByte (kindOf (v .edge) g) ∷ (u16 (length g) ++ (u16 (v .class (headOr 0 g)) ++ concat (map u16 g)))
 
 unfoldable pub superedgeRecord : ℕ × ℕ → List ℕ
 superedgeRecord ij = 0x53 ∷ 0x45 ∷ (u16 (ij .0) ++ u16 (ij .1))

@@ -3,15 +3,15 @@ use mathlib.Core.Path.{_≡_, refl, sym, ap, ap₂, _∙_, fun-ext}
 use mathlib.Core.Bool.{Bool, true, false, not, _&&_, cond, and-false}
 use mathlib.Core.List.{List, [], _∷_, _++_, map, List·Memᴰ·head, List·Memᴰ·tail}
 use mathlib.Core.Logic.{_⊎_, inl, inr}
-use Prim.Native.Nat.{ℕ, suc, _+_, _*_}
+use Prim.Native.Nat.{ℕ, suc, _+_, _*_, _<_}
 use native.Mathlib.Omega.{arith}
 use lib.Dec.{eqb, ltb}
 use lib.ListN.{length, length-append}
 use borrow.Author.Tests.{eqb-true, eq-eqb, ne-eqb, ltb-true}
 use Rattle.model.specs.Lists.{_∈_, concat, filter, nodes}
-use Rattle.model.specs.Graph.{Graph, Proper, View}
+use Rattle.model.specs.Graph.{Graph, Proper, View, maxClasses}
 use Rattle.model.specs.Grouping.{algorithm1, group, leaders, least, similar}
-use Rattle.model.specs.Release.{encode, endRecord, groupRecord, headRecord, isVisible, release, superedgeCount, superedgeRecord, superedges, u16, visible, visibleEdge, visibleGroups}
+use Rattle.model.specs.Release.{encode, endRecord, groupRecord, headRecord, isVisible, release, superedgeCount, superedgeRecord, superedges, u16, visible, visibleClass, visibleEdge, visibleGroups}
 use Rattle.model.specs.History.{Alike}
 use Rattle.model.specs.TestLaws.{decide, iff-eq}
 use Rattle.model.specs.ListLaws.{Ascending, filter-ascending, filter-cong, nodes-ascending}
@@ -38,8 +38,16 @@ module _ (a b : Graph) (h : Alike a b) where
       step true s false t = refl
       step false s y t = refl
 
+  alike-class : (p : ℕ) → visibleClass a p ≡ visibleClass b p
+  unfolding visibleClass
+  alike-class p = rw (← alike-node p) (step (isVisible a p) refl)
+    where
+      step : (x : Bool) → isVisible a p ≡ x → cond x (a .class p) 0 ≡ cond x (b .class p) 0
+      step true s = h .class p s
+      step false s = refl
+
   pub alike-visible : visible a ≡ visible b
-  alike-visible = rw (fun-ext alike-node, fun-ext (λ p. fun-ext (alike-edge p)), h .marks .nodeCount)
+  alike-visible = rw (fun-ext alike-node, fun-ext (λ p. fun-ext (alike-edge p)), fun-ext alike-class, h .marks .nodeCount)
 
   pub non-interference : release a ≡ release b
   unfolding release
@@ -51,11 +59,11 @@ unfolding concat u16
 length-u16s [] = refl
 length-u16s (x ∷ xs) = omega (arith, length-u16s xs)
 
-pub length-group-record : (v : View) (g : List ℕ) → length (groupRecord v g) ≡ 4 + 2 * length g
+pub length-group-record : (v : View) (g : List ℕ) → length (groupRecord v g) ≡ 6 + 2 * length g
 unfolding groupRecord u16
 length-group-record v g = omega (arith, length-u16s g)
 
-pub length-group-records : (v : View) (gs : List (List ℕ)) → length (concat (map (groupRecord v) gs)) ≡ 4 * length gs + 2 * length (concat gs)
+pub length-group-records : (v : View) (gs : List (List ℕ)) → length (concat (map (groupRecord v) gs)) ≡ 6 * length gs + 2 * length (concat gs)
 unfolding concat
 length-group-records v [] = refl
 length-group-records v (g ∷ gs) = omega (arith, length-append (groupRecord v g) (concat (map (groupRecord v) gs)), length-group-record v g, length-group-records v gs, length-append g (concat gs))
@@ -65,7 +73,7 @@ unfolding concat superedgeRecord u16
 length-superedge-records [] = refl
 length-superedge-records (j ∷ js) = omega (arith, length-superedge-records js)
 
-pub length-encode : (n : ℕ) (v : View) (gs : List (List ℕ)) → length (encode n v gs) ≡ 10 + 4 * length gs + 2 * length (concat gs) + 6 * length (superedges (v .edge) 0 gs)
+pub length-encode : (n : ℕ) (v : View) (gs : List (List ℕ)) → length (encode n v gs) ≡ 10 + 6 * length gs + 2 * length (concat gs) + 6 * length (superedges (v .edge) 0 gs)
 unfolding encode headRecord u16 endRecord
 length-encode n v gs =
     omega (
@@ -129,7 +137,7 @@ module _ (v : View) (g : Simple v) (asc : Ascending (v .nodes)) where
           back : (l : ℕ) → eqb (least (v .nodes) (similar v) p) l ≡ true → similar v l p ≡ true
           back l h = rw (← eqb-true (least (v .nodes) (similar v) p) l h) (similar-sym v p _ (least-rel (v .nodes) (similar v) eq asc p m))
 
-  pub length-law : (n : ℕ) → length (encode n v (algorithm1 v)) ≡ 10 + 4 * length (algorithm1 v) + 2 * length (v .nodes) + 6 * length (superedges (v .edge) 0 (algorithm1 v))
+  pub length-law : (n : ℕ) → length (encode n v (algorithm1 v)) ≡ 10 + 6 * length (algorithm1 v) + 2 * length (v .nodes) + 6 * length (superedges (v .edge) 0 (algorithm1 v))
   length-law n = omega (arith, length-encode n v (algorithm1 v), length-concat-groups)
 
 -- the visible part of a proper graph is a simple graph
@@ -151,7 +159,15 @@ visible-simple g h = record {
     none true = refl
     none false = refl
 
+pub visible-classed : (g : Graph) → Proper g → (p : ℕ) → visibleClass g p < maxClasses
+unfolding visibleClass
+visible-classed g h p = step (isVisible g p)
+  where
+    step : (b : Bool) → cond b (g .class p) 0 < maxClasses
+    step true = h .classed p
+    step false = omega arith
+
 -- m, g and s of a release and its length
-pub length-release : (g : Graph) → Proper g → length (release g) ≡ 10 + 4 * length (visibleGroups g) + 2 * length (visible g .nodes) + 6 * superedgeCount g
+pub length-release : (g : Graph) → Proper g → length (release g) ≡ 10 + 6 * length (visibleGroups g) + 2 * length (visible g .nodes) + 6 * superedgeCount g
 unfolding release visibleGroups superedgeCount
 length-release g h = length-law (visible g) (visible-simple g h) (visible-ascending g) (g .nodeCount)

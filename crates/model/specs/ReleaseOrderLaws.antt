@@ -9,17 +9,17 @@ use lib.Dec.{leb}
 use lib.ListN.{length}
 use borrow.Author.Tests.{lt-ltb, leb-false, le-leb}
 use Rattle.model.specs.Lists.{_∈_, concat, headOr, member, nodes}
-use Rattle.model.specs.Graph.{Graph, Proper, View, maxNodes}
+use Rattle.model.specs.Graph.{Graph, Proper, View, maxClasses, maxNodes}
 use Rattle.model.specs.Grouping.{Kind, adjacent, algorithm1, clique, group, independent, isClique, kindOf, leaders, least, similar, singleton}
 use Rattle.model.specs.Release.{encode, endRecord, groupRecord, headRecord, isVisible, kindByte, release, superedgeRecord, superedges, superedgesFrom, u16, visible}
-use Rattle.model.specs.Reading.{isRelease, u16At}
+use Rattle.model.specs.Reading.{Head, isRelease, u16At}
 use Rattle.model.specs.InOrder.{fileBy, follows, groupFits, groupsFit, inOrder, markedRecord, membersIn, pairKey, superedgesFit, toldGroups, toldSuperedges}
 use Rattle.model.specs.TestLaws.{and-true, decide}
 use Rattle.model.specs.ListLaws.{Ascending, filter-ascending, filter-elim, headOr-any, member-elim, nodes-out}
 use Rattle.model.specs.TwinLaws.{Simple, similar-refl}
 use Rattle.model.specs.ClassLaws.{Equivalence, group-in, group-out, leader-out, leaders-ascending, least-eq, least-le}
 use Rattle.model.specs.SummaryLaws.{algorithm1-classes, equivalence}
-use Rattle.model.specs.ReleaseLaws.{length-concat-groups, visible-ascending, visible-simple}
+use Rattle.model.specs.ReleaseLaws.{length-concat-groups, visible-ascending, visible-classed, visible-simple}
 use Rattle.model.specs.ReadingLaws.{length-marked, marked, members-back}
 use Rattle.model.specs.ReadBackLaws.{only-releases}
 use Rattle.model.specs.InOrderLaws.{MembersFitting, file-count, file-told-groups, file-told-superedges, fitting-members, groups-few}
@@ -57,7 +57,7 @@ module _ (v : View) (g : Simple v) (asc : Ascending (v .nodes)) where
 
   record-marked : (h : List ℕ) → groupRecord v h ≡ markedRecord (marked v h)
   unfolding groupRecord markedRecord
-  record-marked h = ap (λ (k : ℕ). 0x47 ∷ k ∷ (u16 (length h) ++ concat (map u16 h))) (byte (kindOf (v .edge) h))
+  record-marked h = ap (λ (k : ℕ). 0x47 ∷ k ∷ (u16 (length h) ++ (u16 (v .class (headOr 0 h)) ++ concat (map u16 h)))) (byte (kindOf (v .edge) h))
     where
       byte : (k : Kind) → kindByte k ≡ cond (isClique k) 0x43 0x49
       byte singleton = unfold kindByte isClique in refl
@@ -92,13 +92,13 @@ module _ (v : View) (g : Simple v) (asc : Ascending (v .nodes)) where
   some : (h : List ℕ) (p : ℕ) → p ∈ h → 1 ≤ length h
   some (x ∷ xs) p m = omega arith
 
-  module _ (n : ℕ) (small : (p : ℕ) → p ∈ v .nodes → p < n) where
+  module _ (n : ℕ) (small : (p : ℕ) → p ∈ v .nodes → p < n) (bounded : (p : ℕ) → v .class p < maxClasses) where
     classes-fit : (ls : List ℕ) (low : ℕ) (taken : ℕ → Bool) → ((x : ℕ) → x ∈ ls → (x ∈ vs) × (least vs r x ≡ x)) → Ascending ls → ((x : ℕ) → x ∈ ls → low ≤ x) → ((p : ℕ) → p ∈ vs → least vs r p ∈ ls → taken p ≡ false)
         → groupsFit n taken low (map (marked v) (map (group vs r) ls)) ≡ true
     unfolding groupsFit groupFits
     classes-fit [] low taken led a up free = refl
     classes-fit (x ∷ xs) low taken led a up free =
-        and-true (and-true (le-leb _ (length (group vs r x)) (marked-size (group vs r x) (some (group vs r x) x own))) (fitting-members n taken low (group vs r x) members))
+        and-true (and-true (lt-ltb _ maxClasses (bounded (headOr 0 (group vs r x)))) (and-true (le-leb _ (length (group vs r x)) (marked-size (group vs r x) (some (group vs r x) x own))) (fitting-members n taken low (group vs r x) members)))
         (classes-fit xs (suc (headOr 0 (group vs r x))) (λ p. member p (group vs r x) || taken p) (λ y m. led y (List·Memᴰ·tail m)) (a .1) above rest)
       where
         here : (x ∈ vs) × (least vs r x ≡ x)
@@ -153,7 +153,7 @@ module _ (b : Graph) (h : Proper b) where
   visible-node p m = nodes-out (b .nodeCount) p (filter-elim (isVisible b) (nodes (b .nodeCount)) p m .0)
 
   pub visible-in-order : inOrder (b .nodeCount) (map (marked (visible b)) (algorithm1 (visible b))) (superedges (visible b .edge) 0 (algorithm1 (visible b))) ≡ true
-  visible-in-order = algorithm1-in-order (visible b) (visible-simple b h) (visible-ascending b) (b .nodeCount) visible-node (h .small)
+  visible-in-order = algorithm1-in-order (visible b) (visible-simple b h) (visible-ascending b) (b .nodeCount) visible-node (visible-classed b h) (h .small)
 
 pub release-in-order : (s : List ℕ) → isRelease s ≡ true → (inOrder (u16At s 2) (toldGroups s) (toldSuperedges s) ≡ true) × (s ≡ fileBy (u16At s 2) (toldGroups s) (toldSuperedges s))
 release-in-order s t = let o = only-releases s t in by (o .0) (o .1) (o .2 ∙ release-file (o .0) (o .1))
@@ -161,7 +161,7 @@ release-in-order s t = let o = only-releases s t in by (o .0) (o .1) (o .2 ∙ r
     by : (b : Graph) (h : Proper b) → s ≡ fileBy (b .nodeCount) (map (marked (visible b)) (algorithm1 (visible b))) (superedges (visible b .edge) 0 (algorithm1 (visible b)))
         → (inOrder (u16At s 2) (toldGroups s) (toldSuperedges s) ≡ true) × (s ≡ fileBy (u16At s 2) (toldGroups s) (toldSuperedges s))
     by b h e =
-        let gs : List (Bool × List ℕ) = map (marked (visible b)) (algorithm1 (visible b)) in
+        let gs : List (Head × List ℕ) = map (marked (visible b)) (algorithm1 (visible b)) in
         let js : List (ℕ × ℕ) = superedges (visible b .edge) 0 (algorithm1 (visible b)) in
         let n = b .nodeCount in
         rw (ap (λ (x : List ℕ). u16At x 2) e ∙ file-count n gs js, ap toldGroups e ∙ file-told-groups n gs js, ap toldSuperedges e ∙ file-told-superedges n gs js) (visible-in-order b h, e)

@@ -6,7 +6,7 @@ use lib.Dec.{eqb, ltb}
 use lib.ListN.{length, getD, take, drop, replicate}
 use Rattle.model.specs.Lists.{all, concat, nodes, sameList}
 use Rattle.model.specs.Graph.{Graph, emptyGraph, maxNodes, rowWords}
-use Rattle.model.specs.Tables.{edgesOf, markedGraph, simple}
+use Rattle.model.specs.Tables.{edgesOf, graphWith, isGraph}
 
 -- the limits: states in a store, bytes in a name
 abbrev pub maxStates : ℕ
@@ -65,7 +65,7 @@ dropping name (x ∷ xs) = cond (isUnder name x) free x ∷ dropping name xs
 abbrev pub noStates : List Place
 noStates = replicate maxStates free
 
--- no name is kept twice, and every graph is simple
+-- no name is kept twice, and every state is a graph
 unfoldable pub isNew : Place → List Place → Bool
 isNew free xs = true
 isNew (kept s g) xs = not (isKept s xs)
@@ -74,13 +74,13 @@ unfoldable pub areApart : List Place → Bool
 areApart [] = true
 areApart (x ∷ xs) = isNew x xs && areApart xs
 
-unfoldable pub isSimple : Place → Bool
-isSimple free = true
-isSimple (kept s g) = simple g
+unfoldable pub isState : Place → Bool
+isState free = true
+isState (kept s g) = isGraph g
 
-unfoldable pub areSimple : List Place → Bool
-areSimple [] = true
-areSimple (x ∷ xs) = isSimple x && areSimple xs
+unfoldable pub areStates : List Place → Bool
+areStates [] = true
+areStates (x ∷ xs) = isState x && areStates xs
 
 -- words in a place and in a store for n nodes
 abbrev pub placeWords : ℕ → ℕ
@@ -105,20 +105,27 @@ unfoldable pub bytesOf : ℕ → ℕ → List ℕ
 bytesOf zero w = []
 bytesOf (suc k) w = w % 256 ∷ bytesOf k (w / 256)
 
--- one mark for each node (1: hidden)
-unfoldable pub marksOf : Graph → List ℕ
-marksOf g = map (λ p. cond (g .hidden p) 1 0) (nodes (g .nodeCount))
+-- one word for each node: its mark (1: hidden) and twice its class
+unfoldable pub nodeWord : Graph → ℕ → ℕ
+nodeWord g p = cond (g .hidden p) 1 0 + 2 * g .class p
 
--- a place: 0 or 1, the name in two words, the edges, the marks; a free one is all zeros
+unfoldable pub nodeWords : Graph → List ℕ
+nodeWords g = map (nodeWord g) (nodes (g .nodeCount))
+
+-- the graph of n nodes that edges and such words tell
+unfoldable pub stateGraph : ℕ → List ℕ → List ℕ → Graph
+stateGraph n edges words = graphWith n edges (λ p. getD words p 0 % 2) (λ p. getD words p 0 / 2)
+
+-- a place: 0 or 1, the name in two words, the edges, the words of the nodes; a free one is all zeros
 unfoldable pub placeOf : ℕ → Place → List ℕ
 placeOf n free = replicate (placeWords n) 0
-placeOf n (kept s g) = 1 ∷ (number (take 8 s) ∷ (number (drop 8 s) ∷ (edgesOf g ++ marksOf g)))
+placeOf n (kept s g) = 1 ∷ (number (take 8 s) ∷ (number (drop 8 s) ∷ (edgesOf g ++ nodeWords g)))
 
 -- the place that words are read as
 unfoldable pub placeIn : ℕ → List ℕ → Place
 placeIn n w =
     cond (eqb (getD w 0 0) 0) free
-    (kept (bytesOf 8 (getD w 1 0) ++ bytesOf 8 (getD w 2 0)) (markedGraph n (take (rowWords * n) (drop 3 w)) (drop (3 + rowWords * n) w)))
+    (kept (bytesOf 8 (getD w 1 0) ++ bytesOf 8 (getD w 2 0)) (stateGraph n (take (rowWords * n) (drop 3 w)) (drop (3 + rowWords * n) w)))
 
 -- a store for n nodes: n + 1, then its places
 unfoldable pub storeOf : ℕ → List Place → List ℕ
@@ -133,4 +140,4 @@ placesIn n s = map (λ i. placeIn n (wordsAt n s i)) (nodes maxStates)
 
 -- the words are a store for n nodes: read and written again they are the same, names differ, and every state is a graph
 unfoldable pub isStore : ℕ → List ℕ → Bool
-isStore n s = sameList s (storeOf n (placesIn n s)) && (areApart (placesIn n s) && areSimple (placesIn n s))
+isStore n s = sameList s (storeOf n (placesIn n s)) && (areApart (placesIn n s) && areStates (placesIn n s))

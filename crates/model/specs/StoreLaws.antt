@@ -12,11 +12,11 @@ use lib.Seq.{take-at, drop-at, drop-append-add, drop-cons, drop-drop, length-tak
 use borrow.Author.Tests.{eqb-true, eq-eqb, ltb-true, lt-ltb, not-true}
 use Rattle.model.specs.Lists.{all, concat, nodes, sameList}
 use Rattle.model.specs.Graph.{Graph, Proper, maxNodes, rowWords}
-use Rattle.model.specs.Tables.{edgesIn, edgesOf, markedGraph, simple}
-use Rattle.model.specs.Store.{Place, areApart, areSimple, bytesOf, dropping, free, graphAt, isFree, isFull, isKept, isName, isNew, isSimple, isStore, isUnder, keeping, kept, keptGraph, marksOf, maxStates, nameBytes, noStates, number, placeIn, placeOf, placeWords, placesIn, storeOf, storeWords, wordsAt}
+use Rattle.model.specs.Tables.{edgesIn, edgesOf, isGraph}
+use Rattle.model.specs.Store.{Place, areApart, areStates, bytesOf, dropping, free, graphAt, isFree, isFull, isKept, isName, isNew, isState, isStore, isUnder, keeping, kept, keptGraph, maxStates, nameBytes, noStates, nodeWord, nodeWords, number, placeIn, placeOf, placeWords, placesIn, stateGraph, storeOf, storeWords, wordsAt}
 use Rattle.model.specs.TestLaws.{and-fst, and-snd, and-true, decide, differ, fails, or-none}
 use Rattle.model.specs.ListLaws.{same-eq, same-refl}
-use Rattle.model.specs.TableLaws.{getD-map-at, getD-nodes, length-edges, length-nodes, marked-back, simple-proper, simple-test}
+use Rattle.model.specs.TableLaws.{getD-map-at, getD-nodes, graph-test, labels-back, labels-proper, length-edges, length-nodes}
 
 -- bytes and numbers
 pub number-bytes : (k w : ℕ) → w < 256 ^ k → number (bytesOf k w) ≡ w
@@ -85,14 +85,38 @@ pub bytes-name : (a b : ℕ) → isName (bytesOf 8 a ++ bytesOf 8 b) ≡ true
 unfolding isName
 bytes-name a b = and-true (eq-eqb _ 16 (length-append (bytesOf 8 a) (bytesOf 8 b) ∙ ap₂ _+_ (length-bytes 8 a) (length-bytes 8 b))) (all-append (bytesOf 8 a) (bytesOf 8 b) _ (bytes-below 8 a) (bytes-below 8 b))
 
--- marks
-pub length-marks : (g : Graph) → length (marksOf g) ≡ g .nodeCount
-unfolding marksOf
-length-marks g = length-map (nodes (g .nodeCount)) (λ p. cond (g .hidden p) 1 0) ∙ length-nodes (g .nodeCount)
+-- the words of nodes
+pub length-words : (g : Graph) → length (nodeWords g) ≡ g .nodeCount
+unfolding nodeWords
+length-words g = length-map (nodes (g .nodeCount)) (nodeWord g) ∙ length-nodes (g .nodeCount)
 
-pub marks-at : (g : Graph) (p : ℕ) → p < g .nodeCount → getD (marksOf g) p 0 ≡ cond (g .hidden p) 1 0
-unfolding marksOf
-marks-at g p h = getD-map-at (λ p. cond (g .hidden p) 1 0) 0 (nodes (g .nodeCount)) p (rw length-nodes h) ∙ ap (λ (q : ℕ). cond (g .hidden q) 1 0) (getD-nodes (g .nodeCount) p h)
+pub word-at : (g : Graph) (p : ℕ) → p < g .nodeCount → getD (nodeWords g) p 0 ≡ nodeWord g p
+unfolding nodeWords
+word-at g p h = getD-map-at (nodeWord g) 0 (nodes (g .nodeCount)) p (rw length-nodes h) ∙ ap (nodeWord g) (getD-nodes (g .nodeCount) p h)
+
+-- mark and class of a word
+pub word-mark : (g : Graph) (p : ℕ) → nodeWord g p % 2 ≡ cond (g .hidden p) 1 0
+unfolding nodeWord
+word-mark g p = step (g .hidden p)
+  where
+    step : (b : Bool) → (cond b 1 0 + 2 * g .class p) % 2 ≡ cond b 1 0
+    step true = omega arith
+    step false = omega arith
+
+pub word-class : (g : Graph) (p : ℕ) → nodeWord g p / 2 ≡ g .class p
+unfolding nodeWord
+word-class g p = step (g .hidden p)
+  where
+    step : (b : Bool) → (cond b 1 0 + 2 * g .class p) / 2 ≡ g .class p
+    step true = omega arith
+    step false = omega arith
+
+pub state-back : (g : Graph) → Proper g → stateGraph (g .nodeCount) (edgesOf g) (nodeWords g) ≡ g
+unfolding stateGraph
+state-back g h =
+    labels-back g h (λ p. getD (nodeWords g) p 0 % 2) (λ p. getD (nodeWords g) p 0 / 2)
+    (λ p l. ap (λ (w : ℕ). w % 2) (word-at g p l) ∙ word-mark g p)
+    (λ p l. ap (λ (w : ℕ). w / 2) (word-at g p l) ∙ word-class g p)
 
 -- a place for n nodes: free, or a proper graph of n nodes under a name
 abbrev pub Fits : ℕ → Place → Type 0
@@ -103,8 +127,8 @@ abbrev pub AllFit : ℕ → List Place → Type 0
 AllFit n [] = Unit {0}
 AllFit n (x ∷ xs) = Fits n x × AllFit n xs
 
-length-state : (n : ℕ) (g : Graph) → g .nodeCount ≡ n → length (edgesOf g ++ marksOf g) ≡ 9 * n
-length-state n g e = length-append (edgesOf g) (marksOf g) ∙ omega (arith, length-edges g, length-marks g)
+length-state : (n : ℕ) (g : Graph) → g .nodeCount ≡ n → length (edgesOf g ++ nodeWords g) ≡ 9 * n
+length-state n g e = length-append (edgesOf g) (nodeWords g) ∙ omega (arith, length-edges g, length-words g)
 
 pub length-place : (n : ℕ) (x : Place) → Fits n x → length (placeOf n x) ≡ placeWords n
 unfolding placeOf
@@ -117,16 +141,16 @@ place-back n free f = rw (eq-eqb (getD (replicate (placeWords n) 0) 0 0) 0 (getD
 place-back n (kept s g) f = ap₂ kept (name-back s (f .0)) graph
   where
     w : List ℕ
-    w = edgesOf g ++ marksOf g
+    w = edgesOf g ++ nodeWords g
 
     edges : take (rowWords * n) w ≡ edgesOf g
-    edges = take-at (edgesOf g) (marksOf g) (rowWords * n) (length-edges g ∙ ap (λ (k : ℕ). 8 * k) (f .2))
+    edges = take-at (edgesOf g) (nodeWords g) (rowWords * n) (length-edges g ∙ ap (λ (k : ℕ). 8 * k) (f .2))
 
-    marks : drop (3 + rowWords * n) (placeOf n (kept s g)) ≡ marksOf g
-    marks = sym (drop-drop (rowWords * n) 3 (placeOf n (kept s g))) ∙ drop-at (edgesOf g) (marksOf g) (rowWords * n) (length-edges g ∙ ap (λ (k : ℕ). 8 * k) (f .2))
+    words : drop (3 + rowWords * n) (placeOf n (kept s g)) ≡ nodeWords g
+    words = sym (drop-drop (rowWords * n) 3 (placeOf n (kept s g))) ∙ drop-at (edgesOf g) (nodeWords g) (rowWords * n) (length-edges g ∙ ap (λ (k : ℕ). 8 * k) (f .2))
 
-    graph : markedGraph n (take (rowWords * n) w) (drop (3 + rowWords * n) (placeOf n (kept s g))) ≡ g
-    graph = ap₂ (markedGraph n) edges marks ∙ ap (λ (k : ℕ). markedGraph k (edgesOf g) (marksOf g)) (sym (f .2)) ∙ marked-back g (f .1) (marksOf g) (marks-at g)
+    graph : stateGraph n (take (rowWords * n) w) (drop (3 + rowWords * n) (placeOf n (kept s g))) ≡ g
+    graph = ap₂ (stateGraph n) edges words ∙ ap (λ (k : ℕ). stateGraph k (edgesOf g) (nodeWords g)) (sym (f .2)) ∙ state-back g (f .1)
 
 -- the words of a store, place by place
 module _ (n : ℕ) where
@@ -183,11 +207,11 @@ pub record Sound (n : ℕ) (xs : List Place) : Type 0 where
   pub fit : AllFit n xs
   pub apart : areApart xs ≡ true
 
-pub all-simple : (n : ℕ) (xs : List Place) → AllFit n xs → areSimple xs ≡ true
-unfolding areSimple isSimple
-all-simple n [] f = refl
-all-simple n (free ∷ xs) f = all-simple n xs (f .1)
-all-simple n (kept s g ∷ xs) f = and-true (simple-test g (f .0 .1)) (all-simple n xs (f .1))
+pub all-states : (n : ℕ) (xs : List Place) → AllFit n xs → areStates xs ≡ true
+unfolding areStates isState
+all-states n [] f = refl
+all-states n (free ∷ xs) f = all-states n xs (f .1)
+all-states n (kept s g ∷ xs) f = and-true (graph-test g (f .0 .1)) (all-states n xs (f .1))
 
 -- sound places are read back from their words, which pass for a store
 module _ (n : ℕ) (xs : List Place) (h : Sound n xs) where
@@ -196,38 +220,35 @@ module _ (n : ℕ) (xs : List Place) (h : Sound n xs) where
 
   pub sound-store : isStore n (storeOf n xs) ≡ true
   unfolding isStore
-  sound-store = rw sound-back (and-true (same-refl (storeOf n xs)) (and-true (h .apart) (all-simple n xs (h .fit))))
+  sound-store = rw sound-back (and-true (same-refl (storeOf n xs)) (and-true (h .apart) (all-states n xs (h .fit))))
 
   pub sound-length : length (storeOf n xs) ≡ storeWords n
   sound-length = length-store n xs (h .fit) (h .size)
 
 -- what passes for a store
-pub marked-proper : (n : ℕ) (edges marks : List ℕ) → n ≤ maxNodes → simple (markedGraph n edges marks) ≡ true → Proper (markedGraph n edges marks)
-unfolding markedGraph edgesIn
-marked-proper n edges marks small h =
-    simple-proper (markedGraph n edges marks) h small
-    (λ p q e. (ltb-true p n (and-fst (ltb p n) _ e), ltb-true q n (and-fst (ltb q n) _ (and-snd (ltb p n) _ e))))
-    (λ p e. ltb-true p n (and-fst (ltb p n) _ e))
+pub state-proper : (n : ℕ) (edges words : List ℕ) → n ≤ maxNodes → isGraph (stateGraph n edges words) ≡ true → Proper (stateGraph n edges words)
+unfolding stateGraph
+state-proper n edges words = labels-proper n edges (λ p. getD words p 0 % 2) (λ p. getD words p 0 / 2)
 
 module _ (n : ℕ) (small : n ≤ maxNodes) where
-  pub place-fits : (w : List ℕ) → isSimple (placeIn n w) ≡ true → Fits n (placeIn n w)
-  unfolding placeIn isSimple
+  pub place-fits : (w : List ℕ) → isState (placeIn n w) ≡ true → Fits n (placeIn n w)
+  unfolding placeIn isState
   place-fits w h = step (eqb (getD w 0 0) 0) h
     where
       name : List ℕ
       name = bytesOf 8 (getD w 1 0) ++ bytesOf 8 (getD w 2 0)
 
       g : Graph
-      g = markedGraph n (take (rowWords * n) (drop 3 w)) (drop (3 + rowWords * n) w)
+      g = stateGraph n (take (rowWords * n) (drop 3 w)) (drop (3 + rowWords * n) w)
 
-      step : (b : Bool) → isSimple (cond b free (kept name g)) ≡ true → Fits n (cond b free (kept name g))
+      step : (b : Bool) → isState (cond b free (kept name g)) ≡ true → Fits n (cond b free (kept name g))
       step true h = tt
-      step false h = (bytes-name (getD w 1 0) (getD w 2 0), marked-proper n (take (rowWords * n) (drop 3 w)) (drop (3 + rowWords * n) w) small h, unfold markedGraph in refl)
+      step false h = (bytes-name (getD w 1 0) (getD w 2 0), state-proper n (take (rowWords * n) (drop 3 w)) (drop (3 + rowWords * n) w) small h, unfold stateGraph in refl)
 
-  pub places-fit : (f : ℕ → List ℕ) (l : List ℕ) → areSimple (map (λ i. placeIn n (f i)) l) ≡ true → AllFit n (map (λ i. placeIn n (f i)) l)
-  unfolding areSimple
+  pub places-fit : (f : ℕ → List ℕ) (l : List ℕ) → areStates (map (λ i. placeIn n (f i)) l) ≡ true → AllFit n (map (λ i. placeIn n (f i)) l)
+  unfolding areStates
   places-fit f [] h = tt
-  places-fit f (i ∷ l) h = (place-fits (f i) (and-fst (isSimple (placeIn n (f i))) _ h), places-fit f l (and-snd (isSimple (placeIn n (f i))) _ h))
+  places-fit f (i ∷ l) h = (place-fits (f i) (and-fst (isState (placeIn n (f i))) _ h), places-fit f l (and-snd (isState (placeIn n (f i))) _ h))
 
   module _ (s : List ℕ) (h : isStore n s ≡ true) where
     pub store-words : s ≡ storeOf n (placesIn n s)

@@ -5,15 +5,16 @@ use mathlib.Core.List.{List, [], _∷_, List·Memᴰ}
 use Prim.Native.Nat.{ℕ, suc, _<_}
 use lib.Dec.{eqb}
 use lib.ListN.{length, getD}
-use Rattle.model.specs.Lists.{_∈_, member, nodes}
+use Rattle.model.specs.Lists.{_∈_, headOr, member, nodes}
 use Rattle.model.specs.Graph.{View}
 use Rattle.model.specs.Grouping.{adjacent, kindOf, isClique}
 
--- groups by number, any of them cliques, any pairs of different groups with a superedge
+-- groups by number, each of one class, any of them cliques, any pairs of different groups with a superedge
 pub record Summary : Type 0 where
   pub count : ℕ
   pub groupOf : ℕ → ℕ
   pub cliques : ℕ → Bool
+  pub classes : ℕ → ℕ
   pub superedges : ℕ → ℕ → Bool
 
 -- unfolding: a clique gives every pair inside, a superedge every pair across
@@ -25,13 +26,14 @@ reconstruct d p q =
 
 -- the groups as nodes of a graph of their own, whose edges are the superedges between different ones
 abbrev pub groupsOf : Summary → View
-groupsOf d = record { nodes = nodes (d .count); edge = λ i j. not (eqb i j) && (d .superedges i j || d .superedges j i) }
+groupsOf d = record { nodes = nodes (d .count); edge = λ i j. not (eqb i j) && (d .superedges i j || d .superedges j i); class = d .classes }
 
--- d puts each node in exactly one group, none empty, and unfolds to exactly the edges among them
+-- d puts each node in exactly one group of its class, none empty, and unfolds to exactly the edges among them
 pub record Summarises (v : View) (d : Summary) : Type 0 where
   pub placed : (p : ℕ) → p ∈ v .nodes → d .groupOf p < d .count
   pub inhabited : (i : ℕ) → i < d .count → (p : ℕ) × (p ∈ v .nodes) × (d .groupOf p ≡ i)
   pub exact : (p q : ℕ) → p ∈ v .nodes → q ∈ v .nodes → reconstruct d p q ≡ v .edge p q
+  pub classed : (p : ℕ) → p ∈ v .nodes → d .classes (d .groupOf p) ≡ v .class p
 
 -- p and q stand in one group of a list of groups
 abbrev pub Share : List (List ℕ) → ℕ → ℕ → Type 0
@@ -42,11 +44,12 @@ unfoldable pub position : ℕ → List (List ℕ) → ℕ
 position p [] = 0
 position p (g ∷ gs) = cond (member p g) 0 (suc (position p gs))
 
--- groups of nodes, with their kinds and superedges by the edges
+-- groups of nodes, with their kinds and superedges by the edges, and the classes of their first members
 unfoldable pub summaryOf : View → List (List ℕ) → Summary
 summaryOf v gs = record {
   count = length gs;
   groupOf = λ p. position p gs;
   cliques = λ i. isClique (kindOf (v .edge) (getD gs i []));
+  classes = λ i. v .class (headOr 0 (getD gs i []));
   superedges = λ i j. adjacent (v .edge) (getD gs i []) (getD gs j []);
 }

@@ -8,13 +8,13 @@ use native.Mathlib.Omega.{arith}
 use lib.Dec.{eqb}
 use lib.ListN.{length, getD}
 use borrow.Author.Tests.{eqb-true, eqb-false, lt-leb}
-use Rattle.model.specs.Lists.{_∈_, any}
+use Rattle.model.specs.Lists.{_∈_, any, headOr}
 use Rattle.model.specs.Graph.{View}
 use Rattle.model.specs.Grouping.{adjacent, algorithm1, clique, closed, falseTwins, group, independent, isClique, kindOf, leaders, least, similar, trueTwins}
 use Rattle.model.specs.Summary.{Share, Summarises, position, reconstruct, summaryOf}
 use Rattle.model.specs.TestLaws.{and-one, decide, differ, iff-eq, or-cases, or-left, or-same}
-use Rattle.model.specs.ListLaws.{Ascending, any-elim, any-intro, map-in, map-out}
-use Rattle.model.specs.TwinLaws.{Simple, falseTwins-at, falseTwins-no-edge, never-mixed, similar-cases, similar-refl, similar-sym, similar-trans, trueTwins-at, trueTwins-edge}
+use Rattle.model.specs.ListLaws.{Ascending, any-elim, any-intro, headOr-in, map-in, map-out}
+use Rattle.model.specs.TwinLaws.{Simple, falseTwins-at, falseTwins-no-edge, never-mixed, similar-cases, similar-class, similar-refl, similar-sym, similar-trans, trueTwins-at, trueTwins-edge}
 use Rattle.model.specs.ClassLaws.{Equivalence, class-group, class-in, class-inhabited, classes, greedy-leaders, group-in, group-out, leader-out, least-in, least-leads, least-rel, length-classes, position-same}
 
 module _ (v : View) (g : Simple v) (asc : Ascending (v .nodes)) where
@@ -181,9 +181,16 @@ module _ (v : View) (g : Simple v) (asc : Ascending (v .nodes)) where
       step (inl h) (inr x) = rw (h, x) (and-one (isClique (kindOf (v .edge) (group (v .nodes) r p))) ∙ clique-law p q mp mq (eqb-false p q x) h)
       step (inr h) x = rw (h, adjacent-law p q mp mq h, adjacent-law q p mq mp (other h), g .symmetric q p mq mp) (or-same (v .edge p q))
 
+  -- the first member of a node's group is of its class
+  pub group-class : (p : ℕ) → p ∈ v .nodes → v .class (headOr 0 (group (v .nodes) r p)) ≡ v .class p
+  group-class p m = sym (similar-class v p _ (group-out (v .nodes) r p _ (headOr-in 0 (group (v .nodes) r p) p (group-in (v .nodes) r p p m (similar-refl v p))) .1))
+
+  pub position-class : (p : ℕ) → p ∈ v .nodes → v .class (headOr 0 (getD (algorithm1 v) (position p (algorithm1 v)) [])) ≡ v .class p
+  position-class p m = rw (position-group p m) (group-class p m)
+
   pub length-groups : length (algorithm1 v) ≡ length (leaders (v .nodes) r)
   length-groups = rw algorithm1-classes (length-classes (v .nodes) r equivalence asc)
 
   pub algorithm1-summarises : Summarises v (summaryOf v (algorithm1 v))
   unfolding summaryOf
-  algorithm1-summarises = record { placed = position-in; inhabited = rw algorithm1-classes (class-inhabited (v .nodes) r equivalence asc); exact = reconstruct-exact }
+  algorithm1-summarises = record { placed = position-in; inhabited = rw algorithm1-classes (class-inhabited (v .nodes) r equivalence asc); exact = reconstruct-exact; classed = position-class }

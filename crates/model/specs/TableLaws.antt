@@ -9,11 +9,11 @@ use native.Mathlib.Omega.{arith}
 use lib.Dec.{eqb, ltb}
 use lib.ListN.{length, getD, length-append, List·getD-append}
 use lib.Seq.{getD-append-add}
-use borrow.Author.Tests.{eqb-true, eq-eqb, ne-eqb, ltb-true, ltb-false, not-true}
+use borrow.Author.Tests.{eqb-true, eq-eqb, ne-eqb, ltb-true, ltb-false, lt-ltb, le-ltb, not-true}
 use Rattle.model.specs.Lists.{_∈_, all, concat, filter, from, nodes, sameList}
-use Rattle.model.specs.Graph.{Graph, Proper, View, maxNodes, whole}
+use Rattle.model.specs.Graph.{Graph, Proper, View, maxClasses, maxNodes, nodeNumbers, whole}
 use Rattle.model.specs.Grouping.{algorithm1, closedKey, group, leaders, least, openKey, similar}
-use Rattle.model.specs.Tables.{Tables, bitAt, edgeBit, edgesIn, edgesOf, graphOf, groupIn, groupsIn, holds, keyPair, keysOf, markedGraph, nodeNumber, nodeOf, nodesOf, rowOf, simple, tablesOf, word}
+use Rattle.model.specs.Tables.{Tables, bitAt, edgeBit, edgesIn, edgesOf, graphOf, graphWith, groupIn, groupsIn, holds, isGraph, keyPair, keysOf, nodeNumber, nodeOf, nodesOf, rowOf, simple, tablesOf, word}
 use Rattle.model.specs.TestLaws.{and-fst, and-snd, and-true, beq-eq, decide, eq-beq, iff-eq}
 use Rattle.model.specs.ListLaws.{Ascending, all-elim, all-intro, filter-cong, length-from, nodes-ascending, nodes-in, nodes-out, same-eq, same-refl}
 use Rattle.model.specs.TwinLaws.{Simple}
@@ -100,13 +100,20 @@ edge-bit b p q hp hq =
     rw (getD-blocks (rowOf b) 8 (length-row b) (nodes (b .nodeCount)) p (q / 64) (rw length-nodes hp) (omega arith), getD-nodes (b .nodeCount) p hp, row-at b p (q / 64) (omega arith))
     (bitAt-word 64 (λ i. b .edge p (64 * (q / 64) + i)) (q % 64) (omega arith) ∙ ap (b .edge p) (omega arith))
 
-length-node : (b : Graph) (p : ℕ) → length (nodeOf b p) ≡ 4
+length-node : (b : Graph) (p : ℕ) → length (nodeOf b p) ≡ nodeNumbers
 unfolding nodeOf
 length-node b p = refl
 
+-- the numbers of a node
+pub number-at : (b : Graph) (p k : ℕ) → p < b .nodeCount → k < nodeNumbers → nodeNumber (nodesOf b) p k ≡ getD (nodeOf b p) k 0
+unfolding nodeNumber nodesOf
+number-at b p k hp hk = rw (getD-blocks (nodeOf b) nodeNumbers (length-node b) (nodes (b .nodeCount)) p k (rw length-nodes hp) hk, getD-nodes (b .nodeCount) p hp)
+
 pub mark-at : (b : Graph) (p : ℕ) → p < b .nodeCount → nodeNumber (nodesOf b) p 3 ≡ cond (b .hidden p) 1 0
-unfolding nodeNumber nodesOf nodeOf
-mark-at b p hp = rw (getD-blocks (nodeOf b) 4 (length-node b) (nodes (b .nodeCount)) p 3 (rw length-nodes hp) (omega arith), getD-nodes (b .nodeCount) p hp)
+mark-at b p hp = number-at b p 3 hp (omega arith) ∙ (unfold nodeOf in refl)
+
+pub class-at : (b : Graph) (p : ℕ) → p < b .nodeCount → nodeNumber (nodesOf b) p 4 ≡ b .class p
+class-at b p hp = number-at b p 4 hp (omega arith) ∙ (unfold nodeOf in refl)
 
 mark-test : (t : Bool) → eqb (cond t 1 0) 1 ≡ t
 mark-test true = refl
@@ -146,21 +153,28 @@ module _ (b : Graph) (h : Proper b) where
   unfolding edgesIn
   edges-in = fun-ext (λ p. fun-ext (back-edge p))
 
+  back-class : (class : ℕ → ℕ) → ((p : ℕ) → p < b .nodeCount → class p ≡ b .class p) → (p : ℕ) → cond (ltb p (b .nodeCount)) (class p) 0 ≡ b .class p
+  back-class class told p = step (decide (ltb p (b .nodeCount)))
+    where
+      step : (ltb p (b .nodeCount) ≡ true) ⊎ (ltb p (b .nodeCount) ≡ false) → cond (ltb p (b .nodeCount)) (class p) 0 ≡ b .class p
+      step (inl x) = rw x (told p (ltb-true p (b .nodeCount) x))
+      step (inr x) = rw x (sym (h .unclassed p (ltb-false p (b .nodeCount) x)))
+
+  -- by its edges, marks and classes
+  pub labels-back : (mark class : ℕ → ℕ) → ((p : ℕ) → p < b .nodeCount → mark p ≡ cond (b .hidden p) 1 0) → ((p : ℕ) → p < b .nodeCount → class p ≡ b .class p) → graphWith (b .nodeCount) (edgesOf b) mark class ≡ b
+  labels-back mark class marks classes = λ i. record { nodeCount = b .nodeCount; edge = edges-in i; hidden = fun-ext (back-hidden mark marks) i; class = fun-ext (back-class class classes) i }
+
   pub read-back : graphOf (b .nodeCount) (tablesOf b) ≡ b
   unfolding graphOf tablesOf
-  read-back = λ i. record { nodeCount = b .nodeCount; edge = edges-in i; hidden = fun-ext (back-hidden (λ p. nodeNumber (nodesOf b) p 3) (mark-at b)) i }
-
-  pub marked-back : (marks : List ℕ) → ((p : ℕ) → p < b .nodeCount → getD marks p 0 ≡ cond (b .hidden p) 1 0) → markedGraph (b .nodeCount) (edgesOf b) marks ≡ b
-  unfolding markedGraph
-  marked-back marks told = λ i. record { nodeCount = b .nodeCount; edge = edges-in i; hidden = fun-ext (back-hidden (λ p. getD marks p 0) told) i }
+  read-back = labels-back (λ p. nodeNumber (nodesOf b) p 3) (λ p. nodeNumber (nodesOf b) p 4) (mark-at b) (class-at b)
 
 pub length-edges : (b : Graph) → length (edgesOf b) ≡ 8 * b .nodeCount
 unfolding edgesOf
 length-edges b = omega (arith, length-blocks (rowOf b) 8 (length-row b) (nodes (b .nodeCount)), length-nodes (b .nodeCount))
 
-pub length-nodes-of : (b : Graph) → length (nodesOf b) ≡ 4 * b .nodeCount
+pub length-nodes-of : (b : Graph) → length (nodesOf b) ≡ nodeNumbers * b .nodeCount
 unfolding nodesOf
-length-nodes-of b = omega (arith, length-blocks (nodeOf b) 4 (length-node b) (nodes (b .nodeCount)), length-nodes (b .nodeCount))
+length-nodes-of b = omega (arith, length-blocks (nodeOf b) nodeNumbers (length-node b) (nodes (b .nodeCount)), length-nodes (b .nodeCount))
 
 pub length-keys : (b : Graph) → length (keysOf b) ≡ 2 * b .nodeCount
 unfolding keysOf keyPair
@@ -170,6 +184,19 @@ length-keys b = omega (arith, length-blocks (keyPair b) 2 (λ p. refl) (nodes (b
 pub simple-test : (g : Graph) → Proper g → simple g ≡ true
 unfolding simple
 simple-test g h = all-intro (nodes (g .nodeCount)) _ (λ p m. and-true (ap not (h .irreflexive p)) (all-intro (nodes (g .nodeCount)) _ (λ q k. eq-beq (g .edge p q) (g .edge q p) (h .symmetric p q))))
+
+pub graph-test : (g : Graph) → Proper g → isGraph g ≡ true
+unfolding isGraph
+graph-test g h = and-true (simple-test g h) (all-intro (nodes (g .nodeCount)) _ (λ p m. lt-ltb (g .class p) maxClasses (h .classed p)))
+
+module _ (g : Graph) (h : isGraph g ≡ true) where
+  pub graph-simple : simple g ≡ true
+  unfolding isGraph
+  graph-simple = and-fst (simple g) _ h
+
+  pub graph-class : (p : ℕ) → p < g .nodeCount → g .class p < maxClasses
+  unfolding isGraph
+  graph-class p l = ltb-true (g .class p) maxClasses (all-elim (nodes (g .nodeCount)) _ (and-snd (simple g) _ h) p (nodes-in (g .nodeCount) p l))
 
 module _ (g : Graph) (h : simple g ≡ true) where
   simple-row : (p : ℕ) → p < g .nodeCount → (not (g .edge p p) && all (nodes (g .nodeCount)) (λ q. Bool·beq (g .edge p q) (g .edge q p))) ≡ true
@@ -182,34 +209,48 @@ module _ (g : Graph) (h : simple g ≡ true) where
   pub simple-edge : (p q : ℕ) → p < g .nodeCount → q < g .nodeCount → g .edge p q ≡ g .edge q p
   simple-edge p q l m = beq-eq (g .edge p q) (g .edge q p) (all-elim (nodes (g .nodeCount)) (λ q. Bool·beq (g .edge p q) (g .edge q p)) (and-snd (not (g .edge p p)) _ (simple-row p l)) q (nodes-in (g .nodeCount) q m))
 
-  -- a simple graph whose edges and marks lie inside is proper
-  pub simple-proper : g .nodeCount ≤ maxNodes → ((p q : ℕ) → g .edge p q ≡ true → (p < g .nodeCount) × (q < g .nodeCount)) → ((p : ℕ) → g .hidden p ≡ true → p < g .nodeCount) → Proper g
-  simple-proper small ends held = record {
+-- the same of one by its edges, marks and classes, which lie inside
+module _ (n : ℕ) (edges : List ℕ) (mark class : ℕ → ℕ) (small : n ≤ maxNodes) (h : isGraph (graphWith n edges mark class) ≡ true) where
+  abbrev G : Graph
+  G = graphWith n edges mark class
+
+  pub labels-proper : Proper (graphWith n edges mark class)
+  unfolding edgesIn
+  labels-proper = record {
     small = small;
-    symmetric = λ p q. iff-eq (g .edge p q) (g .edge q p) (turn p q) (turn q p);
-    irreflexive = λ p. self p (decide (g .edge p p));
+    symmetric = λ p q. iff-eq (G .edge p q) (G .edge q p) (turn p q) (turn q p);
+    irreflexive = λ p. self p (decide (G .edge p p));
     inside = λ p q e. ends p q e .0;
-    held = held;
+    held = λ p e. ltb-true p n (and-fst (ltb p n) _ e);
+    classed = λ p. below p (decide (ltb p n));
+    unclassed = λ p l. rw (le-ltb p n l);
   }
     where
-      turn : (p q : ℕ) → g .edge p q ≡ true → g .edge q p ≡ true
-      turn p q e = let i = ends p q e in sym (simple-edge p q (i .0) (i .1)) ∙ e
+      ends : (p q : ℕ) → G .edge p q ≡ true → (p < n) × (q < n)
+      ends p q e = (ltb-true p n (and-fst (ltb p n) _ e), ltb-true q n (and-fst (ltb q n) _ (and-snd (ltb p n) _ e)))
 
-      self : (p : ℕ) → (g .edge p p ≡ true) ⊎ (g .edge p p ≡ false) → g .edge p p ≡ false
-      self p (inl e) = simple-loop p (ends p p e .0)
+      turn : (p q : ℕ) → G .edge p q ≡ true → G .edge q p ≡ true
+      turn p q e = let i = ends p q e in sym (simple-edge G (graph-simple G h) p q (i .0) (i .1)) ∙ e
+
+      self : (p : ℕ) → (G .edge p p ≡ true) ⊎ (G .edge p p ≡ false) → G .edge p p ≡ false
+      self p (inl e) = simple-loop G (graph-simple G h) p (ends p p e .0)
       self p (inr e) = e
+
+      below : (p : ℕ) → (ltb p n ≡ true) ⊎ (ltb p n ≡ false) → cond (ltb p n) (class p) 0 < maxClasses
+      below p (inl x) = graph-class G h p (ltb-true p n x)
+      below p (inr x) = rw x (omega arith)
 
 -- tables of a proper graph hold it
 pub proper-holds : (g : Graph) → Proper g → holds (g .nodeCount) (tablesOf g) ≡ true
 unfolding holds
-proper-holds g h = rw (read-back g h) (and-true (simple-test g h) (and-true (same-refl (tablesOf g .edges)) (and-true (same-refl (tablesOf g .nodes)) (same-refl (tablesOf g .keys)))))
+proper-holds g h = rw (read-back g h) (and-true (graph-test g h) (and-true (same-refl (tablesOf g .edges)) (and-true (same-refl (tablesOf g .nodes)) (same-refl (tablesOf g .keys)))))
 
 -- tables that hold a graph are that graph's, and it is proper
 module _ (n : ℕ) (t : Tables) (h : holds n t ≡ true) where
   pub held-tables : t ≡ tablesOf (graphOf n t)
   unfolding holds
   held-tables =
-      let a = and-snd (simple (graphOf n t)) _ h in
+      let a = and-snd (isGraph (graphOf n t)) _ h in
       let b = and-snd (sameList (t .edges) (tablesOf (graphOf n t) .edges)) _ a in
       let e = same-eq (t .edges) (tablesOf (graphOf n t) .edges) (and-fst (sameList (t .edges) (tablesOf (graphOf n t) .edges)) _ a) in
       let d = same-eq (t .nodes) (tablesOf (graphOf n t) .nodes) (and-fst (sameList (t .nodes) (tablesOf (graphOf n t) .nodes)) _ b) in
@@ -217,22 +258,15 @@ module _ (n : ℕ) (t : Tables) (h : holds n t ≡ true) where
       λ i. record { edges = e i; nodes = d i; keys = k i }
 
   pub held-proper : n ≤ maxNodes → Proper (graphOf n t)
-  unfolding holds edgesIn
-  held-proper small = simple-proper (graphOf n t) (and-fst (simple (graphOf n t)) _ h) (unfold graphOf in small) ends held
-    where
-      ends : (p q : ℕ) → graphOf n t .edge p q ≡ true → (p < graphOf n t .nodeCount) × (q < graphOf n t .nodeCount)
-      ends p q e = unfold graphOf in (ltb-true p n (and-fst (ltb p n) _ e), ltb-true q n (and-fst (ltb q n) _ (and-snd (ltb p n) _ e)))
-
-      held : (p : ℕ) → graphOf n t .hidden p ≡ true → p < graphOf n t .nodeCount
-      held p e = unfold graphOf in (ltb-true p n (and-fst (ltb p n) _ e))
+  unfolding holds graphOf
+  held-proper small = labels-proper n (t .edges) (λ p. nodeNumber (t .nodes) p 3) (λ p. nodeNumber (t .nodes) p 4) small (and-fst (isGraph (graphOf n t)) _ h)
 
 pub proper-simple : (g : Graph) → Proper g → Simple (whole g)
 proper-simple g h = record { symmetric = λ p q m k. h .symmetric p q; irreflexive = λ p m. h .irreflexive p }
 
 -- the groups that the node table of a graph tells are Algorithm 1's
 pub least-at : (g : Graph) (p : ℕ) → p < g .nodeCount → nodeNumber (nodesOf g) p 0 ≡ least (whole g .nodes) (similar (whole g)) p
-unfolding nodeNumber nodesOf nodeOf groupIn least
-least-at g p h = rw (getD-blocks (nodeOf g) 4 (length-node g) (nodes (g .nodeCount)) p 0 (rw length-nodes h) (omega arith), getD-nodes (g .nodeCount) p h)
+least-at g p h = number-at g p 0 h (omega arith) ∙ (unfold nodeOf groupIn least in refl)
 
 pub map-cong : (f h : ℕ → List ℕ) (l : List ℕ) → ((p : ℕ) → p ∈ l → f p ≡ h p) → map f l ≡ map h l
 map-cong f h [] s = refl

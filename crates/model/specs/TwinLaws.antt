@@ -1,6 +1,6 @@
--- Line 6 of Algorithm 1 is an equivalence on the nodes of a simple graph.
+-- Line 6 of Algorithm 1 within a class is an equivalence on the nodes of a simple graph.
 use mathlib.Core.Path.{_≡_, refl, sym, _∙_}
-use mathlib.Core.Bool.{true, false, Bool·beq}
+use mathlib.Core.Bool.{true, false, _&&_, Bool·beq}
 use mathlib.Core.Logic.{_⊎_, inl, inr}
 use Prim.Native.Nat.{ℕ}
 use lib.Dec.{eqb}
@@ -8,7 +8,7 @@ use borrow.Author.Tests.{eqb-true, eqb-false, eq-eqb}
 use Rattle.model.specs.Lists.{_∈_}
 use Rattle.model.specs.Graph.{View}
 use Rattle.model.specs.Grouping.{closed, falseTwins, similar, trueTwins}
-use Rattle.model.specs.TestLaws.{beq-eq, decide, differ, eq-beq, or-cases, or-left, or-right}
+use Rattle.model.specs.TestLaws.{and-fst, and-snd, and-true, beq-eq, decide, differ, eq-beq, or-cases, or-left, or-right}
 use Rattle.model.specs.ListLaws.{all-elim, all-intro}
 
 -- edges have no direction, and no node has an edge to itself
@@ -35,25 +35,34 @@ module _ (v : View) where
 
   pub similar-cases : (p q : ℕ) → similar v p q ≡ true → (falseTwins v p q ≡ true) ⊎ (trueTwins v p q ≡ true)
   unfolding similar
-  similar-cases p q h = or-cases _ _ h
+  similar-cases p q h = or-cases (falseTwins v p q) (trueTwins v p q) (and-snd (eqb (v .class p) (v .class q)) _ h)
 
-  pub similar-N : (p q : ℕ) → falseTwins v p q ≡ true → similar v p q ≡ true
+  pub similar-class : (p q : ℕ) → similar v p q ≡ true → v .class p ≡ v .class q
   unfolding similar
-  similar-N p q h = or-left _ h
+  similar-class p q h = eqb-true (v .class p) (v .class q) (and-fst (eqb (v .class p) (v .class q)) _ h)
 
-  pub similar-N+ : (p q : ℕ) → trueTwins v p q ≡ true → similar v p q ≡ true
+  pub similar-N : (p q : ℕ) → v .class p ≡ v .class q → falseTwins v p q ≡ true → similar v p q ≡ true
   unfolding similar
-  similar-N+ p q h = or-right (falseTwins v p q) h
+  similar-N p q e h = and-true (eq-eqb (v .class p) (v .class q) e) (or-left (trueTwins v p q) h)
+
+  pub similar-N+ : (p q : ℕ) → v .class p ≡ v .class q → trueTwins v p q ≡ true → similar v p q ≡ true
+  unfolding similar
+  similar-N+ p q e h = and-true (eq-eqb (v .class p) (v .class q) e) (or-right (falseTwins v p q) h)
+
+  -- by the classes, and by the edges alone
+  pub similar-split : (p q : ℕ) → similar v p q ≡ (eqb (v .class p) (v .class q) && similar (record { nodes = v .nodes; edge = v .edge; class = λ p. 0 }) p q)
+  unfolding similar falseTwins trueTwins
+  similar-split p q = refl
 
   pub similar-refl : (p : ℕ) → similar v p p ≡ true
-  similar-refl p = similar-N p p (falseTwins-by p p (λ r m. refl))
+  similar-refl p = similar-N p p refl (falseTwins-by p p (λ r m. refl))
 
   pub similar-sym : (p q : ℕ) → similar v p q ≡ true → similar v q p ≡ true
   similar-sym p q h = step (similar-cases p q h)
     where
       step : (falseTwins v p q ≡ true) ⊎ (trueTwins v p q ≡ true) → similar v q p ≡ true
-      step (inl n) = similar-N q p (falseTwins-by q p (λ r m. sym (falseTwins-at p q n r m)))
-      step (inr n) = similar-N+ q p (trueTwins-by q p (λ r m. sym (trueTwins-at p q n r m)))
+      step (inl n) = similar-N q p (sym (similar-class p q h)) (falseTwins-by q p (λ r m. sym (falseTwins-at p q n r m)))
+      step (inr n) = similar-N+ q p (sym (similar-class p q h)) (trueTwins-by q p (λ r m. sym (trueTwins-at p q n r m)))
 
   module _ (g : Simple v) where
     -- N(p) = N(q) leaves the two without an edge, N+(p) = N+(q) gives them one
@@ -94,12 +103,15 @@ module _ (v : View) where
     pub similar-trans : (p q r : ℕ) → p ∈ v .nodes → q ∈ v .nodes → r ∈ v .nodes → similar v p q ≡ true → similar v q r ≡ true → similar v p r ≡ true
     similar-trans p q r mp mq mr h k = apart (decide (eqb p q)) (decide (eqb q r))
       where
+        one-class : v .class p ≡ v .class r
+        one-class = similar-class p q h ∙ similar-class q r k
+
         by-eq : p ≡ r → similar v p r ≡ true
         by-eq x = rw x (similar-refl r)
 
         both : (p ≡ q → ⊥) → (q ≡ r → ⊥) → (falseTwins v p q ≡ true) ⊎ (trueTwins v p q ≡ true) → (falseTwins v q r ≡ true) ⊎ (trueTwins v q r ≡ true) → similar v p r ≡ true
-        both pq qr (inl a) (inl b) = similar-N p r (falseTwins-by p r (λ x m. falseTwins-at p q a x m ∙ falseTwins-at q r b x m))
-        both pq qr (inr a) (inr b) = similar-N+ p r (trueTwins-by p r (λ x m. trueTwins-at p q a x m ∙ trueTwins-at q r b x m))
+        both pq qr (inl a) (inl b) = similar-N p r one-class (falseTwins-by p r (λ x m. falseTwins-at p q a x m ∙ falseTwins-at q r b x m))
+        both pq qr (inr a) (inr b) = similar-N+ p r one-class (trueTwins-by p r (λ x m. trueTwins-at p q a x m ∙ trueTwins-at q r b x m))
         both pq qr (inl a) (inr b) = by-eq (never-mixed p q r mp mq mr pq qr a b)
         both pq qr (inr a) (inl b) =
             by-eq (sym (never-mixed r q p mr mq mp (λ x. qr (sym x)) (λ x. pq (sym x)) (falseTwins-by r q (λ x m. sym (falseTwins-at q r b x m))) (trueTwins-by q p (λ x m. sym (trueTwins-at p q a x m)))))

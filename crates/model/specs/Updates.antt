@@ -1,30 +1,47 @@
 -- Document 01, "Sheets": updates (changes), their refusals and effects, the answers, and batches (sheets) of them.
 use mathlib.Core.Path.{_≡_}
-use mathlib.Core.Bool.{Bool, true, not, _&&_, _||_, cond}
-use mathlib.Core.List.{List, [], _∷_}
+use mathlib.Core.Bool.{Bool, true, false, not, _&&_, _||_, cond}
+use mathlib.Core.List.{List, [], _∷_, List·Memᴰ}
 use Prim.Native.Nat.{ℕ, _%_, _/_}
 use lib.Dec.{eqb, ltb}
 use lib.ListN.{length, take}
 use lib.IntN.{ℤ, pos, subℕ, natAbs}
-use Rattle.model.specs.Graph.{Graph, maxUpdates, whole}
+use Rattle.model.specs.Graph.{Graph, maxClasses, maxUpdates, whole}
 use Rattle.model.specs.Grouping.{algorithm1}
 use Rattle.model.specs.Refusals.{Reasons, firstOf, judged}
 use Rattle.model.specs.Steps.{Stepped, run}
 
--- kinds: 1 the edge (tie) between u and v, 2 u's mark, where v is 0; wanted is 1 for tied or withheld, 0 for not
+-- kinds: 1 the edge (tie) between u and v, 2 u's mark, where v is 0; wanted is 1 for tied or withheld, 0 for not; 3 u's class,
+-- where v is the class and wanted is 0
 pub record Update : Type 0 where
   pub kind : ℕ
   pub u : ℕ
   pub v : ℕ
   pub wanted : ℕ
 
--- about the edge between u and v, or about u's mark
+-- about the edge between u and v, about u's mark, about u's class
 abbrev pub onEdge : Update → Bool
 onEdge c = eqb (c .kind) 1
 
--- what holds, in the number that it is wanted by: 1 if the edge is there, or u is hidden
+abbrev pub onMark : Update → Bool
+onMark c = eqb (c .kind) 2
+
+abbrev pub onClass : Update → Bool
+onClass c = eqb (c .kind) 3
+
+-- what is to hold: the class, or 1 if the edge is to be there, or u to be hidden
+abbrev pub asked : Update → ℕ
+asked c = cond (onClass c) (c .v) (c .wanted)
+
+-- what holds, in the number that it is asked by
 abbrev pub there : Graph → Update → ℕ
-there g c = cond (cond (onEdge c) (g .edge (c .u) (c .v)) (g .hidden (c .u))) 1 0
+there g c = cond (onClass c) (g .class (c .u)) (cond (cond (onEdge c) (g .edge (c .u) (c .v)) (g .hidden (c .u))) 1 0)
+
+-- numbers that say nothing: a class above 255, a wanted above 1, or other than 0 for a class; one node twice, or a v for a mark
+abbrev pub wrongValue : Update → Bool
+wrongValue c =
+    cond (onClass c) (not (ltb (c .v) maxClasses) || not (eqb (c .wanted) 0))
+    (ltb 1 (c .wanted) || cond (onEdge c) (eqb (c .u) (c .v)) (not (eqb (c .v) 0)))
 
 -- about the edge between u and v where one of the two is hidden: such edges are frozen
 abbrev pub isFrozen : Graph → Update → Bool
@@ -32,11 +49,11 @@ isFrozen g c = onEdge c && (g .hidden (c .u) || g .hidden (c .v))
 
 unfoldable pub updateReasons : Graph → Update → Reasons
 updateReasons g c =
-    (not (onEdge c || eqb (c .kind) 2), 13)
+    (not (onEdge c || (onMark c || onClass c)), 13)
     ∷ (not (ltb (c .u) (g .nodeCount)) || (onEdge c && not (ltb (c .v) (g .nodeCount))), 14)
-    ∷ (ltb 1 (c .wanted) || cond (onEdge c) (eqb (c .u) (c .v)) (not (eqb (c .v) 0)), 15)
+    ∷ (wrongValue c, 15)
     ∷ (isFrozen g c, 24)
-    ∷ (eqb (there g c) (c .wanted), 16)
+    ∷ (eqb (there g c) (asked c), 16)
     ∷ []
 
 unfoldable pub refusal : Graph → Update → ℕ
@@ -46,12 +63,13 @@ refusal g c = firstOf (updateReasons g c)
 abbrev pub isPair : ℕ → ℕ → ℕ → ℕ → Bool
 isPair u v p q = (eqb p u && eqb q v) || (eqb p v && eqb q u)
 
--- an accepted update: what is wanted holds after it
+-- an accepted update: what is asked holds after it
 unfoldable pub updated : Graph → Update → Graph
 updated g c = record {
   nodeCount = g .nodeCount;
   edge = λ p q. cond (onEdge c && isPair (c .u) (c .v) p q) (eqb (c .wanted) 1) (g .edge p q);
-  hidden = λ p. cond (not (onEdge c) && eqb p (c .u)) (eqb (c .wanted) 1) (g .hidden p);
+  hidden = λ p. cond (onMark c && eqb p (c .u)) (eqb (c .wanted) 1) (g .hidden p);
+  class = λ p. cond (onClass c && eqb p (c .u)) (c .v) (g .class p);
 }
 
 -- the groups of the whole graph
@@ -80,6 +98,10 @@ answers g cs = run update g cs .outcome
 -- whoever is hidden before the batch is hidden after each of its updates
 abbrev pub RevealsNobody : Graph → List Update → Type 0
 RevealsNobody g cs = (p k : ℕ) → g .hidden p ≡ true → batchGraph g (take k cs) .hidden p ≡ true
+
+-- no update of the batch is of the class of a node that is hidden before it
+abbrev pub LeavesClasses : Graph → List Update → Type 0
+LeavesClasses g cs = (c : Update) → List·Memᴰ c cs → onClass c ≡ true → g .hidden (c .u) ≡ false
 
 -- the number of a refused update, told by its answer; 0 for those of accepted updates, which are from -2 to 2
 unfoldable pub refusalIn : ℤ → ℕ

@@ -29,45 +29,56 @@ use Rattle.rings.specs.Ring.{up, Best, Table, Of}
 use Rattle.rings.specs.NodesLaws.{is-nodes}
 use Rattle.opening.specs.Open.{ringNext, ringPrev, NodePut, NodesFilled, KeysFilled}
 
--- four stores at node p
+-- five stores at node p
 module _ (t : List ℕ) (p x y : ℕ) (fits : nodeNumbers * p + nodeNumbers ≤ length t) where
   abbrev t₁ : List ℕ
-  t₁ = set t (4 * p) 0
+  t₁ = set t (5 * p) 0
 
   abbrev t₂ : List ℕ
-  t₂ = set t₁ (4 * p + 1) x
+  t₂ = set t₁ (5 * p + 1) x
 
   abbrev t₃ : List ℕ
-  t₃ = set t₂ (4 * p + 2) y
+  t₃ = set t₂ (5 * p + 2) y
 
   abbrev t₄ : List ℕ
-  t₄ = set t₃ (4 * p + 3) 0
+  t₄ = set t₃ (5 * p + 3) 0
+
+  abbrev t₅ : List ℕ
+  t₅ = set t₄ (5 * p + 4) 0
 
   size₁ : length t₁ ≡ length t
-  size₁ = length-set t (4 * p) 0
+  size₁ = length-set t (5 * p) 0
 
   size₂ : length t₂ ≡ length t
-  size₂ = length-set t₁ (4 * p + 1) x ∙ size₁
+  size₂ = length-set t₁ (5 * p + 1) x ∙ size₁
 
   size₃ : length t₃ ≡ length t
-  size₃ = length-set t₂ (4 * p + 2) y ∙ size₂
+  size₃ = length-set t₂ (5 * p + 2) y ∙ size₂
 
-  pub node-put : NodePut p x y t t₄
+  size₄ : length t₄ ≡ length t
+  size₄ = length-set t₃ (5 * p + 3) 0 ∙ size₃
+
+  -- what a later store leaves
+  after₂ : (i : ℕ) → (i ≡ 5 * p + 2 → ⊥) → (i ≡ 5 * p + 3 → ⊥) → (i ≡ 5 * p + 4 → ⊥) → getD t₅ i 0 ≡ getD t₂ i 0
+  after₂ i a b c = getD-set-other t₄ (5 * p + 4) i 0 0 c ∙ getD-set-other t₃ (5 * p + 3) i 0 0 b ∙ getD-set-other t₂ (5 * p + 2) i y 0 a
+
+  pub node-put : NodePut p x y t t₅
   unfolding nodeNumber
   node-put = record {
-    size = length-set t₃ (4 * p + 3) 0 ∙ size₃;
-    least-at = getD-set-other t₃ (4 * p + 3) (4 * p + 0) 0 0 (omega arith) ∙ getD-set-other t₂ (4 * p + 2) (4 * p + 0) y 0 (omega arith) ∙ getD-set-other t₁ (4 * p + 1) (4 * p + 0) x 0 (omega arith) ∙ first;
-    next-at = getD-set-other t₃ (4 * p + 3) (4 * p + 1) 0 0 (omega arith) ∙ getD-set-other t₂ (4 * p + 2) (4 * p + 1) y 0 (omega arith) ∙ getD-set-same t₁ (4 * p + 1) x 0 (omega (arith, size₁));
-    prev-at = getD-set-other t₃ (4 * p + 3) (4 * p + 2) 0 0 (omega arith) ∙ getD-set-same t₂ (4 * p + 2) y 0 (omega (arith, size₂));
-    mark-at = getD-set-same t₃ (4 * p + 3) 0 0 (omega (arith, size₃));
-    off = λ q k d h. getD-set-other t₃ (4 * p + 3) (4 * q + k) 0 0 (omega arith) ∙ getD-set-other t₂ (4 * p + 2) (4 * q + k) y 0 (omega arith) ∙ getD-set-other t₁ (4 * p + 1) (4 * q + k) x 0 (omega arith) ∙ getD-set-other t (4 * p) (4 * q + k) 0 0 (omega arith);
+    size = length-set t₄ (5 * p + 4) 0 ∙ size₄;
+    least-at = after₂ (5 * p + 0) (omega arith) (omega arith) (omega arith) ∙ getD-set-other t₁ (5 * p + 1) (5 * p + 0) x 0 (omega arith) ∙ first;
+    next-at = after₂ (5 * p + 1) (omega arith) (omega arith) (omega arith) ∙ getD-set-same t₁ (5 * p + 1) x 0 (omega (arith, size₁));
+    prev-at = getD-set-other t₄ (5 * p + 4) (5 * p + 2) 0 0 (omega arith) ∙ getD-set-other t₃ (5 * p + 3) (5 * p + 2) 0 0 (omega arith) ∙ getD-set-same t₂ (5 * p + 2) y 0 (omega (arith, size₂));
+    mark-at = getD-set-other t₄ (5 * p + 4) (5 * p + 3) 0 0 (omega arith) ∙ getD-set-same t₃ (5 * p + 3) 0 0 (omega (arith, size₃));
+    class-at = getD-set-same t₄ (5 * p + 4) 0 0 (omega (arith, size₄));
+    off = λ q k d h. after₂ (5 * q + k) (omega arith) (omega arith) (omega arith) ∙ getD-set-other t₁ (5 * p + 1) (5 * q + k) x 0 (omega arith) ∙ getD-set-other t (5 * p) (5 * q + k) 0 0 (omega arith);
   }
     where
-      first : getD t₁ (4 * p + 0) 0 ≡ 0
-      first = let e : 4 * p + 0 ≡ 4 * p = omega arith in rw e (getD-set-same t (4 * p) 0 0 (omega arith))
+      first : getD t₁ (5 * p + 0) 0 ≡ 0
+      first = let e : 5 * p + 0 ≡ 5 * p = omega arith in rw e (getD-set-same t (5 * p) 0 0 (omega arith))
 
 pub filled-none : (n : ℕ) (t : List ℕ) → NodesFilled n 0 t t
-filled-none n t = record { size = refl; least = λ p h. absurd (omega arith); next = λ p h. absurd (omega arith); prev = λ p h. absurd (omega arith); mark = λ p h. absurd (omega arith) }
+filled-none n t = record { size = refl; least = λ p h. absurd (omega arith); next = λ p h. absurd (omega arith); prev = λ p h. absurd (omega arith); mark = λ p h. absurd (omega arith); class = λ p h. absurd (omega arith) }
 
 pub filled-more : {n i x y : ℕ} {t t₁ t₂ : List ℕ} → NodesFilled n i t t₁ → x ≡ ringNext n i → y ≡ ringPrev n i → NodePut i x y t₁ t₂ → NodesFilled n (i + 1) t t₂
 filled-more {n} {i} {x} {y} {t} {t₁} {t₂} a ex ey b = record {
@@ -76,6 +87,7 @@ filled-more {n} {i} {x} {y} {t} {t₁} {t₂} a ex ey b = record {
   next = λ p h. one 1 p (omega arith) (ringNext n) (b .next-at ∙ ex) (a .next p) h (ℕ-discrete p i);
   prev = λ p h. one 2 p (omega arith) (ringPrev n) (b .prev-at ∙ ey) (a .prev p) h (ℕ-discrete p i);
   mark = λ p h. one 3 p (omega arith) (λ q. 0) (b .mark-at) (a .mark p) h (ℕ-discrete p i);
+  class = λ p h. one 4 p (omega arith) (λ q. 0) (b .class-at) (a .class p) h (ℕ-discrete p i);
 }
   where
     one : (k p : ℕ) → k < nodeNumbers → (f : ℕ → ℕ) → nodeNumber t₂ i k ≡ f i → (p < i → nodeNumber t₁ p k ≡ f p) → p < i + 1 → Dec (p ≡ i) → nodeNumber t₂ p k ≡ f p
@@ -125,7 +137,7 @@ prev-inner n p h = rw (ne-eqb p 0 h)
 
 -- at the end of the loops
 pub filled-all : {n i : ℕ} {t t₁ : List ℕ} → NodesFilled n i t t₁ → n ≤ i → NodesFilled n n t t₁
-filled-all a h = record { size = a .size; least = λ p l. a .least p (omega arith); next = λ p l. a .next p (omega arith); prev = λ p l. a .prev p (omega arith); mark = λ p l. a .mark p (omega arith) }
+filled-all a h = record { size = a .size; least = λ p l. a .least p (omega arith); next = λ p l. a .next p (omega arith); prev = λ p l. a .prev p (omega arith); mark = λ p l. a .mark p (omega arith); class = λ p l. a .class p (omega arith) }
 
 pub keys-all : {n i : ℕ} {t t₁ : List ℕ} → KeysFilled i t t₁ → n ≤ i → KeysFilled n t t₁
 keys-all a h = record { size = a .size; opened = λ p l. a .opened p (omega arith); closed = λ p l. a .closed p (omega arith) }
@@ -133,7 +145,7 @@ keys-all a h = record { size = a .size; opened = λ p l. a .opened p (omega arit
 -- without edges all nodes are similar
 empty-similar : (n p q : ℕ) → similar (whole (emptyGraph n)) p q ≡ true
 unfolding emptyGraph
-empty-similar n p q = similar-N (whole (emptyGraph n)) p q (falseTwins-by (whole (emptyGraph n)) p q (λ r m. refl))
+empty-similar n p q = similar-N (whole (emptyGraph n)) p q refl (falseTwins-by (whole (emptyGraph n)) p q (λ r m. refl))
 
 -- a step of the ring is a step upwards, and back
 next-up : (n p : ℕ) → p < n → up n p (ringNext n p) ≡ 1
@@ -185,7 +197,7 @@ module _ (n : ℕ) (small : n ≤ maxNodes) where
 
   pub nodes-opened : {t t₁ : List ℕ} → length t ≡ nodeNumbers * n → NodesFilled n n t t₁ → t₁ ≡ nodesOf (emptyGraph n)
   unfolding emptyGraph
-  nodes-opened {t} {t₁} l a = is-nodes g (proper-empty n small) table (a .size ∙ l) (a .mark)
+  nodes-opened {t} {t₁} l a = is-nodes g (proper-empty n small) table (a .size ∙ l) (record { marks = a .mark; classes = a .class })
     where
       table : Table n R t₁
       table = record {

@@ -30,7 +30,7 @@ fn ring_prev(n: usize, p: usize) -> u16
     (p - 1) as u16
 }
 
-// Node p's numbers: in the group of node 0, with its ring, visible.
+// Node p's numbers: in the group of node 0, with its ring, visible, of class 0.
 fn put_node(nodes: &mut [u16], p: usize, next: u16, prev: u16)
     requires { ⌜ (p < maxNodes) × (nodeNumbers * p + nodeNumbers ≤ length (now nodes)) ⌝ }
     ensures { λ _. ⌜ NodePut p next prev (now (nodes .entry)) (now (nodes .exit)) ⌝ }
@@ -40,9 +40,10 @@ fn put_node(nodes: &mut [u16], p: usize, next: u16, prev: u16)
     nodes[a + 1] = next;
     nodes[a + 2] = prev;
     nodes[a + 3] = 0;
+    nodes[a + 4] = 0;
 }
 
-// All nodes in one group, none hidden.
+// All nodes in one group, none hidden, every class 0.
 fn fill_nodes(nodes: &mut [u16], n: usize)
     requires { ⌜ (n ≤ maxNodes) × (length (now nodes) ≡ nodeNumbers * n) ⌝ }
     ensures { λ _. ⌜ NodesFilled n n (now (nodes .entry)) (now (nodes .exit)) ⌝ }

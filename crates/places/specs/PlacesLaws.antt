@@ -13,9 +13,8 @@ use borrow.Author.Tests.{eq-eqb, eqb-false, eqb-true, lt-ltb, ltb-false, ltb-tru
 use Rattle.model.specs.Graph.{Graph}
 use Rattle.model.specs.Lists.{all, concat, from, nodes}
 use Rattle.model.specs.ListLaws.{all-cong, nodes-out, same-eq}
-use Rattle.model.specs.Store.{Place, areApart, bytesOf, dropping, free, graphAt, isFree, isFull, isKept, isName, isNew, isUnder, keeping, kept, keptGraph, number, placeIn, placeOf, placeWords, placesIn, storeOf, wordsAt}
+use Rattle.model.specs.Store.{Place, areApart, bytesOf, dropping, free, graphAt, isFree, isFull, isKept, isName, isNew, isUnder, keeping, kept, keptGraph, number, placeIn, placeOf, placeWords, placesIn, stateGraph, storeOf, wordsAt}
 use Rattle.model.specs.StoreLaws.{bytes-name, place-at, places-length}
-use Rattle.model.specs.Tables.{markedGraph}
 use Rattle.model.specs.TestLaws.{and-fst, and-snd, decide, differ, or-none}
 use Rattle.search.specs.Search.{firstFrom}
 use Rattle.search.specs.SearchLaws.{first-cong}
@@ -188,7 +187,7 @@ module _ (n : ℕ) (s : List ℕ) (readable : Readable n s) where
       w₀ = placeWord n s i 0
 
       step : (eqb w₀ 0 ≡ true) ⊎ (eqb w₀ 0 ≡ false)
-          → isUnder name (cond (eqb w₀ 0) free (kept (bytesOf 8 (placeWord n s i 1) ++ bytesOf 8 (placeWord n s i 2)) (markedGraph n (take (8 * n) (drop 3 (wordsAt n s i))) (drop (3 + 8 * n) (wordsAt n s i)))))
+          → isUnder name (cond (eqb w₀ 0) free (kept (bytesOf 8 (placeWord n s i 1) ++ bytesOf 8 (placeWord n s i 2)) (stateGraph n (take (8 * n) (drop 3 (wordsAt n s i))) (drop (3 + 8 * n) (wordsAt n s i)))))
           ≡ (eqb w₀ 1 && (eqb (placeWord n s i 1) (number (take 8 name)) && eqb (placeWord n s i 2) (number (drop 8 name))))
       step (inl t) = rw (t, ne-eqb w₀ 1 (λ e. omega (arith, eqb-true w₀ 0 t)))
       step (inr t) =
@@ -235,7 +234,7 @@ module _ (n : ℕ) (s : List ℕ) (readable : Readable n s) where
           ∙ rw (e, places-length n s, under-cong (bytesOf 8 w₁ ++ bytesOf 8 w₂) (bytes-name w₁ w₂) (suc i) (8 - suc i) (omega arith), first-word w₁ w₂ (word-small i 1), second-word w₁ w₂ (word-small i 2))
 
       step : (eqb w₀ 0 ≡ true) ⊎ (eqb w₀ 0 ≡ false)
-          → isNew (cond (eqb w₀ 0) free (kept (bytesOf 8 w₁ ++ bytesOf 8 w₂) (markedGraph n (take (8 * n) (drop 3 (wordsAt n s i))) (drop (3 + 8 * n) (wordsAt n s i))))) (drop (suc i) (placesIn n s))
+          → isNew (cond (eqb w₀ 0) free (kept (bytesOf 8 w₁ ++ bytesOf 8 w₂) (stateGraph n (take (8 * n) (drop 3 (wordsAt n s i))) (drop (3 + 8 * n) (wordsAt n s i))))) (drop (suc i) (placesIn n s))
           ≡ (not (eqb w₀ 1) || eqb (firstFrom (underAt n s w₁ w₂) (i + 1) (8 - (i + 1))) 8)
       step (inl t) = rw (t, ne-eqb w₀ 1 (λ e. omega (arith, eqb-true w₀ 0 t)))
       step (inr t) =

@@ -17,7 +17,7 @@ pub const NAME_BYTES: usize = 16;
 // Where the state begins in a place: after the word that tells whether it is used, and the name.
 pub const STATE: usize = 3;
 
-// The words of a node in a state: its row and its mark.
+// The words of a node in a state: its row, and its mark and class in one.
 const NODE_WORDS: usize = Graph::ROW_WORDS + 1;
 
 // The words of a store for the most nodes.

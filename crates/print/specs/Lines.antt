@@ -16,16 +16,16 @@ memberTexts k s = concat (map spaced (u16s k s))
 
 -- the line of the group record at the front: `I` or `C`, as in the file, and the members
 unfoldable pub groupText : List ℕ → List ℕ
-groupText s = getD s 1 0 ∷ (memberTexts (u16At s 2) (drop 4 s) ++ text "\n")
+groupText s = getD s 1 0 ∷ (memberTexts (u16At s 2) (drop 6 s) ++ text "\n")
 
 -- the place after the group record at p
 unfoldable pub nextGroup : List ℕ → ℕ → ℕ
-nextGroup s p = p + 4 + 2 * u16At s (p + 2)
+nextGroup s p = p + 6 + 2 * u16At s (p + 2)
 
 -- the lines of k group records
 unfoldable pub groupTexts : ℕ → List ℕ → List ℕ
 groupTexts zero s = []
-groupTexts (suc k) s = groupText s ++ groupTexts k (drop (2 * u16At s 2) (drop 4 s))
+groupTexts (suc k) s = groupText s ++ groupTexts k (drop (2 * u16At s 2) (drop 6 s))
 
 -- the lines of superedge records, at most k
 unfoldable pub superedgeTexts : ℕ → List ℕ → List ℕ

@@ -39,9 +39,9 @@ members-next (suc j) p s h =
     let e : suc j - 1 ≡ j = omega arith in
     rw (e, ← drop-drop 2 p s, ← u16At-front p s)
 
-after-group : (p : ℕ) (s : List ℕ) → drop (2 * u16At (drop p s) 2) (drop 4 (drop p s)) ≡ drop (nextGroup s p) s
+after-group : (p : ℕ) (s : List ℕ) → drop (2 * u16At (drop p s) 2) (drop 6 (drop p s)) ≡ drop (nextGroup s p) s
 unfolding nextGroup
-after-group p s = rw (u16At-drop p 2 s) (ap (drop (2 * u16At s (p + 2))) (drop-drop 4 p s) ∙ drop-drop (2 * u16At s (p + 2)) (p + 4) s)
+after-group p s = rw (u16At-drop p 2 s) (ap (drop (2 * u16At s (p + 2))) (drop-drop 6 p s) ∙ drop-drop (2 * u16At s (p + 2)) (p + 6) s)
 
 groups-next : (k p : ℕ) (s : List ℕ) → 0 < k → groupTexts k (drop p s) ≡ groupText (drop p s) ++ groupTexts (k - 1) (drop (nextGroup s p) s)
 unfolding groupTexts
@@ -175,9 +175,9 @@ unfolding superedgeTexts concat
 line-done {s₀} {at₀} {all} {s} {at} {p} file w n = left-done (w .left) (rw (superedges-none (w .fuel) p file n))
 
 -- one group's line, piece by piece
-pub group-line-is : (p b k : ℕ) (file : List ℕ) → b ≡ getD file (p + 1) 0 → k ≡ u16At file (p + 2) → groupText (drop p file) ≡ (b ∷ []) ++ (memberTexts k (drop (p + 4) file) ++ text "\n")
+pub group-line-is : (p b k : ℕ) (file : List ℕ) → b ≡ getD file (p + 1) 0 → k ≡ u16At file (p + 2) → groupText (drop p file) ≡ (b ∷ []) ++ (memberTexts k (drop (p + 6) file) ++ text "\n")
 unfolding groupText
-group-line-is p b k file e f = rw (e, f, ← u16At-drop p 2 file, ← getD-drop p file 1 0, ← drop-drop 4 p file)
+group-line-is p b k file e f = rw (e, f, ← u16At-drop p 2 file, ← getD-drop p file 1 0, ← drop-drop 6 p file)
 
 -- the whole text, with the numbers that are read and the place after the groups
 pub file-text-is : (file : List ℕ) (m g s p : ℕ) → m ≡ u16At file 4 → g ≡ u16At file 6 → drop p file ≡ afterGroups g (drop 8 file) → s ≡ length (superedgesAt (length file) (drop p file))

@@ -157,9 +157,9 @@ fn number_at(file: &[u8], i: usize) -> usize
 // The place after the group record at p.
 fn next_group(file: &[u8], p: usize) -> usize
     requires { ⌜ p < 17179869184 ⌝ }
-    ensures { λ r. ⌜ (r ≡ nextGroup (now (file .entry)) p) × (r ≤ p + 131074) ⌝ }
+    ensures { λ r. ⌜ (r ≡ nextGroup (now (file .entry)) p) × (r ≤ p + 131076) ⌝ }
 {
-    p + 4 + 2 * number_at(file, p + 2)
+    p + 6 + 2 * number_at(file, p + 2)
 }
 
 // The place after k group records, the first at `from`.
@@ -225,7 +225,7 @@ fn group_line(out: &mut [u8], at: usize, file: &[u8], p: usize) -> usize
     ensures { λ r. ⌜ Wrote (now (out .entry)) at (groupText (drop p (now (file .entry)))) (now (out .exit)) r ⌝ }
 {
     let members = put_byte(out, at, byte_at(file, p + 1));
-    let end = put_members(out, members, file, p + 4, number_at(file, p + 2));
+    let end = put_members(out, members, file, p + 6, number_at(file, p + 2));
     put_text(out, end, b"\n")
 }
 

@@ -9,9 +9,10 @@ use lib.ListN.{length, drop, length-append, length-drop}
 use lib.Seq.{drop-at, drop-drop}
 use borrow.Author.Tests.{eq-eqb, ne-eqb, le-ltb, leb-true, le-leb}
 use Rattle.model.specs.Lists.{concat, headOr, member}
-use Rattle.model.specs.Graph.{maxNodes}
+use Rattle.model.specs.Graph.{maxClasses, maxNodes}
 use Rattle.model.specs.Release.{endRecord, headRecord, superedgeRecord, u16}
 use Rattle.model.specs.Reading.{isMark, u16At, u16s}
+use Rattle.model.specs.Reading as reading
 use Rattle.model.specs.InOrder.{fileBy, follows, groupFits, groupsFit, inOrder, markedRecord, membersFit, membersIn, pairKey, superedgesFit}
 use Rattle.model.specs.TestLaws.{and-fst, and-snd, and-true}
 use Rattle.model.specs.ReleaseLaws.{length-superedge-records, length-u16s}
@@ -37,10 +38,10 @@ head-item n m g r =
     let l = headRecord n m g ++ r in
     rw (le-ltb (length l) 2 (omega arith), le-leb 8 (length l) (omega arith), number n, number m, number g)
 
-group-item : (q : Bool) (count : ℕ) (r : List ℕ) → itemIn (0x47 ∷ cond q 0x43 0x49 ∷ (u16 count ++ r)) ≡ Group q count
+group-item : (q : Bool) (count class : ℕ) (r : List ℕ) → itemIn (0x47 ∷ cond q 0x43 0x49 ∷ (u16 count ++ (u16 class ++ r))) ≡ Group q count class
 unfolding itemIn isMark groupItem ifWhole u16 u16At
-group-item true count r = let l : List ℕ = 0x47 ∷ 0x43 ∷ (u16 count ++ r) in rw (le-ltb (length l) 2 (omega arith), le-leb 4 (length l) (omega arith), number count)
-group-item false count r = let l : List ℕ = 0x47 ∷ 0x49 ∷ (u16 count ++ r) in rw (le-ltb (length l) 2 (omega arith), le-leb 4 (length l) (omega arith), number count)
+group-item true count class r = let l : List ℕ = 0x47 ∷ 0x43 ∷ (u16 count ++ (u16 class ++ r)) in rw (le-ltb (length l) 2 (omega arith), le-leb 6 (length l) (omega arith), number count, number class)
+group-item false count class r = let l : List ℕ = 0x47 ∷ 0x49 ∷ (u16 count ++ (u16 class ++ r)) in rw (le-ltb (length l) 2 (omega arith), le-leb 6 (length l) (omega arith), number count, number class)
 
 superedge-item : (x : ℕ × ℕ) (r : List ℕ) → itemIn (superedgeRecord x ++ r) ≡ Superedge (x .0) (x .1)
 unfolding itemIn isMark superedgeItem ifWhole superedgeRecord u16 u16At
@@ -63,83 +64,87 @@ members-pass n f (x ∷ xs) low c t l =
     rw (and-fst (leb low x) _ t, and-fst (ltb x n) _ u, and-fst (not (f x)) _ v, ne-eqb (c .members) 0 (λ z. omega arith))
     (members-pass n f xs (suc x) (record { members = c .members - 1; groups = c .groups }) (and-snd (not (f x)) _ v) (omega arith) ∙ rw e)
 
-length-marked : (g : Bool × List ℕ) → length (markedRecord g) ≡ 4 + 2 * length (g .1)
+length-marked : (g : reading.Head × List ℕ) → length (markedRecord g) ≡ 6 + 2 * length (g .1)
 unfolding markedRecord u16
 length-marked g = omega (arith, length-u16s (g .1))
 
--- a group has a member
-group-some : (n : ℕ) (f : ℕ → Bool) (low : ℕ) (g : Bool × List ℕ) → groupFits n f low g ≡ true → 1 ≤ length (g .1)
-unfolding groupFits
-group-some n f low g t = some (g .0) (leb-true (cond (g .0) 2 1) (length (g .1)) (and-fst (leb (cond (g .0) 2 1) (length (g .1))) _ t))
+-- a group that fits: its class, its count and its members
+group-parts : (n : ℕ) (f : ℕ → Bool) (low : ℕ) (g : reading.Head × List ℕ) → groupFits n f low g ≡ true → (ltb (g .0 .class) maxClasses ≡ true) × (leb (leastCount (g .0 .clique)) (length (g .1)) ≡ true) × (membersFit n f low (g .1) ≡ true)
+unfolding groupFits leastCount
+group-parts n f low g t =
+    let u = and-snd (ltb (g .0 .class) maxClasses) (leb (cond (g .0 .clique) 2 1) (length (g .1)) && membersFit n f low (g .1)) t in
+    (and-fst (ltb (g .0 .class) maxClasses) _ t, and-fst (leb (cond (g .0 .clique) 2 1) (length (g .1))) _ u, and-snd (leb (cond (g .0 .clique) 2 1) (length (g .1))) _ u)
+
+-- it has a member
+group-some : (n : ℕ) (f : ℕ → Bool) (low : ℕ) (g : reading.Head × List ℕ) → groupFits n f low g ≡ true → 1 ≤ length (g .1)
+unfolding leastCount
+group-some n f low g t = some (g .0 .clique) (leb-true (cond (g .0 .clique) 2 1) (length (g .1)) (group-parts n f low g t .1))
   where
     some : (q : Bool) → cond q 2 1 ≤ length (g .1) → 1 ≤ length (g .1)
     some true l = omega arith
     some false l = l
 
 -- so there are at least as many members as groups
-groups-within : (n : ℕ) (f : ℕ → Bool) (low : ℕ) (gs : List (Bool × List ℕ)) → groupsFit n f low gs ≡ true → length gs ≤ length (membersIn gs)
+groups-within : (n : ℕ) (f : ℕ → Bool) (low : ℕ) (gs : List (reading.Head × List ℕ)) → groupsFit n f low gs ≡ true → length gs ≤ length (membersIn gs)
 unfolding groupsFit membersIn concat
 groups-within n f low [] t = omega arith
 groups-within n f low (g ∷ gs) t =
     omega (
       arith,
-      length-append (g .1) (concat (map (λ (h : Bool × List ℕ). h .1) gs)),
+      length-append (g .1) (concat (map (λ (h : reading.Head × List ℕ). h .1) gs)),
       group-some n f low g (and-fst (groupFits n f low g) _ t),
       groups-within n (λ p. member p (g .1) || f p) (suc (headOr 0 (g .1))) gs (and-snd (groupFits n f low g) _ t),
     )
 
 module _ (n : ℕ) (s : List ℕ) where
   -- one group at a place
-  module _ (g : Bool × List ℕ) (r : List ℕ) (at : ℕ) (here : drop at s ≡ markedRecord g ++ r) where
-    room : at + 4 + 2 * length (g .1) ≤ length s
+  module _ (g : reading.Head × List ℕ) (r : List ℕ) (at : ℕ) (here : drop at s ≡ markedRecord g ++ r) where
+    room : at + 6 + 2 * length (g .1) ≤ length s
     room = omega (arith, length-drop at s, ap length here, length-append (markedRecord g) r, length-marked g)
 
-    item : itemIn (drop at s) ≡ Group (g .0) (length (g .1))
-    item = ap itemIn here ∙ (unfold markedRecord u16 in group-item (g .0) (length (g .1)) (concat (map u16 (g .1)) ++ r))
+    item : itemIn (drop at s) ≡ Group (g .0 .clique) (length (g .1)) (g .0 .class)
+    item = ap itemIn here ∙ (unfold markedRecord u16 in group-item (g .0 .clique) (length (g .1)) (g .0 .class) (concat (map u16 (g .1)) ++ r))
 
-    body : drop (at + 4) s ≡ concat (map u16 (g .1)) ++ r
-    body = sym (drop-drop 4 at s) ∙ ap (drop 4) here ∙ (unfold markedRecord u16 in refl)
+    body : drop (at + 6) s ≡ concat (map u16 (g .1)) ++ r
+    body = sym (drop-drop 6 at s) ∙ ap (drop 6) here ∙ (unfold markedRecord u16 in refl)
 
-    members : numbersAt s (at + 4) (length (g .1)) ≡ g .1
+    members : numbersAt s (at + 6) (length (g .1)) ≡ g .1
     members = unfold numbersAt in (ap (u16s (length (g .1))) body ∙ u16s-back (g .1) r)
 
     count : countAt s at ≡ length (g .1)
     count = unfold countAt in (sym (u16-drop s at 2) ∙ ap (λ (x : List ℕ). u16At x 2) here ∙ (unfold markedRecord u16At u16 in number (length (g .1))))
 
     listed : listedAt s at ≡ g .1
-    listed = unfold listedAt in (ap (numbersAt s (at + 4)) count ∙ members)
+    listed = unfold listedAt in (ap (numbersAt s (at + 6)) count ∙ members)
 
-    first : 1 ≤ length (g .1) → u16At s (at + 4) ≡ headOr 0 (g .1)
+    first : 1 ≤ length (g .1) → u16At s (at + 6) ≡ headOr 0 (g .1)
     first l =
-        let e : at + 4 + 0 ≡ at + 4 = omega arith in
-        ap (u16At s) (sym e) ∙ sym (u16-drop s (at + 4) 0) ∙ ap (λ (x : List ℕ). u16At x 0) body ∙ led (g .1) l
+        let e : at + 6 + 0 ≡ at + 6 = omega arith in
+        ap (u16At s) (sym e) ∙ sym (u16-drop s (at + 6) 0) ∙ ap (λ (x : List ℕ). u16At x 0) body ∙ led (g .1) l
       where
         led : (ms : List ℕ) → 1 ≤ length ms → u16At (concat (map u16 ms) ++ r) 0 ≡ headOr 0 ms
         led [] l = absurd (omega arith)
         led (x ∷ xs) l = unfold concat u16At u16 in number x
 
-    after : drop (at + 4 + 2 * length (g .1)) s ≡ r
+    after : drop (at + 6 + 2 * length (g .1)) s ≡ r
     after =
-        let f : at + (4 + 2 * length (g .1)) ≡ at + 4 + 2 * length (g .1) = omega arith in
-        ap (λ (x : ℕ). drop x s) (sym f) ∙ sym (drop-drop (4 + 2 * length (g .1)) at s) ∙ ap (drop (4 + 2 * length (g .1))) here ∙ drop-at (markedRecord g) r (4 + 2 * length (g .1)) (length-marked g)
+        let f : at + (6 + 2 * length (g .1)) ≡ at + 6 + 2 * length (g .1) = omega arith in
+        ap (λ (x : ℕ). drop x s) (sym f) ∙ sym (drop-drop (6 + 2 * length (g .1)) at s) ∙ ap (drop (6 + 2 * length (g .1))) here ∙ drop-at (markedRecord g) r (6 + 2 * length (g .1)) (length-marked g)
 
     group-pass : (f : ℕ → Bool) (low : ℕ) (c : Counts) → groupFits n f low g ≡ true → length (g .1) ≤ c .members → 0 < c .groups
-        → groupTaken n f low c s at ≡ Taken (kindMarked (g .0) (length (g .1))) (headOr 0 (g .1)) (at + 4 + 2 * length (g .1)) (record { members = c .members - length (g .1); groups = c .groups - 1 })
-    group-pass f low c t l some = unfold groupTaken lessGroup in rw (item, least, le-leb (at + 4 + 2 * length (g .1)) (length s) room, ne-eqb (c .groups) 0 (λ z. omega arith), members, taken, first (group-some n f low g t))
+        → groupTaken n f low c s at ≡ Taken (kindMarked (g .0 .clique) (length (g .1))) (g .0 .class) (headOr 0 (g .1)) (at + 6 + 2 * length (g .1)) (record { members = c .members - length (g .1); groups = c .groups - 1 })
+    group-pass f low c t l some = unfold groupTaken lessGroup in rw (item, group-parts n f low g t .0, group-parts n f low g t .1, le-leb (at + 6 + 2 * length (g .1)) (length s) room, ne-eqb (c .groups) 0 (λ z. omega arith), members, taken, first (group-some n f low g t))
       where
-        least : leb (leastCount (g .0)) (length (g .1)) ≡ true
-        least = unfold leastCount groupFits in and-fst (leb (cond (g .0) 2 1) (length (g .1))) _ t
-
         taken : membersRead n f low (record { members = c .members; groups = c .groups - 1 }) (g .1) ≡ Left (record { members = c .members - length (g .1); groups = c .groups - 1 })
-        taken = members-pass n f (g .1) low (record { members = c .members; groups = c .groups - 1 }) (unfold groupFits in and-snd (leb (cond (g .0) 2 1) (length (g .1))) _ t) l
+        taken = members-pass n f (g .1) low (record { members = c .members; groups = c .groups - 1 }) (group-parts n f low g t .2) l
 
   -- groups that fit are taken while the counts last
-  groups-pass : (gs : List (Bool × List ℕ)) (f : ℕ → Bool) (low : ℕ) (r : List ℕ) (at : ℕ) (c : Counts) → drop at s ≡ concat (map markedRecord gs) ++ r → groupsFit n f low gs ≡ true → c .groups ≡ length gs → c .members ≡ length (membersIn gs)
+  groups-pass : (gs : List (reading.Head × List ℕ)) (f : ℕ → Bool) (low : ℕ) (r : List ℕ) (at : ℕ) (c : Counts) → drop at s ≡ concat (map markedRecord gs) ++ r → groupsFit n f low gs ≡ true → c .groups ≡ length gs → c .members ≡ length (membersIn gs)
       → (next : ℕ) × (groupsRead n (length gs) f low c s at ≡ Whole next (record { members = 0; groups = 0 })) × (drop next s ≡ r)
   unfolding concat membersIn groupsFit
   groups-pass [] f low r at c here t a b = (at, (unfold groupsRead in (λ i. Whole at (record { members = b i; groups = a i }))), here)
   groups-pass (g ∷ gs) f low r at c here t a b =
-      let more = groups-pass gs (λ p. member p (g .1) || f p) (suc (headOr 0 (g .1))) r (at + 4 + 2 * length (g .1)) left (after g (concat (map markedRecord gs) ++ r) at one) (and-snd (groupFits n f low g) _ t) (omega arith) (omega (arith, size)) in
+      let more = groups-pass gs (λ p. member p (g .1) || f p) (suc (headOr 0 (g .1))) r (at + 6 + 2 * length (g .1)) left (after g (concat (map markedRecord gs) ++ r) at one) (and-snd (groupFits n f low g) _ t) (omega arith) (omega (arith, size)) in
       (more .0, step ∙ more .1, more .2)
     where
       left : Counts
@@ -148,14 +153,14 @@ module _ (n : ℕ) (s : List ℕ) where
       one : drop at s ≡ markedRecord g ++ (concat (map markedRecord gs) ++ r)
       one = here ∙ append-assoc (markedRecord g) (concat (map markedRecord gs)) r
 
-      size : length (g .1 ++ concat (map (λ (h : Bool × List ℕ). h .1) gs)) ≡ length (g .1) + length (concat (map (λ (h : Bool × List ℕ). h .1) gs))
-      size = length-append (g .1) (concat (map (λ (h : Bool × List ℕ). h .1) gs))
+      size : length (g .1 ++ concat (map (λ (h : reading.Head × List ℕ). h .1) gs)) ≡ length (g .1) + length (concat (map (λ (h : reading.Head × List ℕ). h .1) gs))
+      size = length-append (g .1) (concat (map (λ (h : reading.Head × List ℕ). h .1) gs))
 
-      first-step : groupsRead n (suc (length gs)) f low c s at ≡ groupsRead n (length gs) (λ p. member p (listedAt s at) || f p) (suc (headOr 0 (g .1))) left s (at + 4 + 2 * length (g .1))
+      first-step : groupsRead n (suc (length gs)) f low c s at ≡ groupsRead n (length gs) (λ p. member p (listedAt s at) || f p) (suc (headOr 0 (g .1))) left s (at + 6 + 2 * length (g .1))
       first-step = unfold groupsRead in rw (group-pass g (concat (map markedRecord gs) ++ r) at one f low c (and-fst (groupFits n f low g) _ t) (omega (arith, size, b)) (omega (arith, a)))
 
-      step : groupsRead n (suc (length gs)) f low c s at ≡ groupsRead n (length gs) (λ p. member p (g .1) || f p) (suc (headOr 0 (g .1))) left s (at + 4 + 2 * length (g .1))
-      step = first-step ∙ ap (λ (l : List ℕ). groupsRead n (length gs) (λ p. member p l || f p) (suc (headOr 0 (g .1))) left s (at + 4 + 2 * length (g .1))) (listed g (concat (map markedRecord gs) ++ r) at one)
+      step : groupsRead n (suc (length gs)) f low c s at ≡ groupsRead n (length gs) (λ p. member p (g .1) || f p) (suc (headOr 0 (g .1))) left s (at + 6 + 2 * length (g .1))
+      step = first-step ∙ ap (λ (l : List ℕ). groupsRead n (length gs) (λ p. member p l || f p) (suc (headOr 0 (g .1))) left s (at + 6 + 2 * length (g .1))) (listed g (concat (map markedRecord gs) ++ r) at one)
 
   -- superedges in order are read up to the end
   superedges-pass : (g : ℕ) (c : Counts) → spent c ≡ true → (js : List (ℕ × ℕ)) (last k at : ℕ) → length js ≤ k → drop at s ≡ concat (map superedgeRecord js) ++ endRecord → superedgesFit g last js ≡ true → endsAt c s (stopAt g s last k at) ≡ true
@@ -181,7 +186,7 @@ module _ (n : ℕ) (s : List ℕ) where
       next = sym (drop-drop 6 at s) ∙ ap (drop 6) one ∙ (unfold superedgeRecord u16 in refl)
 
 -- the whole file
-pub in-order-accepted : (n : ℕ) (gs : List (Bool × List ℕ)) (js : List (ℕ × ℕ)) → inOrder n gs js ≡ true → accepted (fileBy n gs js) ≡ true
+pub in-order-accepted : (n : ℕ) (gs : List (reading.Head × List ℕ)) (js : List (ℕ × ℕ)) → inOrder n gs js ≡ true → accepted (fileBy n gs js) ≡ true
 in-order-accepted n gs js t = unfold accepted in rw head (and-true sizes body-fits)
   where
     parts : (n ≤ maxNodes) × (groupsFit n (λ p. false) 0 gs ≡ true) × (superedgesFit (length gs) 0 js ≡ true)

@@ -10,9 +10,10 @@ use lib.ListN.{length, getD, drop, length-append, length-drop, drop-of-length-le
 use lib.Seq.{drop-drop, getD-drop}
 use borrow.Author.Tests.{eqb-true, eqb-false, ltb-false, leb-true, le-leb}
 use Rattle.model.specs.Lists.{concat, headOr, member}
-use Rattle.model.specs.Graph.{maxNodes}
+use Rattle.model.specs.Graph.{maxClasses, maxNodes}
 use Rattle.model.specs.Release.{endRecord, headRecord, superedgeRecord, u16}
 use Rattle.model.specs.Reading.{isMark, u16At, u16s}
+use Rattle.model.specs.Reading as reading
 use Rattle.model.specs.InOrder.{fileBy, follows, groupFits, groupsFit, inOrder, markedRecord, membersFit, membersIn, pairKey, superedgesFit, toldGroups, toldSuperedges}
 use Rattle.model.specs.TestLaws.{and-fst, and-snd, and-true, decide, differ}
 use Rattle.model.specs.InOrderLaws.{file-count, file-told-groups, file-told-superedges}
@@ -58,7 +59,7 @@ numbers (suc k) r b h =
 -- a record that was read is written at the front of the bytes
 abbrev Written : List ℕ → Record → Type 0
 Written r (Head n m g) = r ≡ headRecord n m g ++ drop 8 r
-Written r (Group q count) = r ≡ 0x47 ∷ cond q 0x43 0x49 ∷ (u16 count ++ drop 4 r)
+Written r (Group q count class) = r ≡ 0x47 ∷ cond q 0x43 0x49 ∷ (u16 count ++ (u16 class ++ drop 6 r))
 Written r (Superedge i j) = r ≡ superedgeRecord (i, j) ++ drop 6 r
 Written r End = r ≡ endRecord ++ drop 2 r
 Written r Malformed = Unit {0}
@@ -86,8 +87,8 @@ module _ (r : List ℕ) (b : Bytes r) where
       marked 0x48 0x44 t (omega arith)
       ∙ ap (λ (x : List ℕ). 0x48 ∷ 0x44 ∷ x) (number r 2 b (omega arith) ∙ ap (λ (x : List ℕ). u16 (u16At r 2) ++ x) (number r 4 b (omega arith) ∙ ap (λ (x : List ℕ). u16 (u16At r 4) ++ x) (number r 6 b (omega arith))))
 
-  group-written : (y : ℕ) → isMark r 0x47 y ≡ true → 4 ≤ length r → r ≡ 0x47 ∷ y ∷ (u16 (u16At r 2) ++ drop 4 r)
-  group-written y t h = marked 0x47 y t (omega arith) ∙ ap (λ (x : List ℕ). 0x47 ∷ y ∷ x) (number r 2 b (omega arith))
+  group-written : (y : ℕ) → isMark r 0x47 y ≡ true → 6 ≤ length r → r ≡ 0x47 ∷ y ∷ (u16 (u16At r 2) ++ (u16 (u16At r 4) ++ drop 6 r))
+  group-written y t h = marked 0x47 y t (omega arith) ∙ ap (λ (x : List ℕ). 0x47 ∷ y ∷ x) (number r 2 b (omega arith) ∙ ap (λ (x : List ℕ). u16 (u16At r 2) ++ x) (number r 4 b (omega arith)))
 
   superedge-written : isMark r 0x53 0x45 ≡ true → 6 ≤ length r → r ≡ superedgeRecord (u16At r 2, u16At r 4) ++ drop 6 r
   unfolding superedgeRecord u16
@@ -102,8 +103,8 @@ module _ (r : List ℕ) (b : Bytes r) where
   item-written =
       cond-written r (ltb (length r) 2) Malformed _ (λ t. tt) (λ room.
       cond-written r (isMark r 0x53 0x45) (superedgeItem r) _ (λ t. whole-written r 6 (Superedge (u16At r 2) (u16At r 4)) (superedge-written t)) (λ _.
-      cond-written r (isMark r 0x47 0x49) (groupItem false r) _ (λ t. whole-written r 4 (Group false (u16At r 2)) (group-written 0x49 t)) (λ _.
-      cond-written r (isMark r 0x47 0x43) (groupItem true r) _ (λ t. whole-written r 4 (Group true (u16At r 2)) (group-written 0x43 t)) (λ _.
+      cond-written r (isMark r 0x47 0x49) (groupItem false r) _ (λ t. whole-written r 6 (Group false (u16At r 2) (u16At r 4)) (group-written 0x49 t)) (λ _.
+      cond-written r (isMark r 0x47 0x43) (groupItem true r) _ (λ t. whole-written r 6 (Group true (u16At r 2) (u16At r 4)) (group-written 0x43 t)) (λ _.
       cond-written r (isMark r 0x48 0x44) (headItem r) _ (λ t. whole-written r 8 (Head (u16At r 2) (u16At r 4) (u16At r 6)) (head-written t)) (λ _.
       cond-written r (isMark r 0x45 0x4E) End Malformed (λ t. end-written t (ltb-false (length r) 2 room)) (λ _. tt))))))
 
@@ -134,15 +135,15 @@ members-counted n f (x ∷ xs) low c d e = fits (members-counted n f xs (suc x))
     fits below (inr t) g = none (rw t at g)
 
 -- the count in a group record, and its first number
-group-count : (r : List ℕ) (q : Bool) (count : ℕ) → Written r (Group q count) → count ≡ u16At r 2
-group-count r q count w = sym (ap (λ (x : List ℕ). u16At x 2) w ∙ back)
+group-count : (r : List ℕ) (q : Bool) (count class : ℕ) → Written r (Group q count class) → count ≡ u16At r 2
+group-count r q count class w = sym (ap (λ (x : List ℕ). u16At x 2) w ∙ back)
   where
-    back : u16At (0x47 ∷ cond q 0x43 0x49 ∷ (u16 count ++ drop 4 r)) 2 ≡ count
+    back : u16At (0x47 ∷ cond q 0x43 0x49 ∷ (u16 count ++ (u16 class ++ drop 6 r))) 2 ≡ count
     back = unfold u16At u16 in omega arith
 
 length-listed : (s : List ℕ) (at : ℕ) → length (listedAt s at) ≡ countAt s at
 unfolding listedAt numbersAt
-length-listed s at = length-numbers (countAt s at) (drop (at + 4) s)
+length-listed s at = length-numbers (countAt s at) (drop (at + 6) s)
 
 first-number : (s : List ℕ) (at k : ℕ) → 1 ≤ k → u16At s at ≡ headOr 0 (numbersAt s at k)
 unfolding numbersAt u16s
@@ -156,71 +157,80 @@ some-members false k t = leb-true 1 k t
 
 -- a group that was taken: its record fits, and stands at its place
 record GroupIn (n : ℕ) (f : ℕ → Bool) (low : ℕ) (c : Counts) (s : List ℕ) (at first next : ℕ) (d : Counts) : Type 0 where
-  mark : Bool
-  item : itemIn (drop at s) ≡ Group mark (countAt s at)
-  room : at + 4 + 2 * countAt s at ≤ length s
-  after : next ≡ at + 4 + 2 * countAt s at
+  head : reading.Head
+  item : itemIn (drop at s) ≡ Group (head .clique) (countAt s at) (head .class)
+  room : at + 6 + 2 * countAt s at ≤ length s
+  after : next ≡ at + 6 + 2 * countAt s at
   lead : first ≡ headOr 0 (listedAt s at)
-  fits : groupFits n f low (mark, listedAt s at) ≡ true
+  fits : groupFits n f low (head, listedAt s at) ≡ true
   members : c .members ≡ length (listedAt s at) + d .members
 
-module _ (n : ℕ) (f : ℕ → Bool) (low : ℕ) (c : Counts) (s : List ℕ) (b : Bytes s) (at kind first next : ℕ) (d : Counts) where
+module _ (n : ℕ) (f : ℕ → Bool) (low : ℕ) (c : Counts) (s : List ℕ) (b : Bytes s) (at kind class first next : ℕ) (d : Counts) where
   abbrev many : ℕ
   many = countAt s at
 
-  taken-in : groupTaken n f low c s at ≡ Taken kind first next d → GroupIn n f low c s at first next d
+  taken-in : groupTaken n f low c s at ≡ Taken kind class first next d → GroupIn n f low c s at first next d
   unfolding groupTaken
   taken-in e = by-kind (itemIn (drop at s)) refl (item-written (drop at s) (bytes-after s at b)) e
     where
-      none : {X : Type 0} → Missing ≡ Taken kind first next d → X
+      none : {X : Type 0} → Missing ≡ Taken kind class first next d → X
       none g = let z : _≡_ {A = ℕ} 0 1 = cc in absurd (omega arith)
+
+      -- the tests that a group passes before its members are read
+      Passed : Bool → ℕ → Type 0
+      Passed q k = (ltb k maxClasses ≡ true) × (leb (leastCount q) many ≡ true) × (at + 6 + 2 * many ≤ length s)
 
       enough : (q : Bool) → leb (leastCount q) many ≡ true → leb (cond q 2 1) (length (listedAt s at)) ≡ true
       enough q l = unfold leastCount in rw (length-listed s at) l
 
-      by-members : (q : Bool) (y : Counts) (o : Lessened) → membersRead n f low y (listedAt s at) ≡ o → y .members ≡ c .members → itemIn (drop at s) ≡ Group q many → leb (leastCount q) many ≡ true → at + 4 + 2 * many ≤ length s
-          → onLess o (λ z. Taken (kindMarked q many) (u16At s (at + 4)) (at + 4 + 2 * many) z) Missing ≡ Taken kind first next d → GroupIn n f low c s at first next d
-      by-members q y (Left z) h m i l r k =
+      by-members : (q : Bool) (k : ℕ) (y : Counts) (o : Lessened) → membersRead n f low y (listedAt s at) ≡ o → y .members ≡ c .members → itemIn (drop at s) ≡ Group q many k → Passed q k
+          → onLess o (λ z. Taken (kindMarked q many) k (u16At s (at + 6)) (at + 6 + 2 * many) z) Missing ≡ Taken kind class first next d → GroupIn n f low c s at first next d
+      by-members q k y (Left z) h m i l u =
           let told = members-counted n f (listedAt s at) low y z h in
-          let led : first ≡ u16At s (at + 4) = cc in
+          let led : first ≡ u16At s (at + 6) = cc in
           let left : z ≡ d = cc in
           record {
-            mark = q;
+            head = record { clique = q; class = k };
             item = i;
-            room = r;
+            room = l .2;
             after = cc;
-            lead = led ∙ (unfold listedAt in first-number s (at + 4) many (some-members q many l));
-            fits = unfold groupFits in and-true (enough q l) (told .0);
+            lead = led ∙ (unfold listedAt in first-number s (at + 6) many (some-members q many (l .1)));
+            fits = unfold groupFits in and-true (l .0) (and-true (enough q (l .1)) (told .0));
             members = sym m ∙ told .1 ∙ ap (λ (x : Counts). length (listedAt s at) + x .members) left;
           }
-      by-members q y Over h m i l r k = none k
+      by-members q k y Over h m i l u = none u
 
-      by-less : (q : Bool) → itemIn (drop at s) ≡ Group q many → leb (leastCount q) many ≡ true → at + 4 + 2 * many ≤ length s → (eqb (c .groups) 0 ≡ true) ⊎ (eqb (c .groups) 0 ≡ false)
-          → onLess (cond (eqb (c .groups) 0) Over (Left (record { members = c .members; groups = c .groups - 1 }))) (λ y. onLess (membersRead n f low y (numbersAt s (at + 4) many)) (λ z. Taken (kindMarked q many) (u16At s (at + 4)) (at + 4 + 2 * many) z) Missing) Missing ≡ Taken kind first next d → GroupIn n f low c s at first next d
-      by-less q i l r (inl t) k = none (rw t at k)
-      by-less q i l r (inr t) k = by-members q (record { members = c .members; groups = c .groups - 1 }) (membersRead n f low (record { members = c .members; groups = c .groups - 1 }) (listedAt s at)) refl refl i l r (unfold listedAt in rw t at k)
+      by-less : (q : Bool) (k : ℕ) → itemIn (drop at s) ≡ Group q many k → Passed q k → (eqb (c .groups) 0 ≡ true) ⊎ (eqb (c .groups) 0 ≡ false)
+          → onLess (cond (eqb (c .groups) 0) Over (Left (record { members = c .members; groups = c .groups - 1 }))) (λ y. onLess (membersRead n f low y (numbersAt s (at + 6) many)) (λ z. Taken (kindMarked q many) k (u16At s (at + 6)) (at + 6 + 2 * many) z) Missing) Missing ≡ Taken kind class first next d → GroupIn n f low c s at first next d
+      by-less q k i l (inl t) u = none (rw t at u)
+      by-less q k i l (inr t) u = by-members q k (record { members = c .members; groups = c .groups - 1 }) (membersRead n f low (record { members = c .members; groups = c .groups - 1 }) (listedAt s at)) refl refl i l (unfold listedAt in rw t at u)
 
-      by-room : (q : Bool) → itemIn (drop at s) ≡ Group q many → ((leb (leastCount q) many && leb (at + 4 + 2 * many) (length s)) ≡ true) ⊎ ((leb (leastCount q) many && leb (at + 4 + 2 * many) (length s)) ≡ false) → groupBy n f low c s at (Group q many) ≡ Taken kind first next d → GroupIn n f low c s at first next d
-      by-room q i (inl t) k = by-less q i (and-fst (leb (leastCount q) many) _ t) (leb-true (at + 4 + 2 * many) (length s) (and-snd (leb (leastCount q) many) _ t)) (decide (eqb (c .groups) 0)) (unfold lessGroup in rw t at k)
-      by-room q i (inr t) k = none (rw t at k)
+      passed : (q : Bool) (k : ℕ) → (ltb k maxClasses && (leb (leastCount q) many && leb (at + 6 + 2 * many) (length s))) ≡ true → Passed q k
+      passed q k t =
+          let v = and-snd (ltb k maxClasses) (leb (leastCount q) many && leb (at + 6 + 2 * many) (length s)) t in
+          (and-fst (ltb k maxClasses) _ t, and-fst (leb (leastCount q) many) _ v, leb-true (at + 6 + 2 * many) (length s) (and-snd (leb (leastCount q) many) _ v))
 
-      by-kind : (i : Record) → itemIn (drop at s) ≡ i → Written (drop at s) i → groupBy n f low c s at i ≡ Taken kind first next d → GroupIn n f low c s at first next d
-      by-kind (Group q m) i w k =
-          let g : m ≡ many = unfold countAt in (group-count (drop at s) q m w ∙ u16-drop s at 2) in
-          by-room q (i ∙ ap (Group q) g) (decide (leb (leastCount q) many && leb (at + 4 + 2 * many) (length s))) (rw g at k)
+      by-room : (q : Bool) (k : ℕ) → itemIn (drop at s) ≡ Group q many k → ((ltb k maxClasses && (leb (leastCount q) many && leb (at + 6 + 2 * many) (length s))) ≡ true) ⊎ ((ltb k maxClasses && (leb (leastCount q) many && leb (at + 6 + 2 * many) (length s))) ≡ false) → groupBy n f low c s at (Group q many k) ≡ Taken kind class first next d → GroupIn n f low c s at first next d
+      by-room q k i (inl t) u = by-less q k i (passed q k t) (decide (eqb (c .groups) 0)) (unfold lessGroup in rw t at u)
+      by-room q k i (inr t) u = none (rw t at u)
+
+      by-kind : (i : Record) → itemIn (drop at s) ≡ i → Written (drop at s) i → groupBy n f low c s at i ≡ Taken kind class first next d → GroupIn n f low c s at first next d
+      by-kind (Group q m k) i w u =
+          let g : m ≡ many = unfold countAt in (group-count (drop at s) q m k w ∙ u16-drop s at 2) in
+          by-room q k (i ∙ ap (λ (x : ℕ). Group q x k) g) (decide (ltb k maxClasses && (leb (leastCount q) many && leb (at + 6 + 2 * many) (length s)))) (rw g at u)
       by-kind (Head x y z) i w k = none k
       by-kind (Superedge x y) i w k = none k
       by-kind End i w k = none k
       by-kind Malformed i w k = none k
 
 -- records one after the other
-more-bytes : (g : Bool × List ℕ) (gs : List (Bool × List ℕ)) (r : List ℕ) → concat (map markedRecord (g ∷ gs)) ++ r ≡ markedRecord g ++ (concat (map markedRecord gs) ++ r)
+more-bytes : (g : reading.Head × List ℕ) (gs : List (reading.Head × List ℕ)) (r : List ℕ) → concat (map markedRecord (g ∷ gs)) ++ r ≡ markedRecord g ++ (concat (map markedRecord gs) ++ r)
 unfolding concat
 more-bytes g gs r = append-assoc (markedRecord g) (concat (map markedRecord gs)) r
 
-more-members : (g : Bool × List ℕ) (gs : List (Bool × List ℕ)) → length (membersIn (g ∷ gs)) ≡ length (g .1) + length (membersIn gs)
+more-members : (g : reading.Head × List ℕ) (gs : List (reading.Head × List ℕ)) → length (membersIn (g ∷ gs)) ≡ length (g .1) + length (membersIn gs)
 unfolding membersIn concat
-more-members g gs = length-append (g .1) (concat (map (λ (g : Bool × List ℕ). g .1) gs))
+more-members g gs = length-append (g .1) (concat (map (λ (g : reading.Head × List ℕ). g .1) gs))
 
 more-superedges : (j : ℕ × ℕ) (js : List (ℕ × ℕ)) (r : List ℕ) → concat (map superedgeRecord (j ∷ js)) ++ r ≡ superedgeRecord j ++ (concat (map superedgeRecord js) ++ r)
 unfolding concat
@@ -228,7 +238,7 @@ more-superedges j js r = append-assoc (superedgeRecord j) (concat (map superedge
 
 -- groups that were read: they fit, and stand from a place on to the next
 record GroupsIn (n k : ℕ) (f : ℕ → Bool) (low : ℕ) (c : Counts) (s : List ℕ) (at next : ℕ) (left : Counts) : Type 0 where
-  groups : List (Bool × List ℕ)
+  groups : List (reading.Head × List ℕ)
   count : length groups ≡ k
   fits : groupsFit n f low groups ≡ true
   bytes : drop at s ≡ concat (map markedRecord groups) ++ drop next s
@@ -250,17 +260,22 @@ no-superedges g last s at = record { pairs = []; fits = refl; bytes = refl }
 
 module _ (s : List ℕ) (b : Bytes s) where
   -- one group
-  group-here : (at : ℕ) (q : Bool) → itemIn (drop at s) ≡ Group q (countAt s at) → at + 4 + 2 * countAt s at ≤ length s → drop at s ≡ markedRecord (q, listedAt s at) ++ drop (at + 4 + 2 * countAt s at) s
+  group-here : (at : ℕ) (h : reading.Head) → itemIn (drop at s) ≡ Group (h .clique) (countAt s at) (h .class) → at + 6 + 2 * countAt s at ≤ length s → drop at s ≡ markedRecord (h, listedAt s at) ++ drop (at + 6 + 2 * countAt s at) s
   unfolding markedRecord listedAt numbersAt
-  group-here at q i room =
-      let w : Written (drop at s) (Group q (countAt s at)) = subst (Written (drop at s)) i (item-written (drop at s) (bytes-after s at b)) in
-      let f : drop (at + 4) s ≡ concat (map u16 (u16s (countAt s at) (drop (at + 4) s))) ++ drop (at + 4 + 2 * countAt s at) s =
-      numbers (countAt s at) (drop (at + 4) s) (bytes-after s (at + 4) b) (omega (arith, length-drop (at + 4) s)) ∙ ap (λ (x : List ℕ). concat (map u16 (u16s (countAt s at) (drop (at + 4) s))) ++ x) (drop-drop (2 * countAt s at) (at + 4) s) in
+  group-here at h i room =
+      let w : Written (drop at s) (Group (h .clique) (countAt s at) (h .class)) = subst (Written (drop at s)) i (item-written (drop at s) (bytes-after s at b)) in
+      let f : drop (at + 6) s ≡ concat (map u16 (u16s (countAt s at) (drop (at + 6) s))) ++ drop (at + 6 + 2 * countAt s at) s =
+      numbers (countAt s at) (drop (at + 6) s) (bytes-after s (at + 6) b) (omega (arith, length-drop (at + 6) s)) ∙ ap (λ (x : List ℕ). concat (map u16 (u16s (countAt s at) (drop (at + 6) s))) ++ x) (drop-drop (2 * countAt s at) (at + 6) s) in
       w
-      ∙ ap (λ (x : List ℕ). 0x47 ∷ cond q 0x43 0x49 ∷ (u16 (countAt s at) ++ x)) (drop-drop 4 at s ∙ f)
-      ∙ ap (λ (x : List ℕ). 0x47 ∷ cond q 0x43 0x49 ∷ x)
-      (sym (append-assoc (u16 (countAt s at)) (concat (map u16 (u16s (countAt s at) (drop (at + 4) s)))) (drop (at + 4 + 2 * countAt s at) s))
-      ∙ ap (λ (x : ℕ). (u16 x ++ concat (map u16 (u16s (countAt s at) (drop (at + 4) s)))) ++ drop (at + 4 + 2 * countAt s at) s) (sym (length-numbers (countAt s at) (drop (at + 4) s))))
+      ∙ ap (λ (x : List ℕ). 0x47 ∷ cond (h .clique) 0x43 0x49 ∷ (u16 (countAt s at) ++ (u16 (h .class) ++ x))) (drop-drop 6 at s ∙ f)
+      ∙ ap (λ (x : ℕ). 0x47 ∷ cond (h .clique) 0x43 0x49 ∷ (u16 x ++ (u16 (h .class) ++ (members ++ rest)))) (sym (length-numbers (countAt s at) (drop (at + 6) s)))
+      ∙ (unfold u16 in refl)
+    where
+      members : List ℕ
+      members = concat (map u16 (u16s (countAt s at) (drop (at + 6) s)))
+
+      rest : List ℕ
+      rest = drop (at + 6 + 2 * countAt s at) s
 
   groups-in : (n k : ℕ) (f : ℕ → Bool) (low : ℕ) (c : Counts) (at next : ℕ) (left : Counts) → groupsRead n k f low c s at ≡ Whole next left → GroupsIn n k f low c s at next left
   groups-in n zero f low c at next left e =
@@ -274,16 +289,16 @@ module _ (s : List ℕ) (b : Bytes s) where
 
       by-group : (g : Grouped) → groupTaken n f low c s at ≡ g → Below → onTaken g (λ first x d. groupsRead n k (λ p. member p (listedAt s at) || f p) (suc first) d s x) ≡ Whole next left → GroupsIn n (suc k) f low c s at next left
       by-group Missing h below u = let z : _≡_ {A = ℕ} 0 1 = cc in absurd (omega arith)
-      by-group (Taken kind first x d) h below u =
-          let one : GroupIn n f low c s at first x d = taken-in n f low c s b at kind first x d h in
+      by-group (Taken kind class first x d) h below u =
+          let one : GroupIn n f low c s at first x d = taken-in n f low c s b at kind class first x d h in
           let more : GroupsIn n k (λ p. member p (listedAt s at) || f p) (suc first) d s x next left = below (λ p. member p (listedAt s at) || f p) (suc first) d x u in
-          let g : Bool × List ℕ = (one .mark, listedAt s at) in
+          let g : reading.Head × List ℕ = (one .head, listedAt s at) in
           record {
             groups = g ∷ more .groups;
             count = ap suc (more .count);
             fits = unfold groupsFit in and-true (one .fits) (ap (λ (y : ℕ). groupsFit n (λ p. member p (listedAt s at) || f p) (suc y) (more .groups)) (sym (one .lead)) ∙ more .fits);
             bytes =
-                group-here at (one .mark) (one .item) (one .room)
+                group-here at (one .head) (one .item) (one .room)
                 ∙ ap (λ (y : List ℕ). markedRecord g ++ y) (ap (λ (y : ℕ). drop y s) (sym (one .after)) ∙ more .bytes)
                 ∙ sym (more-bytes g (more .groups) (drop next s));
             members = omega (arith, one .members, more .members, more-members g (more .groups));
@@ -312,7 +327,7 @@ module _ (s : List ℕ) (b : Bytes s) where
       by-kind (Superedge i j) w below = by-order i j w below (decide (follows g last i j))
       by-kind End w below = no-superedges g last s at
       by-kind (Head x y z) w below = no-superedges g last s at
-      by-kind (Group x y) w below = no-superedges g last s at
+      by-kind (Group x y z) w below = no-superedges g last s at
       by-kind Malformed w below = no-superedges g last s at
 
   -- the end of the file
@@ -330,12 +345,12 @@ module _ (s : List ℕ) (b : Bytes s) where
           (eqb-true (c .members) 0 (and-fst (eqb (c .members) 0) _ none), w ∙ alone (drop 2 (drop at s)) (drop-drop 2 at s ∙ drop-of-length-le s {i = at + 2} (omega arith)))
       by-kind (Superedge x y) w u = differ u refl
       by-kind (Head x y z) w u = differ u refl
-      by-kind (Group x y) w u = differ u refl
+      by-kind (Group x y z) w u = differ u refl
       by-kind Malformed w u = differ u refl
 
   -- the whole file
   abbrev FileIn : Type 0
-  FileIn = (n : ℕ) × (gs : List (Bool × List ℕ)) × (js : List (ℕ × ℕ)) × (inOrder n gs js ≡ true) × (s ≡ fileBy n gs js)
+  FileIn = (n : ℕ) × (gs : List (reading.Head × List ℕ)) × (js : List (ℕ × ℕ)) × (inOrder n gs js ≡ true) × (s ≡ fileBy n gs js)
 
   file-in : accepted s ≡ true → FileIn
   unfolding accepted
@@ -366,7 +381,7 @@ module _ (s : List ℕ) (b : Bytes s) where
           by-groups n m g (groupsRead n g (λ p. false) 0 (record { members = m; groups = g }) s 8) refl w
           (leb-true n maxNodes (and-fst (leb n maxNodes) (leb m n && leb g m) (unfold countsFit in and-fst (countsFit n m g) (bodyFits s n m g) u)))
           (unfold bodyFits in and-snd (countsFit n m g) (bodyFits s n m g) u)
-      by-kind (Group x y) w u = differ u refl
+      by-kind (Group x y z) w u = differ u refl
       by-kind (Superedge x y) w u = differ u refl
       by-kind End w u = differ u refl
       by-kind Malformed w u = differ u refl
@@ -374,7 +389,7 @@ module _ (s : List ℕ) (b : Bytes s) where
 pub accepted-in-order : (s : List ℕ) → Bytes s → accepted s ≡ true → (inOrder (u16At s 2) (toldGroups s) (toldSuperedges s) ≡ true) × (s ≡ fileBy (u16At s 2) (toldGroups s) (toldSuperedges s))
 accepted-in-order s b t = step (file-in s b t)
   where
-    step : (n : ℕ) × (gs : List (Bool × List ℕ)) × (js : List (ℕ × ℕ)) × (inOrder n gs js ≡ true) × (s ≡ fileBy n gs js) → (inOrder (u16At s 2) (toldGroups s) (toldSuperedges s) ≡ true) × (s ≡ fileBy (u16At s 2) (toldGroups s) (toldSuperedges s))
+    step : (n : ℕ) × (gs : List (reading.Head × List ℕ)) × (js : List (ℕ × ℕ)) × (inOrder n gs js ≡ true) × (s ≡ fileBy n gs js) → (inOrder (u16At s 2) (toldGroups s) (toldSuperedges s) ≡ true) × (s ≡ fileBy (u16At s 2) (toldGroups s) (toldSuperedges s))
     step (n, gs, js, o, e) =
         let x : u16At s 2 ≡ n = ap (λ (r : List ℕ). u16At r 2) e ∙ file-count n gs js in
         let y : toldGroups s ≡ gs = ap toldGroups e ∙ file-told-groups n gs js in

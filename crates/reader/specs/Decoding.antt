@@ -6,8 +6,9 @@ use Prim.Native.Nat.{ℕ, zero, suc, _+_, _*_, _-_, _/_, _≤_, _<_}
 use lib.Dec.{eqb, ltb, leb}
 use lib.ListN.{length, getD, drop, replicate}
 use Rattle.model.specs.Lists.{headOr, member}
-use Rattle.model.specs.Graph.{maxNodes, rowWords}
+use Rattle.model.specs.Graph.{maxClasses, maxNodes, rowWords}
 use Rattle.model.specs.Reading.{afterGroups, groupsAt, superedgesAt, u16At, u16s}
+use Rattle.model.specs.Reading as reading
 use Rattle.model.specs.Release.{u16Limit}
 use Rattle.model.specs.InOrder.{follows, pairKey, toldGroups, toldSuperedges}
 use Rattle.records.specs.declared.Counts.{Counts}
@@ -19,7 +20,7 @@ use Rattle.records.specs.Records.{itemIn, lessGroup, lessMember, recordAt, spen
 use Rattle.drawing.specs.Drawing.{Added, Adding, pairBits}
 use Rattle.mirroring.specs.Mirroring.{StripsFor}
 use Rattle.rows.specs.Rows.{leads, noNode}
-use Rattle.compressed.specs.Compressed.{Told, firstAt, firstMemberOf, kindLed, kindMarked, single}
+use Rattle.compressed.specs.Compressed.{Told, classOf, firstAt, firstMemberOf, kindIn, kindMarked, ledBy, single}
 use Rattle.sums.specs.Joined.{JoinedSummed, SumsAdded, SumsAdding, pairCubes}
 use Rattle.sums.specs.Sums.{Cubed}
 use Rattle.reader.specs.declared.Grouped.{Grouped}
@@ -42,12 +43,15 @@ numbersAt s at count = u16s count (drop at s)
 unfoldable pub restAt : List ℕ → ℕ → ℕ → ℕ → List ℕ
 restAt s at count k = numbersAt s (at + 2 * k) (count - k)
 
--- how many members a group record at a place has, and who they are
+-- the head of a group record at a place, how many members it has, and who they are
+unfoldable pub groupHead : List ℕ → ℕ → reading.Head
+groupHead s at = record { clique = eqb (getD s (at + 1) 0) 0x43; class = u16At s (at + 4) }
+
 unfoldable pub countAt : List ℕ → ℕ → ℕ
 countAt s at = u16At s (at + 2)
 
 unfoldable pub listedAt : List ℕ → ℕ → List ℕ
-listedAt s at = numbersAt s (at + 4) (countAt s at)
+listedAt s at = numbersAt s (at + 6) (countAt s at)
 
 -- a group has a member, a clique two
 unfoldable pub leastCount : Bool → ℕ
@@ -80,9 +84,9 @@ pub record MembersRead (n low : ℕ) (c : Counts) (ms t after : List ℕ) (r : L
 
 -- a group record taken, with its members
 abbrev pub groupBy : ℕ → (ℕ → Bool) → ℕ → Counts → List ℕ → ℕ → Record → Grouped
-groupBy n f low c s at (Group clique count) =
-    cond (leb (leastCount clique) count && leb (at + 4 + 2 * count) (length s))
-    (onLess (lessGroup c) (λ d. onLess (membersRead n f low d (numbersAt s (at + 4) count)) (λ e. Taken (kindMarked clique count) (u16At s (at + 4)) (at + 4 + 2 * count) e) Missing) Missing)
+groupBy n f low c s at (Group clique count class) =
+    cond (ltb class maxClasses && (leb (leastCount clique) count && leb (at + 6 + 2 * count) (length s)))
+    (onLess (lessGroup c) (λ d. onLess (membersRead n f low d (numbersAt s (at + 6) count)) (λ e. Taken (kindMarked clique count) class (u16At s (at + 6)) (at + 6 + 2 * count) e) Missing) Missing)
     Missing
 groupBy n f low c s at (Head x y z) = Missing
 groupBy n f low c s at (Superedge x y) = Missing
@@ -95,11 +99,11 @@ groupTaken n f low c s at = groupBy n f low c s at (itemIn (drop at s))
 pub record GroupTaken (n low : ℕ) (c : Counts) (s : List ℕ) (at : ℕ) (t after : List ℕ) (r : Grouped) : Type 0 where
   pub result : r ≡ groupTaken n (taken t) low c s at
   pub size : length after ≡ length t
-  pub put : (kind first next : ℕ) (d : Counts) → r ≡ Taken kind first next d → LeastPut (listedAt s at) first t after
+  pub put : (kind class first next : ℕ) (d : Counts) → r ≡ Taken kind class first next d → LeastPut (listedAt s at) first t after
 
 -- k groups taken one after the other
 abbrev pub onTaken : Grouped → (ℕ → ℕ → Counts → Groups) → Groups
-onTaken (Taken kind first next left) f = f first next left
+onTaken (Taken kind class first next left) f = f first next left
 onTaken Missing f = Broken
 
 unfoldable pub groupsRead : ℕ → ℕ → (ℕ → Bool) → ℕ → Counts → List ℕ → ℕ → Groups
@@ -107,7 +111,7 @@ groupsRead n zero f low c s at = Whole at c
 groupsRead n (suc k) f low c s at = onTaken (groupTaken n f low c s at) (λ first next d. groupsRead n k (λ p. member p (listedAt s at) || f p) (suc first) d s next)
 
 -- k groups from a place on, and what follows them
-unfoldable pub groupsFrom : List ℕ → ℕ → ℕ → List (Bool × List ℕ)
+unfoldable pub groupsFrom : List ℕ → ℕ → ℕ → List (reading.Head × List ℕ)
 groupsFrom s at k = groupsAt k (drop at s)
 
 unfoldable pub bytesAfter : List ℕ → ℕ → ℕ → List ℕ
@@ -125,41 +129,48 @@ pub record FirstsAscend (n g : ℕ) (firsts : List ℕ) : Type 0 where
   pub small : (i : ℕ) → i < g → getD firsts i 0 < n
   pub order : (i j : ℕ) → i < j → j < g → getD firsts i 0 < getD firsts j 0
 
+-- underway: a number of each group that is read stands at its first member, 0 elsewhere
+pub record NumbersLeft (number : reading.Head × List ℕ → ℕ) (all rest : List (reading.Head × List ℕ)) (least t : List ℕ) : Type 0 where
+  pub size : length t ≡ maxNodes
+  pub told : (p : ℕ) → p < maxNodes → cond (leads least p) (getD t p 0) (ledBy number rest p) ≡ ledBy number all p
+  pub others : (p : ℕ) → p < maxNodes → leads least p ≡ false → getD t p 0 ≡ 0
+
 -- underway: i groups are read, and those from the place on are not
-pub record GroupsLeft (n g : ℕ) (c : Counts) (s : List ℕ) (from i low : ℕ) (left : Counts) (at : ℕ) (least firsts kinds : List ℕ) : Type 0 where
+pub record GroupsLeft (n g : ℕ) (c : Counts) (s : List ℕ) (from i low : ℕ) (left : Counts) (at : ℕ) (least firsts kinds classes : List ℕ) : Type 0 where
   pub result : groupsRead n (g - i) (taken least) low left s at ≡ groupsRead n g (λ p. false) 0 c s from
   pub nodes : length least ≡ maxNodes
-  pub groups : length kinds ≡ maxNodes
   pub first : (p : ℕ) → p < maxNodes → cond (taken least p) (getD least p 0) (firstMemberOf (groupsFrom s at (g - i)) p) ≡ firstMemberOf (groupsFrom s from g) p
-  pub kind : (p : ℕ) → p < maxNodes → cond (leads least p) (getD kinds p 0) (kindLed (groupsFrom s at (g - i)) p) ≡ kindLed (groupsFrom s from g) p
-  pub others : (p : ℕ) → p < maxNodes → leads least p ≡ false → getD kinds p 0 ≡ single
+  pub kind : NumbersLeft kindIn (groupsFrom s from g) (groupsFrom s at (g - i)) least kinds
+  pub class : NumbersLeft classOf (groupsFrom s from g) (groupsFrom s at (g - i)) least classes
   pub led : (k : ℕ) → k < i → getD firsts k 0 ≡ firstAt (groupsFrom s from g) k
   pub ascend : FirstsAscend n i firsts
   pub passed : (k : ℕ) → k < i → getD firsts k 0 < low
   pub shifted : (k : ℕ) → firstAt (groupsFrom s from g) (i + k) ≡ firstAt (groupsFrom s at (g - i)) k
   pub rest : bytesAfter s at (g - i) ≡ bytesAfter s from g
 
--- all groups are read: first members and kinds stand in the arrays, and what follows the groups stands at the next place
-pub record GroupsHeld (n g : ℕ) (s : List ℕ) (from next : ℕ) (least firsts kinds : List ℕ) : Type 0 where
+-- all groups are read: first members, kinds and classes stand in the arrays, and what follows the groups stands at the next place
+pub record GroupsHeld (n g : ℕ) (s : List ℕ) (from next : ℕ) (least firsts kinds classes : List ℕ) : Type 0 where
   pub first : (p : ℕ) → p < maxNodes → getD least p 0 ≡ firstMemberOf (groupsFrom s from g) p
-  pub kind : (p : ℕ) → p < maxNodes → getD kinds p 0 ≡ kindLed (groupsFrom s from g) p
+  pub kind : (p : ℕ) → p < maxNodes → getD kinds p 0 ≡ ledBy kindIn (groupsFrom s from g) p
+  pub class : (p : ℕ) → p < maxNodes → getD classes p 0 ≡ ledBy classOf (groupsFrom s from g) p
   pub led : (i : ℕ) → i < g → getD firsts i 0 ≡ firstAt (groupsFrom s from g) i
   pub ascend : FirstsAscend n g firsts
   pub rest : drop next s ≡ bytesAfter s from g
 
-pub record GroupsRead (n g : ℕ) (c : Counts) (s : List ℕ) (from : ℕ) (least firsts₀ firsts kinds : List ℕ) (r : Groups) : Type 0 where
+pub record GroupsRead (n g : ℕ) (c : Counts) (s : List ℕ) (from : ℕ) (least firsts₀ firsts kinds classes : List ℕ) (r : Groups) : Type 0 where
   pub result : r ≡ groupsRead n g (λ p. false) 0 c s from
   pub nodes : length least ≡ maxNodes
   pub groups : length kinds ≡ maxNodes
+  pub labels : length classes ≡ maxNodes
   pub size : length firsts ≡ length firsts₀
-  pub held : (next : ℕ) (left : Counts) → r ≡ Whole next left → GroupsHeld n g s from next least firsts kinds
+  pub held : (next : ℕ) (left : Counts) → r ≡ Whole next left → GroupsHeld n g s from next least firsts kinds classes
 
 -- the first place, among at most k records, without a superedge in order, and the superedges before it
 abbrev pub onSuperedge : {A : Type 0} → Record → (ℕ → ℕ → A) → A → A
 onSuperedge (Superedge i j) f a = f i j
 onSuperedge End f a = a
 onSuperedge (Head n m g) f a = a
-onSuperedge (Group q count) f a = a
+onSuperedge (Group q count class) f a = a
 onSuperedge Malformed f a = a
 
 unfoldable pub stopAt : ℕ → List ℕ → ℕ → ℕ → ℕ → ℕ
@@ -229,9 +240,9 @@ pub record SuperedgesRead (g : ℕ) (few : Bool) (s : List ℕ) (from : ℕ) (fi
   pub drawn : Added (drawnBy few firsts (pairsTo g s 0 (length s) from)) joined₀ joined
   pub summed : SumsAdded (addedBy few firsts sums₀ (pairsTo g s 0 (length s) from)) sums₀ sums
 
--- few superedges for n nodes, by the length of the file: besides a group of six bytes for each node, 64 superedges and four for each word of each row
+-- few superedges for n nodes, by the length of the file: besides a group of eight bytes for each node, 64 superedges and four for each word of each row
 unfoldable pub isFew : ℕ → ℕ → Bool
-isFew bytes n = leb bytes (384 + (6 + 24 * ((n + 63) / 64)) * n)
+isFew bytes n = leb bytes (384 + (8 + 24 * ((n + 63) / 64)) * n)
 
 -- superedges read both ways, and the sums of cubes kept if they are few
 pub record JoinedRead (n g : ℕ) (s : List ℕ) (from : ℕ) (least firsts joined₀ joined sums : List ℕ) (r : ℕ) : Type 0 where
@@ -246,7 +257,7 @@ abbrev pub onEnd : Record → Bool → Bool
 onEnd End b = b
 onEnd (Superedge i j) b = false
 onEnd (Head n m g) b = false
-onEnd (Group q count) b = false
+onEnd (Group q count class) b = false
 onEnd Malformed b = false
 
 unfoldable pub endsAt : Counts → List ℕ → ℕ → Bool
@@ -258,7 +269,7 @@ countsFit n m g = leb n maxNodes && (leb m n && leb g m)
 
 abbrev pub onHead : {A : Type 0} → Record → (ℕ → ℕ → ℕ → A) → A → A
 onHead (Head n m g) f a = f n m g
-onHead (Group q count) f a = a
+onHead (Group q count class) f a = a
 onHead (Superedge i j) f a = a
 onHead End f a = a
 onHead Malformed f a = a
@@ -286,30 +297,33 @@ pub record BlankRows (s joined : List ℕ) : Type 0 where
   pub bits : joined ≡ replicate (length joined) 0
   pub room : nodesIn s ≤ maxNodes → StripsFor (nodesIn s) (length joined)
 
--- no node has a group, a kind or a bit
-pub record Blank (s least kinds joined : List ℕ) : Type 0 where
+-- no node has a group, a kind, a class or a bit
+pub record Blank (s least kinds classes joined : List ℕ) : Type 0 where
   pub nodes : least ≡ replicate maxNodes noNode
   pub groups : kinds ≡ replicate maxNodes single
+  pub labels : classes ≡ replicate maxNodes 0
   pub rows : BlankRows s joined
 
 -- the body of a file read: the arrays hold what it tells
-pub record BodyRead (s : List ℕ) (n m g : ℕ) (least kinds joined sums : List ℕ) (r : Bool) : Type 0 where
+pub record BodyRead (s : List ℕ) (n m g : ℕ) (least kinds classes joined sums : List ℕ) (r : Bool) : Type 0 where
   pub result : r ≡ bodyFits s n m g
   pub nodes : length least ≡ maxNodes
   pub groups : length kinds ≡ maxNodes
+  pub labels : length classes ≡ maxNodes
   pub rows : rowWords * n ≤ length joined
-  pub told : r ≡ true → Told (groupsFrom s 8 g) (superedgesAt (length s) (bytesAfter s 8 g)) least kinds joined
+  pub told : r ≡ true → Told (groupsFrom s 8 g) (superedgesAt (length s) (bytesAfter s 8 g)) least kinds classes joined
   pub size : length sums ≡ 2 * maxNodes
   pub cubed : r ≡ true → isFew (length s) n ≡ true → Cubed n least sums
   pub summed : r ≡ true → isFew (length s) n ≡ true → JoinedSummed joined sums
 
 -- the answer, and what the arrays hold then
-pub record Decodes (s least kinds joined : List ℕ) (r : Decoded) : Type 0 where
+pub record Decodes (s least kinds classes joined : List ℕ) (r : Decoded) : Type 0 where
   pub result : r ≡ decoded s
   pub nodes : length least ≡ maxNodes
   pub groups : length kinds ≡ maxNodes
+  pub labels : length classes ≡ maxNodes
   pub rows : accepted s ≡ true → rowWords * u16At s 2 ≤ length joined
-  pub told : accepted s ≡ true → Told (toldGroups s) (toldSuperedges s) least kinds joined
+  pub told : accepted s ≡ true → Told (toldGroups s) (toldSuperedges s) least kinds classes joined
 
 -- where superedges are few, the sums of cubes were kept
 pub record SumsKept (s least joined sums : List ℕ) : Type 0 where

@@ -11,6 +11,7 @@ use lib.Seq.{drop-drop}
 use borrow.Author.Tests.{eqb-false, ne-eqb, le-leb, le-ltb, lt-leb, lt-ltb, leb-true, ltb-false, ltb-true, not-true}
 use Rattle.model.specs.Graph.{maxNodes}
 use Rattle.model.specs.Reading.{groupsAt, isMark, superedgesAt, u16At}
+use Rattle.model.specs.Reading as reading
 use Rattle.model.specs.InOrder.{follows, pairKey, toldGroups, toldSuperedges}
 use Rattle.model.specs.TestLaws.{and-fst, and-snd, decide, differ}
 use Rattle.model.specs.InOrderLaws.{placeOf}
@@ -73,7 +74,7 @@ is-end c s at t = by-kind (itemIn (drop at s)) refl
     by-kind (Superedge i j) e = differ t (unfold endsAt in rw e)
     by-kind End e = e
     by-kind (Head x y z) e = differ t (unfold endsAt in rw e)
-    by-kind (Group x y) e = differ t (unfold endsAt in rw e)
+    by-kind (Group x y z) e = differ t (unfold endsAt in rw e)
     by-kind Malformed e = differ t (unfold endsAt in rw e)
 
 module _ (g : ℕ) (s : List ℕ) where
@@ -94,7 +95,7 @@ module _ (g : ℕ) (s : List ℕ) where
           stop-pair g s last at k i j e t ∙ ap (λ (x : List (ℕ × ℕ)). (i, j) ∷ x) rest ∙ sym (unfold superedgesAt in rw (f .3, superedgesAt, ← f .1, ← f .2, drop-drop 6 at s))
 
   -- their bits are those of the groups' first members
-  pub pairs-joined : (firsts : List ℕ) (gs : List (Bool × List ℕ)) → ((i : ℕ) → i < g → getD firsts i 0 ≡ firstAt gs i) → (k last at a b : ℕ) → drawnBy true firsts (pairsTo g s last k at) a b ≡ joinedBy gs (pairsTo g s last k at) a b
+  pub pairs-joined : (firsts : List ℕ) (gs : List (reading.Head × List ℕ)) → ((i : ℕ) → i < g → getD firsts i 0 ≡ firstAt gs i) → (k last at a b : ℕ) → drawnBy true firsts (pairsTo g s last k at) a b ≡ joinedBy gs (pairsTo g s last k at) a b
   pairs-joined firsts gs led zero last at a b = unfold pairsTo drawnBy joinedBy in refl
   pairs-joined firsts gs led (suc k) last at a b =
       here-or-not s at (follows g last)
@@ -108,12 +109,15 @@ module _ (g : ℕ) (s : List ℕ) where
           rw (stop-pair g s last at k i j e t) (unfold drawnBy joinedBy pairBits oneBit in rw (led i (p .0), led j (p .1), rest, swap))
 
 -- lent arrays, before anything is read
-module _ (s least kinds joined : List ℕ) (blank : Blank s least kinds joined) where
+module _ (s least kinds classes joined : List ℕ) (blank : Blank s least kinds classes joined) where
   pub blank-nodes : length least ≡ maxNodes
   blank-nodes = ap length (blank .nodes) ∙ length-replicate {A = ℕ} maxNodes noNode
 
   pub blank-groups : length kinds ≡ maxNodes
   blank-groups = ap length (blank .groups) ∙ length-replicate {A = ℕ} maxNodes single
+
+  pub blank-labels : length classes ≡ maxNodes
+  blank-labels = ap length (blank .labels) ∙ length-replicate {A = ℕ} maxNodes 0
 
 -- zeros are rows without a bit, in whole blocks, if those are enough
 pub blank-rows : (s : List ℕ) (k : ℕ) → k ≤ 4096 → k % 512 ≡ 0 → (nodesIn s ≤ 512 → 8 * nodesIn s ≤ k) → BlankRows s (replicate k 0)
@@ -126,19 +130,20 @@ groups-count s at k = count k (drop at s)
   where
     count : (k : ℕ) (t : List ℕ) → length (groupsAt k t) ≡ k
     count zero t = refl
-    count (suc k) t = ap suc (count k (drop (2 * u16At t 2) (drop 4 t)))
+    count (suc k) t = ap suc (count k (drop (2 * u16At t 2) (drop 6 t)))
 
 -- the body
-module _ (s : List ℕ) (from n m g : ℕ) (least₀ least firsts₀ firsts kinds₀ kinds joined₀ : List ℕ) (r : Groups) (eight : from ≡ 8) (blank : Blank s least₀ kinds₀ joined₀)
-    (room : StripsFor n (length joined₀)) (read : GroupsRead n g (record { members = m; groups = g }) s from least firsts₀ firsts kinds r) where
-  groups : GroupsRead n g (record { members = m; groups = g }) s 8 least firsts₀ firsts kinds r
-  groups = subst (λ (x : ℕ). GroupsRead n g (record { members = m; groups = g }) s x least firsts₀ firsts kinds r) eight read
+module _ (s : List ℕ) (from n m g : ℕ) (least₀ least firsts₀ firsts kinds₀ kinds classes₀ classes joined₀ : List ℕ) (r : Groups) (eight : from ≡ 8) (blank : Blank s least₀ kinds₀ classes₀ joined₀)
+    (room : StripsFor n (length joined₀)) (read : GroupsRead n g (record { members = m; groups = g }) s from least firsts₀ firsts kinds classes r) where
+  groups : GroupsRead n g (record { members = m; groups = g }) s 8 least firsts₀ firsts kinds classes r
+  groups = subst (λ (x : ℕ). GroupsRead n g (record { members = m; groups = g }) s x least firsts₀ firsts kinds classes r) eight read
 
-  pub body-broken : {sums₀ : List ℕ} → sums₀ ≡ replicate (2 * maxNodes) 0 → r ≡ Broken → BodyRead s n m g least kinds joined₀ sums₀ false
+  pub body-broken : {sums₀ : List ℕ} → sums₀ ≡ replicate (2 * maxNodes) 0 → r ≡ Broken → BodyRead s n m g least kinds classes joined₀ sums₀ false
   body-broken {sums₀} none e = record {
     result = sym (unfold bodyFits in rw (← groups .result, e));
     nodes = groups .nodes;
     groups = groups .groups;
+    labels = groups .labels;
     rows = room .enough;
     told = λ t. differ t refl;
     size = sums-size sums₀ none;
@@ -147,7 +152,7 @@ module _ (s : List ℕ) (from n m g : ℕ) (least₀ least firsts₀ firsts kind
   }
 
   module _ (next : ℕ) (left : Counts) (is : r ≡ Whole next left) where
-    held : GroupsHeld n g s 8 next least firsts kinds
+    held : GroupsHeld n g s 8 next least firsts kinds classes
     held = groups .held next left is
 
     pub body-placed : n ≤ maxNodes → g ≤ maxNodes → length firsts₀ ≡ maxNodes → FirstsPlaced g (length joined₀) firsts
@@ -186,15 +191,17 @@ module _ (s : List ℕ) (from n m g : ℕ) (least₀ least firsts₀ firsts kind
                 let k = ltb-false (place p) g u in
                 absurd (eqb-false (getD least p 0) noNode led (held .first p here ∙ first-member-none (groupsFrom s 8 g) p (omega (arith, k, groups-count s 8 g))))
 
-    pub body-read : (joined sums : List ℕ) (at : ℕ) (b : Bool) → JoinedRead n g s next least firsts joined₀ joined sums at → b ≡ endsAt left s at → BodyRead s n m g least kinds joined sums b
+    pub body-read : (joined sums : List ℕ) (at : ℕ) (b : Bool) → JoinedRead n g s next least firsts joined₀ joined sums at → b ≡ endsAt left s at → BodyRead s n m g least kinds classes joined sums b
     body-read joined sums at b x e = record {
       result = e ∙ ap (endsAt left s) (x .place) ∙ sym (unfold bodyFits in rw (← groups .result, is));
       nodes = groups .nodes;
       groups = groups .groups;
+      labels = groups .labels;
       rows = omega (arith, x .drawn .size, room .enough);
       told = λ t. record {
         first = held .first;
         kind = held .kind;
+        class = held .class;
         bits =
             λ a c l.
             added-only joined₀ (blank .rows .bits) (x .drawn) a c l
@@ -209,11 +216,12 @@ module _ (s : List ℕ) (from n m g : ℕ) (least₀ least firsts₀ firsts kind
         pairs : b ≡ true → pairsTo g s 0 (length s) next ≡ superedgesAt (length s) (bytesAfter s 8 g)
         pairs t = pairs-told g s (length s) 0 next (is-end left s (stopAt g s 0 (length s) next) (ap (endsAt left s) (sym (x .place)) ∙ sym e ∙ t)) ∙ ap (superedgesAt (length s)) (held .rest)
 
-decode-refused : (s least kinds joined : List ℕ) → false ≡ accepted s → length least ≡ maxNodes → length kinds ≡ maxNodes → Decodes s least kinds joined answer.NoRelease
-decode-refused s least kinds joined e a b = record {
+decode-refused : (s least kinds classes joined : List ℕ) → false ≡ accepted s → length least ≡ maxNodes → length kinds ≡ maxNodes → length classes ≡ maxNodes → Decodes s least kinds classes joined answer.NoRelease
+decode-refused s least kinds classes joined e a b c = record {
   result = sym (unfold decoded in rw (← e));
   nodes = a;
   groups = b;
+  labels = c;
   rows = λ t. differ t (sym e);
   told = λ t. differ t (sym e);
 }
@@ -221,24 +229,24 @@ decode-refused s least kinds joined e a b = record {
 sums-refused : (s least joined sums : List ℕ) → false ≡ accepted s → length sums ≡ 2 * maxNodes → SumsKept s least joined sums
 sums-refused s least joined sums e h = record { size = h; cubed = λ t. differ t (sym e); summed = λ t. differ t (sym e) }
 
-module _ (s : List ℕ) (at : ℕ) (head : Record) (least₀ kinds₀ joined₀ sums₀ : List ℕ) (after : AfterHead s at head)
-    (blank : Blank s least₀ kinds₀ joined₀ × (sums₀ ≡ replicate (2 * maxNodes) 0)) where
+module _ (s : List ℕ) (at : ℕ) (head : Record) (least₀ kinds₀ classes₀ joined₀ sums₀ : List ℕ) (after : AfterHead s at head)
+    (blank : Blank s least₀ kinds₀ classes₀ joined₀ × (sums₀ ≡ replicate (2 * maxNodes) 0)) where
   is-item : (i : Record) → head ≡ i → itemIn s ≡ i
   is-item i e = sym (item-is s 0 (record { next = at; item = head }) (after .read)) ∙ e
 
-  refused : false ≡ accepted s → Decodes s least₀ kinds₀ joined₀ answer.NoRelease × SumsKept s least₀ joined₀ sums₀
+  refused : false ≡ accepted s → Decodes s least₀ kinds₀ classes₀ joined₀ answer.NoRelease × SumsKept s least₀ joined₀ sums₀
   refused e =
       let arrays = blank .0 in (
-        decode-refused s least₀ kinds₀ joined₀ e (blank-nodes s least₀ kinds₀ joined₀ arrays) (blank-groups s least₀ kinds₀ joined₀ arrays),
+        decode-refused s least₀ kinds₀ classes₀ joined₀ e (blank-nodes s least₀ kinds₀ classes₀ joined₀ arrays) (blank-groups s least₀ kinds₀ classes₀ joined₀ arrays) (blank-labels s least₀ kinds₀ classes₀ joined₀ arrays),
         sums-refused s least₀ joined₀ sums₀ e (sums-size sums₀ (blank .1)),
       )
 
-  pub no-head : ((n m g : ℕ) → head ≡ Head n m g → ⊥) → Decodes s least₀ kinds₀ joined₀ answer.NoRelease × SumsKept s least₀ joined₀ sums₀
+  pub no-head : ((n m g : ℕ) → head ≡ Head n m g → ⊥) → Decodes s least₀ kinds₀ classes₀ joined₀ answer.NoRelease × SumsKept s least₀ joined₀ sums₀
   no-head h = refused (by-kind head refl)
     where
       by-kind : (i : Record) → head ≡ i → false ≡ accepted s
       by-kind (Head n m g) e = absurd (h n m g e)
-      by-kind (Group x y) e = sym (unfold accepted in rw (is-item (Group x y) e))
+      by-kind (Group x y z) e = sym (unfold accepted in rw (is-item (Group x y z) e))
       by-kind (Superedge x y) e = sym (unfold accepted in rw (is-item (Superedge x y) e))
       by-kind End e = sym (unfold accepted in rw (is-item End e))
       by-kind Malformed e = sym (unfold accepted in rw (is-item Malformed e))
@@ -260,27 +268,28 @@ module _ (s : List ℕ) (at : ℕ) (head : Record) (least₀ kinds₀ joined₀ 
         told : nodesIn s ≡ n
         told = sym (numbers .1 ∙ nodes-told s (numbers .0))
 
-    pub wrong-size : false ≡ countsFit n m g → Decodes s least₀ kinds₀ joined₀ answer.NoRelease × SumsKept s least₀ joined₀ sums₀
+    pub wrong-size : false ≡ countsFit n m g → Decodes s least₀ kinds₀ classes₀ joined₀ answer.NoRelease × SumsKept s least₀ joined₀ sums₀
     wrong-size e = refused (sym (by-head ∙ rw (← e)))
 
-    module _ (fits : true ≡ countsFit n m g) (least kinds joined sums : List ℕ) (b : Bool) (body : BodyRead s n m g least kinds joined sums b) where
+    module _ (fits : true ≡ countsFit n m g) (least kinds classes joined sums : List ℕ) (b : Bool) (body : BodyRead s n m g least kinds classes joined sums b) where
       by-body : accepted s ≡ b
       by-body = by-head ∙ rw (← fits) (sym (body .result))
 
-      pub wrong-body : b ≡ false → Decodes s least kinds joined answer.NoRelease × SumsKept s least joined sums
-      wrong-body e = (decode-refused s least kinds joined (sym (by-body ∙ e)) (body .nodes) (body .groups), sums-refused s least joined sums (sym (by-body ∙ e)) (body .size))
+      pub wrong-body : b ≡ false → Decodes s least kinds classes joined answer.NoRelease × SumsKept s least joined sums
+      wrong-body e = (decode-refused s least kinds classes joined (sym (by-body ∙ e)) (body .nodes) (body .groups) (body .labels), sums-refused s least joined sums (sym (by-body ∙ e)) (body .size))
 
       sums-graph : b ≡ true → SumsKept s least joined sums
       sums-graph e = record { size = body .size; cubed = λ t. rw (← numbers .1) (body .cubed e); summed = λ t. rw (← numbers .1) (body .summed e) }
 
-      pub decode-graph : b ≡ true → Decodes s least kinds joined (answer.Graph n) × SumsKept s least joined sums
+      pub decode-graph : b ≡ true → Decodes s least kinds classes joined (answer.Graph n) × SumsKept s least joined sums
       decode-graph e = (decodes, sums-graph e)
         where
-          decodes : Decodes s least kinds joined (answer.Graph n)
+          decodes : Decodes s least kinds classes joined (answer.Graph n)
           decodes = record {
             result = sym (unfold decoded in rw (by-body, e, ← numbers .1));
             nodes = body .nodes;
             groups = body .groups;
+            labels = body .labels;
             rows = λ t. rw (← numbers .1) (body .rows);
             told = λ t. unfold toldGroups toldSuperedges groupsFrom bytesAfter in rw (← numbers .3) (body .told e);
           }

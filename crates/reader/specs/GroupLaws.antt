@@ -10,8 +10,9 @@ use lib.ListN.{length, getD, drop, set, replicate, length-set, length-drop, leng
 use lib.Seq.{drop-drop, getD-drop, getD-set-same, getD-set-other}
 use borrow.Author.Tests.{eqb-true, eqb-false, eq-eqb, ne-eqb, ltb-true, lt-ltb, le-ltb, leb-true, le-leb, lt-leb, not-true, not-false}
 use Rattle.model.specs.Lists.{any, headOr, member}
-use Rattle.model.specs.Graph.{maxNodes}
+use Rattle.model.specs.Graph.{maxClasses, maxNodes}
 use Rattle.model.specs.Reading.{afterGroups, groupsAt, u16At, u16s}
+use Rattle.model.specs.Reading as reading
 use Rattle.model.specs.InOrder.{membersAt}
 use Rattle.model.specs.TestLaws.{decide, differ, and-fst, and-snd, or-cases, or-left}
 use Rattle.records.specs.declared.Counts.{Counts}
@@ -23,11 +24,11 @@ use Rattle.records.specs.declared.Read.{Read}
 use Rattle.records.specs.Records.{itemIn, lessGroup, lessMember, recordAt, sizeOf}
 use Rattle.records.specs.RecordLaws.{Fits, fits-at, item-fits, item-is, next-is, u16-drop}
 use Rattle.rows.specs.Rows.{leads, noNode}
-use Rattle.compressed.specs.Compressed.{clique, firstAt, firstMemberOf, independent, kindLed, kindMarked, single}
+use Rattle.compressed.specs.Compressed.{classOf, clique, firstAt, firstMemberOf, independent, kindIn, kindMarked, ledBy, single}
 use Rattle.reader.specs.declared.Grouped.{Grouped}
 use Rattle.reader.specs.declared.Grouped.the-variants.{Taken, Missing}
 use Rattle.reader.specs.declared.Groups.the-variants.{Whole, Broken}
-use Rattle.reader.specs.Decoding.{GroupTaken, GroupsHeld, GroupsLeft, GroupsRead, LeastPut, LeastPutting, MembersRead, bytesAfter, countAt, groupBy, groupTaken, groupsFrom, groupsRead, leastCount, listedAt, membersRead, numbersAt, onLess, onTaken, restAt, taken}
+use Rattle.reader.specs.Decoding.{GroupTaken, GroupsHeld, GroupsLeft, GroupsRead, LeastPut, LeastPutting, MembersRead, NumbersLeft, bytesAfter, countAt, groupBy, groupHead, groupTaken, groupsFrom, groupsRead, leastCount, listedAt, membersRead, numbersAt, onLess, onTaken, restAt, taken}
 
 -- the kind and the least count of a group
 pub kind-clique : (count : ℕ) → clique ≡ kindMarked true count
@@ -166,13 +167,13 @@ module _ (s : List ℕ) (at count : ℕ) where
 
 -- a record that was read at a place
 module _ (s : List ℕ) (at : ℕ) (r : Read) (read : r ≡ recordAt s at) where
-  -- a group: its count, its kind and its room
-  pub group-told : (q : Bool) (count : ℕ) → r .item ≡ Group q count → (r .next ≡ at + 4) × (at + 4 ≤ length s) × (count ≡ countAt s at) × (q ≡ eqb (getD s (at + 1) 0) 0x43)
+  -- a group: its count, its head and its room
+  pub group-told : (q : Bool) (count class : ℕ) → r .item ≡ Group q count class → (r .next ≡ at + 6) × (at + 6 ≤ length s) × (count ≡ countAt s at)
   unfolding countAt sizeOf
-  group-told q count e =
-      let f = fits-at s at r read (Group q count) e in
-      let g : r .next ≡ at + 4 = next-is s at r read ∙ ap (λ (x : Record). at + sizeOf x) e in
-      (g, omega (arith, f .0, length-drop at s), f .1 ∙ u16-drop s at 2, f .2 ∙ ap (λ (x : ℕ). eqb x 0x43) (getD-drop at s 1 0))
+  group-told q count class e =
+      let f = fits-at s at r read (Group q count class) e in
+      let g : r .next ≡ at + 6 = next-is s at r read ∙ ap (λ (x : Record). at + sizeOf x) e in
+      (g, omega (arith, f .0, length-drop at s), f .1 ∙ u16-drop s at 2)
 
 some : (q : Bool) (count m : ℕ) → m ≡ leastCount q → m ≤ count → 0 < count
 unfolding leastCount
@@ -180,17 +181,17 @@ some true count m e h = omega arith
 some false count m e h = omega arith
 
 -- all members of a group stand in the bytes
-pub numbers-room : (s : List ℕ) (at : ℕ) (r : Read) → r ≡ recordAt s at → (q : Bool) (count : ℕ) → r .item ≡ Group q count → (m : ℕ) → m ≡ leastCount q → m ≤ count → 2 * count ≤ length s - r .next → (0 < count) × (r .next + 2 * count ≤ length s)
-numbers-room s at r read q count item m least h room =
-    let told = group-told s at r read q count item in
+pub numbers-room : (s : List ℕ) (at : ℕ) (r : Read) → r ≡ recordAt s at → (q : Bool) (count class : ℕ) → r .item ≡ Group q count class → (m : ℕ) → m ≡ leastCount q → m ≤ count → 2 * count ≤ length s - r .next → (0 < count) × (r .next + 2 * count ≤ length s)
+numbers-room s at r read q count class item m least h room =
+    let told = group-told s at r read q count class item in
     (some q count m least h, omega (arith, told .0, told .1))
 
 -- what the function hands back: the group, or none
 module _ (n low : ℕ) (c : Counts) (s : List ℕ) (at : ℕ) (t : List ℕ) where
   group-missing : (now : List ℕ) → length now ≡ length t → Missing ≡ groupTaken n (taken t) low c s at → GroupTaken n low c s at t now Missing
-  group-missing now size e = record { result = e; size = size; put = λ kind first next d f. none f }
+  group-missing now size e = record { result = e; size = size; put = λ kind class first next d f. none f }
     where
-      none : {kind first next : ℕ} {d : Counts} → Missing ≡ Taken kind first next d → LeastPut (listedAt s at) first t now
+      none : {kind class first next : ℕ} {d : Counts} → Missing ≡ Taken kind class first next d → LeastPut (listedAt s at) first t now
       none f = let z : _≡_ {A = ℕ} 0 1 = cc in absurd (omega arith)
 
   module _ (r : Read) (read : r ≡ recordAt s at) where
@@ -198,57 +199,64 @@ module _ (n low : ℕ) (c : Counts) (s : List ℕ) (at : ℕ) (t : List ℕ) whe
     unfolding groupTaken
     by-item i e = ap (groupBy n (taken t) low c s at) (sym e ∙ item-is s at r read)
 
-    pub other-record : ((q : Bool) (count : ℕ) → r .item ≡ Group q count → ⊥) → GroupTaken n low c s at t t Missing
+    pub other-record : ((q : Bool) (count class : ℕ) → r .item ≡ Group q count class → ⊥) → GroupTaken n low c s at t t Missing
     other-record h = group-missing t refl (step (r .item) refl)
       where
         step : (i : Record) → r .item ≡ i → Missing ≡ groupTaken n (taken t) low c s at
-        step (Group q count) e = absurd (h q count e)
+        step (Group q count class) e = absurd (h q count class e)
         step (Head x y z) e = by-item (Head x y z) e
         step (Superedge x y) e = by-item (Superedge x y) e
         step End e = by-item End e
         step Malformed e = by-item Malformed e
 
-    module _ (q : Bool) (count : ℕ) (item : r .item ≡ Group q count) (m : ℕ) (least : m ≡ leastCount q) where
-      four : r .next ≡ at + 4
-      four = group-told s at r read q count item .0
+    module _ (q : Bool) (count class : ℕ) (item : r .item ≡ Group q count class) where
+      six : r .next ≡ at + 6
+      six = group-told s at r read q count class item .0
 
-      inside : at + 4 ≤ length s
-      inside = group-told s at r read q count item .1
+      inside : at + 6 ≤ length s
+      inside = group-told s at r read q count class item .1
 
-      pub few-members : count < m → GroupTaken n low c s at t t Missing
-      few-members l = group-missing t refl (sym (sym (by-item (Group q count) item) ∙ (rw (← least, lt-leb m count l))))
+      by-group : groupBy n (taken t) low c s at (Group q count class) ≡ groupTaken n (taken t) low c s at
+      by-group = by-item (Group q count class) item
 
-      pub no-room : m ≤ count → length s - r .next < 2 * count → GroupTaken n low c s at t t Missing
-      no-room h l = group-missing t refl (sym (sym (by-item (Group q count) item) ∙ (rw (← least, le-leb m count h, lt-leb (at + 4 + 2 * count) (length s) (omega (arith, four, inside))))))
+      pub large-class : maxClasses ≤ class → GroupTaken n low c s at t t Missing
+      large-class l = group-missing t refl (sym (sym by-group ∙ (rw (le-ltb class maxClasses l))))
 
-      module _ (o : Lessened) (enough : m ≤ count) (room : 2 * count ≤ length s - r .next) (less : o ≡ lessGroup c) where
-        roomy : leb (at + 4 + 2 * count) (length s) ≡ true
-        roomy = le-leb (at + 4 + 2 * count) (length s) (omega (arith, four, inside))
+      module _ (m : ℕ) (small : class < maxClasses) (least : m ≡ leastCount q) where
+        pub few-members : count < m → GroupTaken n low c s at t t Missing
+        few-members l = group-missing t refl (sym (sym by-group ∙ (rw (lt-ltb class maxClasses small, ← least, lt-leb m count l))))
 
-        pub no-group : o ≡ Over → GroupTaken n low c s at t t Missing
-        no-group e = group-missing t refl (sym (sym (by-item (Group q count) item) ∙ (rw (← least, le-leb m count enough, roomy, ← less, e))))
+        pub no-room : m ≤ count → length s - r .next < 2 * count → GroupTaken n low c s at t t Missing
+        no-room h l = group-missing t refl (sym (sym by-group ∙ (rw (lt-ltb class maxClasses small, ← least, le-leb m count h, lt-leb (at + 6 + 2 * count) (length s) (omega (arith, six, inside))))))
 
-        module _ (d : Counts) (left : o ≡ Left d) (now : List ℕ) (p : Lessened) (members : MembersRead n low d (numbersAt s (r .next) count) t now p) where
-          by-members : p ≡ membersRead n (taken t) low d (numbersAt s (at + 4) count)
-          by-members = members .result ∙ ap (λ (x : ℕ). membersRead n (taken t) low d (numbersAt s x count)) four
+        module _ (o : Lessened) (enough : m ≤ count) (room : 2 * count ≤ length s - r .next) (less : o ≡ lessGroup c) where
+          roomy : leb (at + 6 + 2 * count) (length s) ≡ true
+          roomy = le-leb (at + 6 + 2 * count) (length s) (omega (arith, six, inside))
 
-          pub no-members : p ≡ Over → GroupTaken n low c s at t now Missing
-          no-members e = group-missing now (members .size) (sym (sym (by-item (Group q count) item) ∙ (rw (← least, le-leb m count enough, roomy, ← less, left, ← by-members, e))))
+          pub no-group : o ≡ Over → GroupTaken n low c s at t t Missing
+          no-group e = group-missing t refl (sym (sym by-group ∙ (rw (lt-ltb class maxClasses small, ← least, le-leb m count enough, roomy, ← less, e))))
 
-          listed : numbersAt s (r .next) count ≡ listedAt s at
-          unfolding listedAt
-          listed = ap₂ (λ (x y : ℕ). numbersAt s x y) four (group-told s at r read q count item .2)
+          module _ (d : Counts) (left : o ≡ Left d) (now : List ℕ) (p : Lessened) (members : MembersRead n low d (numbersAt s (r .next) count) t now p) where
+            by-members : p ≡ membersRead n (taken t) low d (numbersAt s (at + 6) count)
+            by-members = members .result ∙ ap (λ (x : ℕ). membersRead n (taken t) low d (numbersAt s x count)) six
 
-          pub all-members : (kind first : ℕ) (e : Counts) → p ≡ Left e → kind ≡ kindMarked q count → first ≡ u16At s (r .next) → GroupTaken n low c s at t now (Taken kind first (r .next + 2 * count) e)
-          all-members kind first e is k f = record {
-            result = sym (sym (by-item (Group q count) item) ∙ (rw (← least, le-leb m count enough, roomy, ← less, left, ← by-members, is, k, f, four)));
-            size = members .size;
-            put =
-                λ a b x y z.
-                let same : first ≡ b = cc in
-                subst (λ (l : ℕ). LeastPut (listedAt s at) l t now) (sym (f ∙ numbers-first s (r .next) count (some q count m least enough)) ∙ same)
-                (subst (λ (ms : List ℕ). LeastPut ms (headOr 0 (numbersAt s (r .next) count)) t now) listed (members .put e is));
-          }
+            pub no-members : p ≡ Over → GroupTaken n low c s at t now Missing
+            no-members e = group-missing now (members .size) (sym (sym by-group ∙ (rw (lt-ltb class maxClasses small, ← least, le-leb m count enough, roomy, ← less, left, ← by-members, e))))
+
+            listed : numbersAt s (r .next) count ≡ listedAt s at
+            unfolding listedAt
+            listed = ap₂ (λ (x y : ℕ). numbersAt s x y) six (group-told s at r read q count class item .2)
+
+            pub all-members : (kind first : ℕ) (e : Counts) → p ≡ Left e → kind ≡ kindMarked q count → first ≡ u16At s (r .next) → GroupTaken n low c s at t now (Taken kind class first (r .next + 2 * count) e)
+            all-members kind first e is k f = record {
+              result = sym (sym by-group ∙ (rw (lt-ltb class maxClasses small, ← least, le-leb m count enough, roomy, ← less, left, ← by-members, is, k, f, six)));
+              size = members .size;
+              put =
+                  λ a v b x y z.
+                  let same : first ≡ b = cc in
+                  subst (λ (l : ℕ). LeastPut (listedAt s at) l t now) (sym (f ∙ numbers-first s (r .next) count (some q count m least enough)) ∙ same)
+                  (subst (λ (ms : List ℕ). LeastPut ms (headOr 0 (numbersAt s (r .next) count)) t now) listed (members .put e is));
+            }
 
 head-in : (l : List ℕ) → 0 < length l → member (headOr 0 l) l ≡ true
 unfolding member any
@@ -290,52 +298,65 @@ members-low n f low c d (x ∷ xs) h e = by (decide (leb low x))
     by (inr t) = let k : Over ≡ Left d = rw t at e in let z : _≡_ {A = ℕ} 0 1 = cc in absurd (omega arith)
 
 -- what a group that was taken tells
-pub record GroupTold (n : ℕ) (f : ℕ → Bool) (low : ℕ) (s : List ℕ) (at kind first next : ℕ) : Type 0 where
-  pub after : next ≡ at + 4 + 2 * countAt s at
+pub record GroupTold (n : ℕ) (f : ℕ → Bool) (low : ℕ) (s : List ℕ) (at kind class first next : ℕ) : Type 0 where
+  pub after : next ≡ at + 6 + 2 * countAt s at
   pub leader : first ≡ headOr 0 (listedAt s at)
   pub from : low ≤ first
   pub listed : member first (listedAt s at) ≡ true
-  pub sort : kind ≡ kindMarked (eqb (getD s (at + 1) 0) 0x43) (length (listedAt s at))
+  pub sort : kind ≡ kindIn (groupHead s at, listedAt s at)
+  pub label : class ≡ classOf (groupHead s at, listedAt s at)
   pub free : (p : ℕ) → member p (listedAt s at) ≡ true → (p < n) × (f p ≡ false)
 
-module _ (n : ℕ) (f : ℕ → Bool) (low : ℕ) (c : Counts) (s : List ℕ) (at kind first next : ℕ) (d : Counts) where
-  pub taken-told : groupTaken n f low c s at ≡ Taken kind first next d → GroupTold n f low s at kind first next
+module _ (n : ℕ) (f : ℕ → Bool) (low : ℕ) (c : Counts) (s : List ℕ) (at kind class first next : ℕ) (d : Counts) where
+  pub taken-told : groupTaken n f low c s at ≡ Taken kind class first next d → GroupTold n f low s at kind class first next
   unfolding groupTaken
   taken-told e = by-item (itemIn (drop at s)) (item-fits (drop at s)) e
     where
-      by-members : (q : Bool) (count : ℕ) (y : Counts) (o : Lessened) → membersRead n f low y (numbersAt s (at + 4) count) ≡ o → 0 < count → count ≡ countAt s at → q ≡ eqb (getD s (at + 1) 0) 0x43
-          → onLess o (λ z. Taken (kindMarked q count) (u16At s (at + 4)) (at + 4 + 2 * count) z) Missing ≡ Taken kind first next d → GroupTold n f low s at kind first next
-      by-members q count y (Left z) h some is mark k =
-          let i : next ≡ at + 4 + 2 * count = cc in
-          let j : first ≡ u16At s (at + 4) = cc in
+      -- the numbers of a group record are those of the place
+      Here : Bool → ℕ → ℕ → Type 0
+      Here q count k = (count ≡ countAt s at) × (k ≡ groupHead s at .class) × (q ≡ groupHead s at .clique)
+
+      by-members : (q : Bool) (count k : ℕ) (y : Counts) (o : Lessened) → membersRead n f low y (numbersAt s (at + 6) count) ≡ o → 0 < count → Here q count k
+          → onLess o (λ z. Taken (kindMarked q count) k (u16At s (at + 6)) (at + 6 + 2 * count) z) Missing ≡ Taken kind class first next d → GroupTold n f low s at kind class first next
+      by-members q count k y (Left z) h some is u =
+          let i : next ≡ at + 6 + 2 * count = cc in
+          let j : first ≡ u16At s (at + 6) = cc in
           let l : kind ≡ kindMarked q count = cc in
-          let listed : numbersAt s (at + 4) count ≡ listedAt s at = unfold listedAt in (ap (numbersAt s (at + 4)) is) in
-          let size : count ≡ length (listedAt s at) = is ∙ sym (unfold listedAt numbersAt in length-numbers (countAt s at) (drop (at + 4) s)) in
-          let lead : first ≡ headOr 0 (numbersAt s (at + 4) count) = j ∙ numbers-first s (at + 4) count some in
-          let many : length (numbersAt s (at + 4) count) ≡ count = unfold numbersAt in length-numbers count (drop (at + 4) s) in
+          let v : class ≡ k = cc in
+          let listed : numbersAt s (at + 6) count ≡ listedAt s at = unfold listedAt in (ap (numbersAt s (at + 6)) (is .0)) in
+          let size : count ≡ length (listedAt s at) = is .0 ∙ sym (unfold listedAt numbersAt in length-numbers (countAt s at) (drop (at + 6) s)) in
+          let lead : first ≡ headOr 0 (numbersAt s (at + 6) count) = j ∙ numbers-first s (at + 6) count some in
+          let many : length (numbersAt s (at + 6) count) ≡ count = unfold numbersAt in length-numbers count (drop (at + 6) s) in
           let head : first ≡ headOr 0 (listedAt s at) = lead ∙ ap (headOr 0) listed in
           record {
-            after = i ∙ ap (λ (u : ℕ). at + 4 + 2 * u) is;
+            after = i ∙ ap (λ (u : ℕ). at + 6 + 2 * u) (is .0);
             leader = head;
-            from = rw lead (members-low n f low y z (numbersAt s (at + 4) count) (omega arith) h);
+            from = rw lead (members-low n f low y z (numbersAt s (at + 6) count) (omega arith) h);
             listed = ap (λ (x : ℕ). member x (listedAt s at)) head ∙ head-in (listedAt s at) (omega arith);
-            sort = l ∙ ap₂ kindMarked mark size;
-            free = λ p m. members-free n f low y z (numbersAt s (at + 4) count) h p (ap (member p) listed ∙ m);
+            sort = l ∙ ap₂ kindMarked (is .2) size;
+            label = v ∙ is .1;
+            free = λ p m. members-free n f low y z (numbersAt s (at + 6) count) h p (ap (member p) listed ∙ m);
           }
-      by-members q count y Over h some is mark k = let z : _≡_ {A = ℕ} 0 1 = cc in absurd (omega arith)
+      by-members q count k y Over h some is u = let z : _≡_ {A = ℕ} 0 1 = cc in absurd (omega arith)
 
-      by-count : (q : Bool) (count : ℕ) (o : Lessened) → 0 < count → count ≡ countAt s at → q ≡ eqb (getD s (at + 1) 0) 0x43
-          → onLess o (λ y. onLess (membersRead n f low y (numbersAt s (at + 4) count)) (λ z. Taken (kindMarked q count) (u16At s (at + 4)) (at + 4 + 2 * count) z) Missing) Missing ≡ Taken kind first next d → GroupTold n f low s at kind first next
-      by-count q count (Left y) some is mark k = by-members q count y (membersRead n f low y (numbersAt s (at + 4) count)) refl some is mark k
-      by-count q count Over some is mark k = let z : _≡_ {A = ℕ} 0 1 = cc in absurd (omega arith)
+      by-count : (q : Bool) (count k : ℕ) (o : Lessened) → 0 < count → Here q count k
+          → onLess o (λ y. onLess (membersRead n f low y (numbersAt s (at + 6) count)) (λ z. Taken (kindMarked q count) k (u16At s (at + 6)) (at + 6 + 2 * count) z) Missing) Missing ≡ Taken kind class first next d → GroupTold n f low s at kind class first next
+      by-count q count k (Left y) some is u = by-members q count k y (membersRead n f low y (numbersAt s (at + 6) count)) refl some is u
+      by-count q count k Over some is u = let z : _≡_ {A = ℕ} 0 1 = cc in absurd (omega arith)
 
-      by-room : (q : Bool) (count : ℕ) (b : Bool) → (leb (leastCount q) count && leb (at + 4 + 2 * count) (length s)) ≡ b → count ≡ countAt s at → q ≡ eqb (getD s (at + 1) 0) 0x43
-          → groupBy n f low c s at (Group q count) ≡ Taken kind first next d → GroupTold n f low s at kind first next
-      by-room q count true t is mark k = by-count q count (lessGroup c) (some q count (leastCount q) refl (leb-true (leastCount q) count (and-fst (leb (leastCount q) count) (leb (at + 4 + 2 * count) (length s)) t))) is mark (rw t at k)
-      by-room q count false t is mark k = let h : Missing ≡ Taken kind first next d = rw t at k in let z : _≡_ {A = ℕ} 0 1 = cc in absurd (omega arith)
+      enough : (q : Bool) (count k : ℕ) → (ltb k maxClasses && (leb (leastCount q) count && leb (at + 6 + 2 * count) (length s))) ≡ true → 0 < count
+      enough q count k t = some q count (leastCount q) refl (leb-true (leastCount q) count (and-fst (leb (leastCount q) count) _ (and-snd (ltb k maxClasses) _ t)))
 
-      by-item : (i : Record) → Fits (drop at s) i → groupBy n f low c s at i ≡ Taken kind first next d → GroupTold n f low s at kind first next
-      by-item (Group q count) x k = by-room q count (leb (leastCount q) count && leb (at + 4 + 2 * count) (length s)) refl (unfold countAt in (x .1 ∙ u16-drop s at 2)) (x .2 ∙ ap (λ (y : ℕ). eqb y 0x43) (getD-drop at s 1 0)) k
+      by-room : (q : Bool) (count k : ℕ) (b : Bool) → (ltb k maxClasses && (leb (leastCount q) count && leb (at + 6 + 2 * count) (length s))) ≡ b → Here q count k
+          → groupBy n f low c s at (Group q count k) ≡ Taken kind class first next d → GroupTold n f low s at kind class first next
+      by-room q count k true t is u = by-count q count k (lessGroup c) (enough q count k t) is (rw t at u)
+      by-room q count k false t is u = let h : Missing ≡ Taken kind class first next d = rw t at u in let z : _≡_ {A = ℕ} 0 1 = cc in absurd (omega arith)
+
+      here : (q : Bool) (count k : ℕ) → Fits (drop at s) (Group q count k) → Here q count k
+      here q count k x = unfold countAt groupHead in (x .1 ∙ u16-drop s at 2, x .2 ∙ u16-drop s at 4, x .3 ∙ ap (λ (y : ℕ). eqb y 0x43) (getD-drop at s 1 0))
+
+      by-item : (i : Record) → Fits (drop at s) i → groupBy n f low c s at i ≡ Taken kind class first next d → GroupTold n f low s at kind class first next
+      by-item (Group q count k) x u = by-room q count k (ltb k maxClasses && (leb (leastCount q) count && leb (at + 6 + 2 * count) (length s))) refl (here q count k x) u
       by-item (Head x y z) g k = let z : _≡_ {A = ℕ} 0 1 = cc in absurd (omega arith)
       by-item (Superedge x y) g k = let z : _≡_ {A = ℕ} 0 1 = cc in absurd (omega arith)
       by-item End g k = let z : _≡_ {A = ℕ} 0 1 = cc in absurd (omega arith)
@@ -374,12 +395,12 @@ module _ (n : ℕ) where
   group-alike f g h low c s at = by (itemIn (drop at s))
     where
       by : (i : Record) → groupBy n f low c s at i ≡ groupBy n g low c s at i
-      by (Group q count) = ap (λ (o : Grouped). cond (leb (leastCount q) count && leb (at + 4 + 2 * count) (length s)) o Missing) (less (lessGroup c))
+      by (Group q count class) = ap (λ (o : Grouped). cond (ltb class maxClasses && (leb (leastCount q) count && leb (at + 6 + 2 * count) (length s))) o Missing) (less (lessGroup c))
         where
           less : (o : Lessened)
-              → onLess o (λ d. onLess (membersRead n f low d (numbersAt s (at + 4) count)) (λ e. Taken (kindMarked q count) (u16At s (at + 4)) (at + 4 + 2 * count) e) Missing) Missing
-              ≡ onLess o (λ d. onLess (membersRead n g low d (numbersAt s (at + 4) count)) (λ e. Taken (kindMarked q count) (u16At s (at + 4)) (at + 4 + 2 * count) e) Missing) Missing
-          less (Left d) = ap (λ (o : Lessened). onLess o (λ e. Taken (kindMarked q count) (u16At s (at + 4)) (at + 4 + 2 * count) e) Missing) (members-alike f g h low d (numbersAt s (at + 4) count))
+              → onLess o (λ d. onLess (membersRead n f low d (numbersAt s (at + 6) count)) (λ e. Taken (kindMarked q count) class (u16At s (at + 6)) (at + 6 + 2 * count) e) Missing) Missing
+              ≡ onLess o (λ d. onLess (membersRead n g low d (numbersAt s (at + 6) count)) (λ e. Taken (kindMarked q count) class (u16At s (at + 6)) (at + 6 + 2 * count) e) Missing) Missing
+          less (Left d) = ap (λ (o : Lessened). onLess o (λ e. Taken (kindMarked q count) class (u16At s (at + 6)) (at + 6 + 2 * count) e) Missing) (members-alike f g h low d (numbersAt s (at + 6) count))
           less Over = refl
       by (Head x y z) = refl
       by (Superedge x y) = refl
@@ -395,32 +416,32 @@ module _ (n : ℕ) where
       Below = (first next : ℕ) (d : Counts) → groupsRead n k (λ p. member p (listedAt s at) || f p) (suc first) d s next ≡ groupsRead n k (λ p. member p (listedAt s at) || g p) (suc first) d s next
 
       more : Below → (o : Grouped) → onTaken o (λ first next d. groupsRead n k (λ p. member p (listedAt s at) || f p) (suc first) d s next) ≡ onTaken o (λ first next d. groupsRead n k (λ p. member p (listedAt s at) || g p) (suc first) d s next)
-      more below (Taken kind first next d) = below first next d
+      more below (Taken kind class first next d) = below first next d
       more below Missing = refl
 
 -- the groups of a file by places
-pub from-step : (s : List ℕ) (at k next : ℕ) → next ≡ at + 4 + 2 * countAt s at → groupsFrom s at (suc k) ≡ (eqb (getD s (at + 1) 0) 0x43, listedAt s at) ∷ groupsFrom s next k
-unfolding groupsFrom groupsAt listedAt numbersAt countAt
-from-step s at k next e = rw (e, getD-drop at s 1 0, u16-drop s at 2, drop-drop 4 at s, drop-drop (2 * u16At s (at + 2)) (at + 4) s)
+pub from-step : (s : List ℕ) (at k next : ℕ) → next ≡ at + 6 + 2 * countAt s at → groupsFrom s at (suc k) ≡ (groupHead s at, listedAt s at) ∷ groupsFrom s next k
+unfolding groupsFrom groupsAt groupHead listedAt numbersAt countAt
+from-step s at k next e = rw (e, getD-drop at s 1 0, u16-drop s at 2, u16-drop s at 4, drop-drop 6 at s, drop-drop (2 * u16At s (at + 2)) (at + 6) s)
 
-pub after-step : (s : List ℕ) (at k next : ℕ) → next ≡ at + 4 + 2 * countAt s at → bytesAfter s at (suc k) ≡ bytesAfter s next k
+pub after-step : (s : List ℕ) (at k next : ℕ) → next ≡ at + 6 + 2 * countAt s at → bytesAfter s at (suc k) ≡ bytesAfter s next k
 unfolding bytesAfter afterGroups countAt
-after-step s at k next e = rw (e, u16-drop s at 2, drop-drop 4 at s, drop-drop (2 * u16At s (at + 2)) (at + 4) s)
+after-step s at k next e = rw (e, u16-drop s at 2, drop-drop 6 at s, drop-drop (2 * u16At s (at + 2)) (at + 6) s)
 
 read-missing : (n k : ℕ) (f : ℕ → Bool) (low : ℕ) (c : Counts) (s : List ℕ) (at : ℕ) → groupTaken n f low c s at ≡ Missing → groupsRead n (suc k) f low c s at ≡ Broken
 unfolding groupsRead
 read-missing n k f low c s at e = rw e
 
-read-taken : (n k : ℕ) (f : ℕ → Bool) (low : ℕ) (c : Counts) (s : List ℕ) (at kind first next : ℕ) (d : Counts) → groupTaken n f low c s at ≡ Taken kind first next d → groupsRead n (suc k) f low c s at ≡ groupsRead n k (λ p. member p (listedAt s at) || f p) (suc first) d s next
+read-taken : (n k : ℕ) (f : ℕ → Bool) (low : ℕ) (c : Counts) (s : List ℕ) (at kind class first next : ℕ) (d : Counts) → groupTaken n f low c s at ≡ Taken kind class first next d → groupsRead n (suc k) f low c s at ≡ groupsRead n k (λ p. member p (listedAt s at) || f p) (suc first) d s next
 unfolding groupsRead
-read-taken n k f low c s at kind first next d e = rw e
+read-taken n k f low c s at kind class first next d e = rw e
 
 -- first members by position
-at-zero : (g : Bool × List ℕ) (gs : List (Bool × List ℕ)) → firstAt (g ∷ gs) 0 ≡ headOr 0 (g .1)
+at-zero : (g : reading.Head × List ℕ) (gs : List (reading.Head × List ℕ)) → firstAt (g ∷ gs) 0 ≡ headOr 0 (g .1)
 unfolding firstAt membersAt
 at-zero g gs = refl
 
-at-suc : (g : Bool × List ℕ) (gs : List (Bool × List ℕ)) (k : ℕ) → firstAt (g ∷ gs) (suc k) ≡ firstAt gs k
+at-suc : (g : reading.Head × List ℕ) (gs : List (reading.Head × List ℕ)) (k : ℕ) → firstAt (g ∷ gs) (suc k) ≡ firstAt gs k
 unfolding firstAt membersAt
 at-suc g gs k = refl
 
@@ -455,18 +476,33 @@ taken-or t p = by (decide (taken t p))
 pub filled-size : (t : List ℕ) (x : ℕ) → t ≡ replicate maxNodes x → length t ≡ maxNodes
 filled-size t x e = ap length e ∙ length-replicate {A = ℕ} maxNodes x
 
+-- a number of each group, before any is read and when all are
+numbers-start : (number : reading.Head × List ℕ → ℕ) (gs : List (reading.Head × List ℕ)) (least t : List ℕ) → ((p : ℕ) → p < maxNodes → leads least p ≡ false) → t ≡ replicate maxNodes 0 → NumbersLeft number gs gs least t
+numbers-start number gs least t none e = record {
+  size = filled-size t 0 e;
+  told = λ p h. ap (λ (b : Bool). cond b (getD t p 0) (ledBy number gs p)) (none p h);
+  others = λ p h _. ap (λ (x : List ℕ). getD x p 0) e ∙ getD-replicate {A = ℕ} maxNodes p 0 0 h;
+}
+
+numbers-done : (number : reading.Head × List ℕ → ℕ) {all rest : List (reading.Head × List ℕ)} {least t : List ℕ} → rest ≡ [] → NumbersLeft number all rest least t → (p : ℕ) → p < maxNodes → getD t p 0 ≡ ledBy number all p
+unfolding ledBy
+numbers-done number {all} {rest} {least} {t} ended x p h = sym (unled (decide (leads least p))) ∙ sym (ap (λ (y : List (reading.Head × List ℕ)). cond (leads least p) (getD t p 0) (ledBy number y p)) ended) ∙ x .told p h
+  where
+    unled : (leads least p ≡ true) ⊎ (leads least p ≡ false) → cond (leads least p) (getD t p 0) 0 ≡ getD t p 0
+    unled (inl u) = rw u
+    unled (inr u) = ap (λ (b : Bool). cond b (getD t p 0) 0) u ∙ sym (x .others p h u)
+
 -- the groups' loop
 module _ (n g : ℕ) (c : Counts) (s : List ℕ) (from : ℕ) where
-  pub groups-start : (least firsts kinds : List ℕ) → n ≤ maxNodes → least ≡ replicate maxNodes noNode → kinds ≡ replicate maxNodes single → GroupsLeft n g c s from 0 0 c from least firsts kinds
-  groups-start least firsts kinds small l k =
+  pub groups-start : (least firsts kinds classes : List ℕ) → n ≤ maxNodes → least ≡ replicate maxNodes noNode → kinds ≡ replicate maxNodes single → classes ≡ replicate maxNodes 0 → GroupsLeft n g c s from 0 0 c from least firsts kinds classes
+  groups-start least firsts kinds classes small l k v =
       let e : g - 0 ≡ g = omega arith in
       record {
         result = ap (λ (x : ℕ). groupsRead n x (taken least) 0 c s from) e ∙ groups-alike n g (taken least) (λ p. false) (λ p h. free p (omega arith)) 0 c s from;
         nodes = filled-size least noNode l;
-        groups = filled-size kinds single k;
         first = λ p h. ap₂ (λ (b : Bool) (x : ℕ). cond b (getD least p 0) (firstMemberOf (groupsFrom s from x) p)) (free p h) e;
-        kind = λ p h. ap₂ (λ (b : Bool) (x : ℕ). cond b (getD kinds p 0) (kindLed (groupsFrom s from x) p)) (leads-not least p (λ f. omega (arith, none p h))) e;
-        others = λ p h _. ap (λ (t : List ℕ). getD t p 0) k ∙ getD-replicate {A = ℕ} maxNodes p single 0 h;
+        kind = numbers kindIn kinds k;
+        class = numbers classOf classes v;
         led = λ t h. absurd (omega arith);
         ascend = record { small = λ t h. absurd (omega arith); order = λ t u a b. absurd (omega arith) };
         passed = λ t h. absurd (omega arith);
@@ -480,7 +516,12 @@ module _ (n g : ℕ) (c : Counts) (s : List ℕ) (from : ℕ) where
       free : (p : ℕ) → p < maxNodes → taken least p ≡ false
       free p h = taken-no least p noNode (sym (none p h)) refl
 
-  module _ (i low : ℕ) (left : Counts) (at : ℕ) (least firsts kinds : List ℕ) (more : i < g) (before : GroupsLeft n g c s from i low left at least firsts kinds) (r : Grouped) (least′ : List ℕ) (got : GroupTaken n low left s at least least′ r) where
+      numbers : (number : reading.Head × List ℕ → ℕ) (t : List ℕ) → t ≡ replicate maxNodes 0 → NumbersLeft number (groupsFrom s from g) (groupsFrom s from (g - 0)) least t
+      numbers number t z =
+          let e : g - 0 ≡ g = omega arith in
+          rw e (numbers-start number (groupsFrom s from g) least t (λ p h. leads-not least p (λ f. omega (arith, none p h))) z)
+
+  module _ (i low : ℕ) (left : Counts) (at : ℕ) (least firsts kinds classes : List ℕ) (more : i < g) (before : GroupsLeft n g c s from i low left at least firsts kinds classes) (r : Grouped) (least′ : List ℕ) (got : GroupTaken n low left s at least least′ r) where
     one-more : g - i ≡ suc (g - (i + 1))
     one-more = omega arith
 
@@ -488,20 +529,23 @@ module _ (n g : ℕ) (c : Counts) (s : List ℕ) (from : ℕ) where
     pub groups-broken : r ≡ Missing → Broken ≡ groupsRead n g (λ p. false) 0 c s from
     groups-broken e = sym (read-missing n (g - (i + 1)) (taken least) low left s at (sym (got .result) ∙ e)) ∙ (rw one-more at (before .result))
 
-    module _ (small : n ≤ maxNodes) (kind first next : ℕ) (d : Counts) (is : r ≡ Taken kind first next d) where
-      told : GroupTold n (taken least) low s at kind first next
-      told = taken-told n (taken least) low left s at kind first next d (sym (got .result) ∙ is)
+    module _ (small : n ≤ maxNodes) (kind class first next : ℕ) (d : Counts) (is : r ≡ Taken kind class first next d) where
+      told : GroupTold n (taken least) low s at kind class first next
+      told = taken-told n (taken least) low left s at kind class first next d (sym (got .result) ∙ is)
 
       put : LeastPut (listedAt s at) first least least′
-      put = got .put kind first next d is
+      put = got .put kind class first next d is
 
       pub first-small : first < maxNodes
       first-small = omega (arith, told .free first (told .listed) .0)
 
-      abbrev others : List (Bool × List ℕ)
+      abbrev others : List (reading.Head × List ℕ)
       others = groupsFrom s next (g - (i + 1))
 
-      cons : groupsFrom s at (g - i) ≡ (eqb (getD s (at + 1) 0) 0x43, listedAt s at) ∷ groupsFrom s next (g - (i + 1))
+      abbrev this : reading.Head × List ℕ
+      this = (groupHead s at, listedAt s at)
+
+      cons : groupsFrom s at (g - i) ≡ (groupHead s at, listedAt s at) ∷ groupsFrom s next (g - (i + 1))
       cons = ap (groupsFrom s at) one-more ∙ from-step s at (g - (i + 1)) next (told .after)
 
       mine : (p : ℕ) → member p (listedAt s at) ≡ true → getD least′ p 0 ≡ first
@@ -544,51 +588,56 @@ module _ (n g : ℕ) (c : Counts) (s : List ℕ) (from : ℕ) where
               ap₂ (λ (b : Bool) (y : ℕ). cond b y x) (taken-by least′ least p (kept p m)) (kept p m)
               ∙ sym (ap (λ (b : Bool). cond (taken least p) (getD least p 0) (cond b (headOr 0 (listedAt s at)) x)) m)
 
-      kind-step : (p x : ℕ) → p < maxNodes → cond (leads least′ p) (getD (set kinds first kind) p 0) x ≡ cond (leads least p) (getD kinds p 0) (cond (eqb p (headOr 0 (listedAt s at))) (kindMarked (eqb (getD s (at + 1) 0) 0x43) (length (listedAt s at))) x)
-      kind-step p x h = by (decide (eqb p first))
-        where
-          marked : ℕ
-          marked = kindMarked (eqb (getD s (at + 1) 0) 0x43) (length (listedAt s at))
+      -- a number of the group stands at its first member
+      module _ (number : reading.Head × List ℕ → ℕ) (t : List ℕ) (k : ℕ) (is-number : k ≡ number (groupHead s at, listedAt s at)) (left-before : NumbersLeft number (groupsFrom s from g) (groupsFrom s at (g - i)) least t) where
+        number-step : (p x : ℕ) → p < maxNodes → cond (leads least′ p) (getD (set t first k) p 0) x ≡ cond (leads least p) (getD t p 0) (cond (eqb p (headOr 0 (listedAt s at))) (number (groupHead s at, listedAt s at)) x)
+        number-step p x h = by (decide (eqb p first))
+          where
+            by : (eqb p first ≡ true) ⊎ (eqb p first ≡ false) → cond (leads least′ p) (getD (set t first k) p 0) x ≡ cond (leads least p) (getD t p 0) (cond (eqb p (headOr 0 (listedAt s at))) (number (groupHead s at, listedAt s at)) x)
+            by (inl e) =
+                let f : p ≡ first = eqb-true p first e in
+                ap₂ (λ (b : Bool) (y : ℕ). cond b y x) (ap (leads least′) f ∙ leads-first) (ap (λ (y : ℕ). getD (set t first k) y 0) f ∙ getD-set-same t first k 0 (omega (arith, first-small, left-before .size)) ∙ is-number)
+                ∙ sym (ap₂ (λ (b b′ : Bool). cond b (getD t p 0) (cond b′ (number this) x)) (ap (leads least) f ∙ leads-not-yet first first-small (told .listed)) (ap (eqb p) (sym (told .leader)) ∙ e))
+            by (inr e) =
+                ap₂ (λ (b : Bool) (y : ℕ). cond b y x) (leads-other p h (eqb-false p first e)) (getD-set-other t first p k 0 (eqb-false p first e))
+                ∙ sym (ap (λ (b : Bool). cond (leads least p) (getD t p 0) (cond b (number this) x)) (ap (eqb p) (sym (told .leader)) ∙ e))
 
-          by : (eqb p first ≡ true) ⊎ (eqb p first ≡ false) → cond (leads least′ p) (getD (set kinds first kind) p 0) x ≡ cond (leads least p) (getD kinds p 0) (cond (eqb p (headOr 0 (listedAt s at))) (kindMarked (eqb (getD s (at + 1) 0) 0x43) (length (listedAt s at))) x)
-          by (inl e) =
-              let f : p ≡ first = eqb-true p first e in
-              ap₂ (λ (b : Bool) (y : ℕ). cond b y x) (ap (leads least′) f ∙ leads-first) (ap (λ (y : ℕ). getD (set kinds first kind) y 0) f ∙ getD-set-same kinds first kind 0 (omega (arith, first-small, before .groups)) ∙ told .sort)
-              ∙ sym (ap₂ (λ (b b′ : Bool). cond b (getD kinds p 0) (cond b′ marked x)) (ap (leads least) f ∙ leads-not-yet first first-small (told .listed)) (ap (eqb p) (sym (told .leader)) ∙ e))
-          by (inr e) =
-              ap₂ (λ (b : Bool) (y : ℕ). cond b y x) (leads-other p h (eqb-false p first e)) (getD-set-other kinds first p kind 0 (eqb-false p first e))
-              ∙ sym (ap (λ (b : Bool). cond (leads least p) (getD kinds p 0) (cond b marked x)) (ap (eqb p) (sym (told .leader)) ∙ e))
+        numbers-more : NumbersLeft number (groupsFrom s from g) (groupsFrom s next (g - (i + 1))) least′ (set t first k)
+        numbers-more = record {
+          size = length-set t first k ∙ left-before .size;
+          told = λ p h. number-step p (ledBy number others p) h ∙ sym (ap (λ (l : List (reading.Head × List ℕ)). cond (leads least p) (getD t p 0) (ledBy number l p)) cons ∙ (unfold ledBy in refl)) ∙ left-before .told p h;
+          others = λ p h f. unled p h f (decide (eqb p first));
+        }
+          where
+            unled : (p : ℕ) → p < maxNodes → leads least′ p ≡ false → (eqb p first ≡ true) ⊎ (eqb p first ≡ false) → getD (set t first k) p 0 ≡ 0
+            unled p h f (inl e) = differ (ap (leads least′) (eqb-true p first e) ∙ leads-first) f
+            unled p h f (inr e) = getD-set-other t first p k 0 (eqb-false p first e) ∙ left-before .others p h (sym (leads-other p h (eqb-false p first e)) ∙ f)
 
       first-here : firstAt (groupsFrom s from g) i ≡ first
       first-here =
           let e : i + 0 ≡ i = omega arith in
-          (rw e at (before .shifted 0)) ∙ ap (λ (l : List (Bool × List ℕ)). firstAt l 0) cons ∙ at-zero (eqb (getD s (at + 1) 0) 0x43, listedAt s at) others ∙ sym (told .leader)
+          (rw e at (before .shifted 0)) ∙ ap (λ (l : List (reading.Head × List ℕ)). firstAt l 0) cons ∙ at-zero this others ∙ sym (told .leader)
 
-      pub groups-more : i < length firsts → GroupsLeft n g c s from (i + 1) (first + 1) d next least′ (set firsts i first) (set kinds first kind)
+      pub groups-more : i < length firsts → GroupsLeft n g c s from (i + 1) (first + 1) d next least′ (set firsts i first) (set kinds first kind) (set classes first class)
       groups-more fits = record {
         result =
             groups-alike n (g - (i + 1)) (taken least′) (λ p. member p (listedAt s at) || taken least p) (λ p h. taken-more p) (first + 1) d s next
             ∙ ap (λ (x : ℕ). groupsRead n (g - (i + 1)) (λ p. member p (listedAt s at) || taken least p) x d s next) one
-            ∙ sym (read-taken n (g - (i + 1)) (taken least) low left s at kind first next d (sym (got .result) ∙ is))
+            ∙ sym (read-taken n (g - (i + 1)) (taken least) low left s at kind class first next d (sym (got .result) ∙ is))
             ∙ (rw one-more at (before .result));
         nodes = put .size ∙ before .nodes;
-        groups = length-set kinds first kind ∙ before .groups;
-        first = λ p h. first-step p (firstMemberOf others p) ∙ sym (ap (λ (l : List (Bool × List ℕ)). cond (taken least p) (getD least p 0) (firstMemberOf l p)) cons ∙ (unfold firstMemberOf in refl)) ∙ before .first p h;
-        kind = λ p h. kind-step p (kindLed others p) h ∙ sym (ap (λ (l : List (Bool × List ℕ)). cond (leads least p) (getD kinds p 0) (kindLed l p)) cons ∙ (unfold kindLed in refl)) ∙ before .kind p h;
-        others = λ p h f. unled p h f (decide (eqb p first));
+        first = λ p h. first-step p (firstMemberOf others p) ∙ sym (ap (λ (l : List (reading.Head × List ℕ)). cond (taken least p) (getD least p 0) (firstMemberOf l p)) cons ∙ (unfold firstMemberOf in refl)) ∙ before .first p h;
+        kind = numbers-more kindIn kinds kind (told .sort) (before .kind);
+        class = numbers-more classOf classes class (told .label) (before .class);
         led = λ k h. led k h (decide (eqb k i));
         ascend = record { small = λ k h. inside k h (decide (eqb k i)); order = λ k l a b. order k l a b (decide (eqb l i)) };
         passed = λ k h. passed k h (decide (eqb k i));
-        shifted = λ k. let e : i + 1 + k ≡ i + suc k = omega arith in rw e (before .shifted (suc k) ∙ ap (λ (l : List (Bool × List ℕ)). firstAt l (suc k)) cons ∙ at-suc (eqb (getD s (at + 1) 0) 0x43, listedAt s at) others k);
+        shifted = λ k. let e : i + 1 + k ≡ i + suc k = omega arith in rw e (before .shifted (suc k) ∙ ap (λ (l : List (reading.Head × List ℕ)). firstAt l (suc k)) cons ∙ at-suc this others k);
         rest = sym (after-step s at (g - (i + 1)) next (told .after)) ∙ (rw one-more at (before .rest));
       }
         where
           one : first + 1 ≡ suc first
           one = omega arith
-
-          unled : (p : ℕ) → p < maxNodes → leads least′ p ≡ false → (eqb p first ≡ true) ⊎ (eqb p first ≡ false) → getD (set kinds first kind) p 0 ≡ single
-          unled p h f (inl e) = differ (ap (leads least′) (eqb-true p first e) ∙ leads-first) f
-          unled p h f (inr e) = getD-set-other kinds first p kind 0 (eqb-false p first e) ∙ before .others p h (sym (leads-other p h (eqb-false p first e)) ∙ f)
 
           led : (k : ℕ) → k < i + 1 → (eqb k i ≡ true) ⊎ (eqb k i ≡ false) → getD (set firsts i first) k 0 ≡ firstAt (groupsFrom s from g) k
           led k h (inl e) = rw (eqb-true k i e, getD-set-same firsts i first 0 fits) (sym first-here)
@@ -609,24 +658,26 @@ module _ (n g : ℕ) (c : Counts) (s : List ℕ) (from : ℕ) where
           passed k h (inr e) = rw (getD-set-other firsts i k first 0 (eqb-false k i e)) (omega (arith, before .passed k (omega (arith, eqb-false k i e)), told .from))
 
   -- what the function hands back: all groups, or none
-  pub groups-none : (least firsts₀ firsts kinds : List ℕ) → length least ≡ maxNodes → length kinds ≡ maxNodes → length firsts ≡ length firsts₀ → Broken ≡ groupsRead n g (λ p. false) 0 c s from → GroupsRead n g c s from least firsts₀ firsts kinds Broken
-  groups-none least firsts₀ firsts kinds a b h e = record { result = e; nodes = a; groups = b; size = h; held = λ next left f. none f }
+  pub groups-none : (least firsts₀ firsts kinds classes : List ℕ) → length least ≡ maxNodes → length kinds ≡ maxNodes → length classes ≡ maxNodes → length firsts ≡ length firsts₀ → Broken ≡ groupsRead n g (λ p. false) 0 c s from → GroupsRead n g c s from least firsts₀ firsts kinds classes Broken
+  groups-none least firsts₀ firsts kinds classes a b v h e = record { result = e; nodes = a; groups = b; labels = v; size = h; held = λ next left f. none f }
     where
-      none : {next : ℕ} {left : Counts} → Broken ≡ Whole next left → GroupsHeld n g s from next least firsts kinds
+      none : {next : ℕ} {left : Counts} → Broken ≡ Whole next left → GroupsHeld n g s from next least firsts kinds classes
       none f = let z : _≡_ {A = ℕ} 0 1 = cc in absurd (omega arith)
 
-  pub groups-all : (i low : ℕ) (left : Counts) (at : ℕ) (least firsts₀ firsts kinds : List ℕ) → i ≡ g → length firsts ≡ length firsts₀ → GroupsLeft n g c s from i low left at least firsts kinds → GroupsRead n g c s from least firsts₀ firsts kinds (Whole at left)
-  groups-all i low left at least firsts₀ firsts kinds last a x = record {
+  pub groups-all : (i low : ℕ) (left : Counts) (at : ℕ) (least firsts₀ firsts kinds classes : List ℕ) → i ≡ g → length firsts ≡ length firsts₀ → GroupsLeft n g c s from i low left at least firsts kinds classes → GroupsRead n g c s from least firsts₀ firsts kinds classes (Whole at left)
+  groups-all i low left at least firsts₀ firsts kinds classes last a x = record {
     result = sym (ifWhole (g - i) none) ∙ x .result;
     nodes = x .nodes;
-    groups = x .groups;
+    groups = x .kind .size;
+    labels = x .class .size;
     size = a;
     held =
         λ next l e.
         let f : next ≡ at = cc in
         record {
-          first = λ p h. sym (taken-or least p) ∙ sym (ap (λ (y : List (Bool × List ℕ)). cond (taken least p) (getD least p 0) (firstMemberOf y p)) ended ∙ (unfold firstMemberOf in refl)) ∙ x .first p h;
-          kind = λ p h. sym (unmarked p h (decide (leads least p))) ∙ sym (ap (λ (y : List (Bool × List ℕ)). cond (leads least p) (getD kinds p 0) (kindLed y p)) ended ∙ (unfold kindLed in refl)) ∙ x .kind p h;
+          first = λ p h. sym (taken-or least p) ∙ sym (ap (λ (y : List (reading.Head × List ℕ)). cond (taken least p) (getD least p 0) (firstMemberOf y p)) ended ∙ (unfold firstMemberOf in refl)) ∙ x .first p h;
+          kind = numbers-done kindIn ended (x .kind);
+          class = numbers-done classOf ended (x .class);
           led = λ k h. x .led k (omega arith);
           ascend = record { small = λ k h. x .ascend .small k (omega arith); order = λ k m a b. x .ascend .order k m a (omega arith) };
           rest = ap (λ (y : ℕ). drop y s) f ∙ sym (after (g - i) none) ∙ x .rest;
@@ -644,7 +695,3 @@ module _ (n g : ℕ) (c : Counts) (s : List ℕ) (from : ℕ) where
 
       ended : groupsFrom s at (g - i) ≡ []
       ended = unfold groupsFrom groupsAt in rw none
-
-      unmarked : (p : ℕ) → p < maxNodes → (leads least p ≡ true) ⊎ (leads least p ≡ false) → cond (leads least p) (getD kinds p 0) single ≡ getD kinds p 0
-      unmarked p h (inl t) = rw t
-      unmarked p h (inr t) = ap (λ (b : Bool). cond b (getD kinds p 0) single) t ∙ sym (x .others p h t)

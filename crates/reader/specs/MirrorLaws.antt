@@ -22,10 +22,10 @@ use Rattle.reader.specs.Decoding.{FirstsAscend, JoinedRead, SuperedgesRe
 use Rattle.reader.specs.SuperedgeLaws.{here-or-not, ordered-first, ordered-second, refuted, stop-pair, stops-empty}
 
 -- few superedges, or many
-pub few-bound : (w n : ℕ) → w ≤ 8 → n ≤ maxNodes → (6 + 24 * w) * n ≤ 198 * maxNodes
-few-bound w n h l = let k : 6 + 24 * w ≤ 198 = omega arith in mul-le-mul k l
+pub few-bound : (w n : ℕ) → w ≤ 8 → n ≤ maxNodes → (8 + 24 * w) * n ≤ 200 * maxNodes
+few-bound w n h l = let k : 8 + 24 * w ≤ 200 = omega arith in mul-le-mul k l
 
-pub few-is : (bytes n w : ℕ) → w ≡ (n + 63) / 64 → leb bytes (384 + (6 + 24 * w) * n) ≡ isFew bytes n
+pub few-is : (bytes n w : ℕ) → w ≡ (n + 63) / 64 → leb bytes (384 + (8 + 24 * w) * n) ≡ isFew bytes n
 unfolding isFew
 few-is bytes n w e = rw e
 

@@ -45,7 +45,7 @@ module _ (s : List ℕ) (at : ℕ) (r : Read) (read : r ≡ recordAt s at) (c : 
       by-kind (Superedge i j) e = unfold endsAt in rw (← item-is s at r read, e)
       by-kind End e = absurd (h e)
       by-kind (Head x y z) e = unfold endsAt in rw (← item-is s at r read, e)
-      by-kind (Group x y) e = unfold endsAt in rw (← item-is s at r read, e)
+      by-kind (Group x y z) e = unfold endsAt in rw (← item-is s at r read, e)
       by-kind Malformed e = unfold endsAt in rw (← item-is s at r read, e)
 
   module _ (end : r .item ≡ End) where
@@ -76,7 +76,7 @@ module _ (s : List ℕ) (at : ℕ) where
       by-kind (Superedge a j) e = by-test a j e (decide (f a j))
       by-kind End e = none (λ b k d. let w = sym e ∙ d in let z : _≡_ {A = ℕ} 0 1 = cc in absurd (omega arith))
       by-kind (Head x y z) e = none (λ b k d. let w = sym e ∙ d in let z : _≡_ {A = ℕ} 0 1 = cc in absurd (omega arith))
-      by-kind (Group x y) e = none (λ b k d. let w = sym e ∙ d in let z : _≡_ {A = ℕ} 0 1 = cc in absurd (omega arith))
+      by-kind (Group x y z) e = none (λ b k d. let w = sym e ∙ d in let z : _≡_ {A = ℕ} 0 1 = cc in absurd (omega arith))
       by-kind Malformed e = none (λ b k d. let w = sym e ∙ d in let z : _≡_ {A = ℕ} 0 1 = cc in absurd (omega arith))
 
 -- no superedge that passes a test: the way out
@@ -84,7 +84,7 @@ on-none : {A : Type 0} (r : Record) (t : ℕ → ℕ → Bool) (f : ℕ → ℕ 
 on-none (Superedge i j) t f x h = rw (h i j refl)
 on-none End t f x h = refl
 on-none (Head n m g) t f x h = refl
-on-none (Group q count) t f x h = refl
+on-none (Group q count class) t f x h = refl
 on-none Malformed t f x h = refl
 
 -- which superedges a run takes

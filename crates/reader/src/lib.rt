@@ -79,10 +79,11 @@ fn read_members(
     Lessened::Left(left)
 }
 
-// A group just taken: its kind and first member, the place after it, and what is left of the counts.
+// A group just taken: its kind, its class and first member, the place after it, and what is left of the counts.
 enum Grouped {
     Taken {
         kind: u16,
+        class: u16,
         first: usize,
         next: usize,
         left: Counts,
@@ -105,9 +106,17 @@ fn take_group(
     let read = records::record_at(file, at);
     let item = read.item;
     let from = read.next;
-    let Record::Group { clique, count } = item else {
+    let Record::Group {
+        clique,
+        count,
+        class,
+    } = item
+    else {
         return Grouped::Missing;
     };
+    if class as usize >= Graph::CLASSES {
+        return Grouped::Missing;
+    }
     let members = count as usize;
     if members < least_count(clique) {
         return Grouped::Missing;
@@ -123,6 +132,7 @@ fn take_group(
     };
     Grouped::Taken {
         kind: kind_of(clique, members),
+        class,
         first: records::node_at(file, from),
         next: from + 2 * members,
         left,
@@ -145,9 +155,10 @@ fn read_groups(
     least: &mut [u16],
     firsts: &mut [u16],
     kinds: &mut [u16],
+    classes: &mut [u16],
 ) -> Groups
-    requires { ⌜ (n ≤ maxNodes) × (g ≤ maxNodes) × (g ≤ length (now firsts)) × (now least ≡ replicate maxNodes noNode) × (now kinds ≡ replicate maxNodes single) ⌝ }
-    ensures { λ r. ⌜ GroupsRead n g counts (now (file .entry)) from (now (least .exit)) (now (firsts .entry)) (now (firsts .exit)) (now (kinds .exit)) r ⌝ }
+    requires { ⌜ (n ≤ maxNodes) × (g ≤ maxNodes) × (g ≤ length (now firsts)) × (now least ≡ replicate maxNodes noNode) × (now kinds ≡ replicate maxNodes single) × (now classes ≡ replicate maxNodes 0) ⌝ }
+    ensures { λ r. ⌜ GroupsRead n g counts (now (file .entry)) from (now (least .exit)) (now (firsts .entry)) (now (firsts .exit)) (now (kinds .exit)) (now (classes .exit)) r ⌝ }
 {
     let mut at = from;
     let mut low = 0;
@@ -155,6 +166,7 @@ fn read_groups(
     for i in 0..g {
         let Grouped::Taken {
             kind,
+            class,
             first,
             next,
             left: less,
@@ -163,6 +175,7 @@ fn read_groups(
             return Groups::Broken;
         };
         kinds[first] = kind;
+        classes[first] = class;
         firsts[i] = first as u16;
         low = first + 1;
         at = next;
@@ -244,7 +257,7 @@ pub fn are_few(bytes: usize, n: usize) -> bool
     requires { ⌜ n ≤ maxNodes ⌝ }
     ensures { λ r. ⌜ r ≡ isFew bytes n ⌝ }
 {
-    bytes <= 384 + (6 + 24 * rows::word_of(n + 63)) * n
+    bytes <= 384 + (8 + 24 * rows::word_of(n + 63)) * n
 }
 
 // The superedges of a file, both ways; the sums of groups if they are few. The first place without one in order.
@@ -314,11 +327,12 @@ fn read_body(
     g: usize,
     least: &mut [u16],
     kinds: &mut [u16],
+    classes: &mut [u16],
     joined: &mut [u64],
     sums: &mut [u32],
 ) -> bool
-    requires { ⌜ (from ≡ 8) × (n ≤ maxNodes) × (g ≤ maxNodes) × Blank (now file) (now least) (now kinds) (now joined) × StripsFor n (length (now joined)) × (now sums ≡ replicate (2 * maxNodes) 0) ⌝ }
-    ensures { λ r. ⌜ BodyRead (now (file .entry)) n m g (now (least .exit)) (now (kinds .exit)) (now (joined .exit)) (now (sums .exit)) r ⌝ }
+    requires { ⌜ (from ≡ 8) × (n ≤ maxNodes) × (g ≤ maxNodes) × Blank (now file) (now least) (now kinds) (now classes) (now joined) × StripsFor n (length (now joined)) × (now sums ≡ replicate (2 * maxNodes) 0) ⌝ }
+    ensures { λ r. ⌜ BodyRead (now (file .entry)) n m g (now (least .exit)) (now (kinds .exit)) (now (classes .exit)) (now (joined .exit)) (now (sums .exit)) r ⌝ }
 {
     let mut firsts = [0u16; Graph::NODES];
     let counts = Counts {
@@ -334,6 +348,7 @@ fn read_body(
         least,
         &mut firsts,
         kinds,
+        classes,
     ) else {
         return false;
     };
@@ -348,11 +363,12 @@ fn graph_at(
     head: Record,
     least: &mut [u16],
     kinds: &mut [u16],
+    classes: &mut [u16],
     joined: &mut [u64],
     sums: &mut [u32],
 ) -> Decoded
-    requires { ⌜ AfterHead (now file) at head × (Blank (now file) (now least) (now kinds) (now joined) × (now sums ≡ replicate (2 * maxNodes) 0)) ⌝ }
-    ensures { λ r. ⌜ Decodes (now (file .entry)) (now (least .exit)) (now (kinds .exit)) (now (joined .exit)) r ⌝ }
+    requires { ⌜ AfterHead (now file) at head × (Blank (now file) (now least) (now kinds) (now classes) (now joined) × (now sums ≡ replicate (2 * maxNodes) 0)) ⌝ }
+    ensures { λ r. ⌜ Decodes (now (file .entry)) (now (least .exit)) (now (kinds .exit)) (now (classes .exit)) (now (joined .exit)) r ⌝ }
     ensures { λ _. ⌜ SumsKept (now (file .entry)) (now (least .exit)) (now (joined .exit)) (now (sums .exit)) ⌝ }
 {
     let Record::Head { n, m, g } = head else {
@@ -364,7 +380,18 @@ fn graph_at(
     if !head_fits(nodes, visible, groups) {
         return Decoded::NoRelease;
     }
-    if !read_body(file, at, nodes, visible, groups, least, kinds, joined, sums) {
+    if !read_body(
+        file,
+        at,
+        nodes,
+        visible,
+        groups,
+        least,
+        kinds,
+        classes,
+        joined,
+        sums,
+    ) {
         return Decoded::NoRelease;
     }
     Decoded::Graph { n: nodes }
@@ -409,14 +436,24 @@ impl<'a> Reader<'a> {
         head: Record,
         least: &mut [u16],
         kinds: &mut [u16],
+        classes: &mut [u16],
         joined: &mut [u64],
         sums: &mut [u32],
     ) -> Decoded
-        requires { ⌜ AfterHead (now (self .file)) (self .at) head × (Blank (now (self .file)) (now least) (now kinds) (now joined) × (now sums ≡ replicate (2 * maxNodes) 0)) ⌝ }
-        ensures { λ r. ⌜ Decodes (now (self .entry .file)) (now (least .exit)) (now (kinds .exit)) (now (joined .exit)) r ⌝ }
+        requires { ⌜ AfterHead (now (self .file)) (self .at) head × (Blank (now (self .file)) (now least) (now kinds) (now classes) (now joined) × (now sums ≡ replicate (2 * maxNodes) 0)) ⌝ }
+        ensures { λ r. ⌜ Decodes (now (self .entry .file)) (now (least .exit)) (now (kinds .exit)) (now (classes .exit)) (now (joined .exit)) r ⌝ }
         ensures { λ _. ⌜ SumsKept (now (self .entry .file)) (now (least .exit)) (now (joined .exit)) (now (sums .exit)) ⌝ }
     {
-        graph_at(self.file, self.at, head, least, kinds, joined, sums)
+        graph_at(
+            self.file,
+            self.at,
+            head,
+            least,
+            kinds,
+            classes,
+            joined,
+            sums,
+        )
     }
 }
 
@@ -430,21 +467,22 @@ pub fn nodes_in(file: &[u8]) -> usize
     records::node_at(file, 2)
 }
 
-// A release file read into the lent arrays, in which no node has a group, a kind, a bit or a sum before.
+// A release file read into the lent arrays, in which no node has a group, a kind, a class, a bit or a sum before.
 pub fn decode(
     file: &[u8],
     least: &mut [u16],
     kinds: &mut [u16],
+    classes: &mut [u16],
     joined: &mut [u64],
     sums: &mut [u32],
 ) -> Decoded
-    requires { ⌜ Blank (now file) (now least) (now kinds) (now joined) × (now sums ≡ replicate (2 * maxNodes) 0) ⌝ }
-    ensures { λ r. ⌜ Decodes (now (file .entry)) (now (least .exit)) (now (kinds .exit)) (now (joined .exit)) r ⌝ }
+    requires { ⌜ Blank (now file) (now least) (now kinds) (now classes) (now joined) × (now sums ≡ replicate (2 * maxNodes) 0) ⌝ }
+    ensures { λ r. ⌜ Decodes (now (file .entry)) (now (least .exit)) (now (kinds .exit)) (now (classes .exit)) (now (joined .exit)) r ⌝ }
     ensures { λ _. ⌜ SumsKept (now (file .entry)) (now (least .exit)) (now (joined .exit)) (now (sums .exit)) ⌝ }
 {
     let reader = start(file, 0);
     let read = reader.record();
     reader
         .moved(read.next)
-        .graph(read.item, least, kinds, joined, sums)
+        .graph(read.item, least, kinds, classes, joined, sums)
 }

@@ -88,13 +88,13 @@ module _ (s : List ℕ) (at : ℕ) where
   unfolding headAt headItem readAs sizeOf
   head-full n m g h a b c = rw (full 8 (Head (u16At (drop at s) 2) (u16At (drop at s) 4) (u16At (drop at s) 6)) h, u16-drop 2, u16-drop 4, u16-drop 6, ← a, ← b, ← c)
 
-  pub group-short : (q : Bool) → at ≤ length s → length s < at + 4 → malformedAt at ≡ groupAt q s at
+  pub group-short : (q : Bool) → at ≤ length s → length s < at + 6 → malformedAt at ≡ groupAt q s at
   unfolding malformedAt groupAt groupItem
-  group-short q l h = ap (readAs at) (sym (short 4 (Group q (u16At (drop at s) 2)) l h))
+  group-short q l h = ap (readAs at) (sym (short 6 (Group q (u16At (drop at s) 2) (u16At (drop at s) 4)) l h))
 
-  pub group-full : (q : Bool) (n : ℕ) → at + 4 ≤ length s → n ≡ u16At s (at + 2) → record { next = at + 4; item = Group q n } ≡ groupAt q s at
+  pub group-full : (q : Bool) (n k : ℕ) → at + 6 ≤ length s → n ≡ u16At s (at + 2) → k ≡ u16At s (at + 4) → record { next = at + 6; item = Group q n k } ≡ groupAt q s at
   unfolding groupAt groupItem readAs sizeOf
-  group-full q n h a = rw (full 4 (Group q (u16At (drop at s) 2)) h, u16-drop 2, ← a)
+  group-full q n k h a b = rw (full 6 (Group q (u16At (drop at s) 2) (u16At (drop at s) 4)) h, u16-drop 2, u16-drop 4, ← a, ← b)
 
   pub superedge-short : at ≤ length s → length s < at + 6 → malformedAt at ≡ superedgeAt s at
   unfolding malformedAt superedgeAt superedgeItem
@@ -144,7 +144,7 @@ module _ (s : List ℕ) (at : ℕ) where
 -- what the record that bytes begin with tells of them
 abbrev pub Fits : List ℕ → Record → Type 0
 Fits r (Head n m g) = (8 ≤ length r) × (n ≡ u16At r 2) × (m ≡ u16At r 4) × (g ≡ u16At r 6)
-Fits r (Group q count) = (4 ≤ length r) × (count ≡ u16At r 2) × (q ≡ eqb (getD r 1 0) 0x43)
+Fits r (Group q count class) = (6 ≤ length r) × (count ≡ u16At r 2) × (class ≡ u16At r 4) × (q ≡ eqb (getD r 1 0) 0x43)
 Fits r (Superedge i j) = (6 ≤ length r) × (i ≡ u16At r 2) × (j ≡ u16At r 4) × (isMark r 0x53 0x45 ≡ true)
 Fits r End = (2 ≤ length r) × (getD r 0 0 ≡ 0x45)
 Fits r Malformed = Unit {0}
@@ -166,8 +166,8 @@ unfolding itemIn isMark superedgeItem groupItem headItem
 item-fits r =
     cond-fits r (ltb (length r) 2) Malformed _ (λ t. tt) (λ room.
     cond-fits r (eqb (getD r 0 0) 0x53 && eqb (getD r 1 0) 0x45) (superedgeItem r) _ (λ t. whole-fits r 6 (Superedge (u16At r 2) (u16At r 4)) (λ l. (l, refl, refl, t))) (λ _.
-    cond-fits r (eqb (getD r 0 0) 0x47 && eqb (getD r 1 0) 0x49) (groupItem false r) _ (λ t. whole-fits r 4 (Group false (u16At r 2)) (λ l. (l, refl, sym (ne-eqb (getD r 1 0) 0x43 (λ e. omega (arith, eqb-true (getD r 1 0) 0x49 (and-snd (eqb (getD r 0 0) 0x47) (eqb (getD r 1 0) 0x49) t))))))) (λ _.
-    cond-fits r (eqb (getD r 0 0) 0x47 && eqb (getD r 1 0) 0x43) (groupItem true r) _ (λ t. whole-fits r 4 (Group true (u16At r 2)) (λ l. (l, refl, sym (and-snd (eqb (getD r 0 0) 0x47) (eqb (getD r 1 0) 0x43) t)))) (λ _.
+    cond-fits r (eqb (getD r 0 0) 0x47 && eqb (getD r 1 0) 0x49) (groupItem false r) _ (λ t. whole-fits r 6 (Group false (u16At r 2) (u16At r 4)) (λ l. (l, refl, refl, sym (ne-eqb (getD r 1 0) 0x43 (λ e. omega (arith, eqb-true (getD r 1 0) 0x49 (and-snd (eqb (getD r 0 0) 0x47) (eqb (getD r 1 0) 0x49) t))))))) (λ _.
+    cond-fits r (eqb (getD r 0 0) 0x47 && eqb (getD r 1 0) 0x43) (groupItem true r) _ (λ t. whole-fits r 6 (Group true (u16At r 2) (u16At r 4)) (λ l. (l, refl, refl, sym (and-snd (eqb (getD r 0 0) 0x47) (eqb (getD r 1 0) 0x43) t)))) (λ _.
     cond-fits r (eqb (getD r 0 0) 0x48 && eqb (getD r 1 0) 0x44) (headItem r) _ (λ t. whole-fits r 8 (Head (u16At r 2) (u16At r 4) (u16At r 6)) (λ l. (l, refl, refl, refl))) (λ _.
     cond-fits r (eqb (getD r 0 0) 0x45 && eqb (getD r 1 0) 0x4E) End Malformed (λ t. (ltb-false (length r) 2 room, eqb-true (getD r 0 0) 0x45 (and-fst (eqb (getD r 0 0) 0x45) (eqb (getD r 1 0) 0x4E) t))) (λ _. tt))))))
 
@@ -193,7 +193,7 @@ from-told : (r : List ℕ) (i : ℕ) (x : Record) → Fits r x → isFrom i x �
 unfolding isFrom
 from-told r i (Superedge a j) f t = (f .0, f .3, sym (f .1) ∙ from-first i a j t)
 from-told r i (Head n m g) f t = differ t refl
-from-told r i (Group q count) f t = differ t refl
+from-told r i (Group q count class) f t = differ t refl
 from-told r i End f t = differ t refl
 from-told r i Malformed f t = differ t refl
 

@@ -31,7 +31,7 @@ unfoldable pub headItem : List ℕ → Record
 headItem r = ifWhole r 8 (Head (u16At r 2) (u16At r 4) (u16At r 6))
 
 unfoldable pub groupItem : Bool → List ℕ → Record
-groupItem clique r = ifWhole r 4 (Group clique (u16At r 2))
+groupItem clique r = ifWhole r 6 (Group clique (u16At r 2) (u16At r 4))
 
 unfoldable pub superedgeItem : List ℕ → Record
 superedgeItem r = ifWhole r 6 (Superedge (u16At r 2) (u16At r 4))
@@ -48,7 +48,7 @@ itemIn r =
 
 unfoldable pub sizeOf : Record → ℕ
 sizeOf (Head n m g) = 8
-sizeOf (Group clique count) = 4
+sizeOf (Group clique count class) = 6
 sizeOf (Superedge first second) = 6
 sizeOf End = 2
 sizeOf Malformed = 0
@@ -87,7 +87,7 @@ leadOf i = u16At (0x53 ∷ 0x45 ∷ []) 0 + 65536 * i
 unfoldable pub isFrom : ℕ → Record → Bool
 isFrom i (Superedge first second) = eqb first i
 isFrom i (Head n m g) = false
-isFrom i (Group clique count) = false
+isFrom i (Group clique count class) = false
 isFrom i End = false
 isFrom i Malformed = false
 

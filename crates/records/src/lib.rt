@@ -54,9 +54,20 @@ impl Counts {
 
 // A record of a release file, with its numbers.
 pub enum Record {
-    Head { n: u16, m: u16, g: u16 },
-    Group { clique: bool, count: u16 },
-    Superedge { first: u16, second: u16 },
+    Head {
+        n: u16,
+        m: u16,
+        g: u16,
+    },
+    Group {
+        clique: bool,
+        count: u16,
+        class: u16,
+    },
+    Superedge {
+        first: u16,
+        second: u16,
+    },
     End,
     Malformed,
 }
@@ -133,18 +144,23 @@ fn head_at(file: &[u8], at: usize) -> Read
     }
 }
 
-// The start of a group, if its four bytes are there. The members follow.
+// The start of a group, if its six bytes are there. The members follow.
 fn group_at(file: &[u8], at: usize, clique: bool) -> Read
     requires { ⌜ at + 2 ≤ length (now file) ⌝ }
     ensures { λ r. ⌜ r ≡ groupAt clique (now (file .entry)) at ⌝ }
 {
-    if file.len() - at < 4 {
+    if file.len() - at < 6 {
         return malformed(at);
     }
     let count = u16_at(file, at + 2);
+    let class = u16_at(file, at + 4);
     Read {
-        next: at + 4,
-        item: Record::Group { clique, count },
+        next: at + 6,
+        item: Record::Group {
+            clique,
+            count,
+            class,
+        },
     }
 }
 

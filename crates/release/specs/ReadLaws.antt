@@ -1,20 +1,21 @@
 -- Reading a release back, and asking it, are the model's calls.
-use mathlib.Core.Path.{_≡_, refl, sym, ap, subst, _∙_}
-use mathlib.Core.Bool.{Bool, true, false, cond, not, _||_, or-true}
+use mathlib.Core.Path.{_≡_, refl, sym, ap, subst, fun-ext, _∙_}
+use mathlib.Core.Bool.{Bool, true, false, cond, not, _&&_, _||_, or-true}
 use mathlib.Core.List.{List, [], _∷_}
 use mathlib.Core.Logic.{_≢_}
-use Prim.Native.Nat.{ℕ, _*_, _≤_, _<_}
+use Prim.Native.Nat.{ℕ, suc, zero, _*_, _≤_, _<_}
 use native.Mathlib.Omega.{arith}
 use lib.Dec.{eqb, ltb}
 use lib.ListN.{length, getD}
 use borrow.Author.Tests.{lt-ltb, le-ltb, eq-eqb, ne-eqb, not-true, not-false}
-use Rattle.model.specs.Graph.{Graph, Proper, maxNodes}
+use Rattle.model.specs.Graph.{Graph, Proper, View, maxNodes}
+use Rattle.model.specs.Lists.{any, filter, headOr, nodes}
 use Rattle.model.specs.Tables.{Tables, tablesOf, edgeBit}
 use Rattle.model.specs.Refusals.{firstOf, lengths, wrongSize}
-use Rattle.model.specs.Release.{isVisible, visible}
+use Rattle.model.specs.Release.{isVisible, visible, visibleEdge}
 use Rattle.model.specs.Reading.{decode, isRelease}
 use Rattle.model.specs.Queries.{leaderIn, neighbours}
-use Rattle.model.specs.Distance.{distance}
+use Rattle.model.specs.Distance.{distance, unreachable, walk}
 use Rattle.model.specs.Calls.{fillRefused, readReasons, readCall, fileDistanceReasons, fileDistanceCall, fileNeighboursReasons, fileNeighboursCall}
 use Rattle.model.specs.TestLaws.{and-fst, and-snd}
 use Rattle.model.specs.RefusalLaws.{call-refused, first-none}
@@ -31,7 +32,7 @@ use Rattle.reader.specs.Decoding.{isFew}
 use Rattle.sums.specs.Sums.{Cubed}
 use Rattle.sums.specs.Joined.{JoinedSummed}
 use Rattle.judging.specs.Numbers.{askedNumber, readNumber}
-use Rattle.judging.specs.Judging.{Exact, Judged}
+use Rattle.judging.specs.Judging.{Exact, Judged, held}
 use Rattle.release.specs.Release.{measured}
 
 -- what a number tells of the file
@@ -40,7 +41,7 @@ unfolding firstOf
 no-first true z = absurd (omega arith)
 no-first false z = refl
 
-module _ {s first kinds joined sums : List ℕ} {r : Decoded} (j : Judged s first kinds joined sums r) where
+module _ {s first kinds classes joined sums : List ℕ} {r : Decoded} (j : Judged s first kinds classes joined sums r) where
   passed : (m : ℕ) → r ≡ answer.Graph m → isRelease s ≡ true
   passed m z = not-false _ (first-none (not (isRelease s)) 19 [] refl (sym (j .asked) ∙ ap askedNumber z ∙ unfold askedNumber in refl) .0)
 
@@ -53,7 +54,7 @@ module _ (n : ℕ) (t : Tables) (s : List ℕ) (f : Bool) (e : f ≡ not (wrongS
   unfolding readCall readReasons firstOf
   read-size z = rw (not-false (wrongSize n (lengths t)) (sym e ∙ z))
 
-  module _ (fits : f ≡ true) {first kinds joined sums : List ℕ} {r : Decoded} (j : Judged s first kinds joined sums r) where
+  module _ (fits : f ≡ true) {first kinds classes joined sums : List ℕ} {r : Decoded} (j : Judged s first kinds classes joined sums r) where
     right : wrongSize n (lengths t) ≡ false
     right = not-true (wrongSize n (lengths t)) (sym e ∙ fits)
 
@@ -75,9 +76,9 @@ module _ (n : ℕ) (t : Tables) (s : List ℕ) (f : Bool) (e : f ≡ not (wrongS
     pub read-other : (m : ℕ) → r ≡ answer.Graph m → m ≢ n → filled 20 t ≡ readCall n t s
     read-other m z d = read-refused 20 (ap (readNumber n) z ∙ unfold readNumber in rw (ne-eqb m n d)) (omega arith)
 
-    pub read-done : (m : ℕ) → r ≡ answer.Graph m → m ≡ n → {t₁ : Tables} → t₁ ≡ tablesOf (unfolded n first kinds joined) → filled 0 t₁ ≡ readCall n t s
+    pub read-done : (m : ℕ) → r ≡ answer.Graph m → m ≡ n → {t₁ : Tables} → t₁ ≡ tablesOf (held n first kinds classes joined) → filled 0 t₁ ≡ readCall n t s
     unfolding readCall readReasons firstOf
-    read-done m z d w = rw (right, passed j m z, eq-eqb (decode s .nodeCount) n (count m z ∙ d)) (ap (filled 0) (w ∙ ap tablesOf (ap (λ (k : ℕ). unfolded k first kinds joined) (sym d) ∙ j .graph m z)))
+    read-done m z d w = rw (right, passed j m z, eq-eqb (decode s .nodeCount) n (count m z ∙ d)) (ap (filled 0) (w ∙ ap tablesOf (ap (λ (k : ℕ). held k first kinds classes joined) (sym d) ∙ j .graph m z)))
 
 -- whether a node is in a group, as it is looked up
 module _ (n : ℕ) (first : List ℕ) (p : ℕ) where
@@ -89,12 +90,33 @@ module _ (n : ℕ) (first : List ℕ) (p : ℕ) where
   unfolding placed
   inside-placed h = rw (lt-ltb p n h)
 
+-- which nodes are visible does not depend on classes
+seen : (n : ℕ) (first kinds classes joined : List ℕ) (p : ℕ) → isVisible (held n first kinds classes joined) p ≡ placed n first p
+unfolding isVisible
+seen n first kinds classes joined p = placed-visible n first p kinds joined
+
+-- nor how far apart they are
+walk-same : (nodes : List ℕ) (e : ℕ → ℕ → Bool) (c d : ℕ → ℕ) (k p q : ℕ) → walk (record { nodes = nodes; edge = e; class = c }) k p q ≡ walk (record { nodes = nodes; edge = e; class = d }) k p q
+unfolding walk
+walk-same nodes e c d zero p q = refl
+walk-same nodes e c d (suc k) p q = any-cong nodes (λ r. walk (record { nodes = nodes; edge = e; class = c }) k p r && e r q) (λ r. walk (record { nodes = nodes; edge = e; class = d }) k p r && e r q) (λ r. ap (λ (b : Bool). b && e r q) (walk-same nodes e c d k p r))
+  where
+    any-cong : (l : List ℕ) (f h : ℕ → Bool) → ((r : ℕ) → f r ≡ h r) → any l f ≡ any l h
+    any-cong l f h s = ap (any l) (fun-ext s)
+
+distance-same : (n : ℕ) (first kinds classes joined : List ℕ) (p q : ℕ) → distance (visible (unfolded n first kinds joined)) p q ≡ distance (visible (held n first kinds classes joined)) p q
+unfolding distance isVisible visibleEdge
+distance-same n first kinds classes joined p q =
+    let v : View = visible (unfolded n first kinds joined) in
+    let w : View = visible (held n first kinds classes joined) in
+    ap (λ (f : ℕ → Bool). headOr unreachable (filter f (nodes (length (v .nodes))))) (fun-ext (λ k. walk-same (v .nodes) (v .edge) (v .class) (w .class) k p q))
+
 -- a file shows the nodes in its groups
-shown : {s first kinds joined sums : List ℕ} {r : Decoded} → Judged s first kinds joined sums r → (n : ℕ) → r ≡ answer.Graph n → (p : ℕ) → isVisible (decode s) p ≡ placed n first p
-shown {s} {first} {kinds} {joined} j n z p = ap (λ (g : Graph). isVisible g p) (sym (j .graph n z)) ∙ placed-visible n first p kinds joined
+shown : {s first kinds classes joined sums : List ℕ} {r : Decoded} → Judged s first kinds classes joined sums r → (n : ℕ) → r ≡ answer.Graph n → (p : ℕ) → isVisible (decode s) p ≡ placed n first p
+shown {s} {first} {kinds} {classes} {joined} j n z p = ap (λ (g : Graph). isVisible g p) (sym (j .graph n z)) ∙ seen n first kinds classes joined p
 
 -- what stands in the arrays of a release: its graph, by rows and by first members
-module _ {s first kinds joined sums : List ℕ} {r : Decoded} (j : Judged s first kinds joined sums r) (n : ℕ) (z : r ≡ answer.Graph n) where
+module _ {s first kinds classes joined sums : List ℕ} {r : Decoded} (j : Judged s first kinds classes joined sums r) (n : ℕ) (z : r ≡ answer.Graph n) where
   told-proper : Proper (decode s)
   told-proper = subst Proper (j .graph n z) (j .exact n z .proper)
 
@@ -103,7 +125,7 @@ module _ {s first kinds joined sums : List ℕ} {r : Decoded} (j : Judged s firs
 
   told-leader : (p q : ℕ) → decode s .edge p q ≡ true → getD first q 0 ≡ leaderIn (visible (decode s)) q
   unfolding leaderIn
-  told-leader p q t = j .exact n z .told q (placed-visible n first q kinds joined ∙ in-group (told-edge p q ∙ t)) ∙ ap (λ (g : Graph). leaderIn (visible g) q) (j .graph n z)
+  told-leader p q t = j .exact n z .told q (seen n first kinds classes joined q ∙ in-group (told-edge p q ∙ t)) ∙ ap (λ (g : Graph). leaderIn (visible g) q) (j .graph n z)
     where
       in-group : unfolded n first kinds joined .edge p q ≡ true → placed n first q ≡ true
       in-group e = and-fst (placed n first q) (unfoldedEdge first kinds joined p q) (and-snd (placed n first p) _ (unfold unfolded in e))
@@ -116,7 +138,7 @@ module _ {s first kinds joined sums : List ℕ} {r : Decoded} (j : Judged s firs
     ask-reached = row-reached (decode s) told-proper p row told-bits first 1 (λ q l. omega (arith, j .exact n z .compressed .nodes, told-proper .small))
 
 -- neighbours asked of a file
-module _ (s : List ℕ) (p : ℕ) (out : List ℕ) {first kinds joined sums : List ℕ} {r : Decoded} (j : Judged s first kinds joined sums r) where
+module _ (s : List ℕ) (p : ℕ) (out : List ℕ) {first kinds classes joined sums : List ℕ} {r : Decoded} (j : Judged s first kinds classes joined sums r) where
   pub ask-none : r ≡ answer.NoRelease → listed 19 0 out ≡ fileNeighboursCall s p out
   unfolding fileNeighboursCall fileNeighboursReasons firstOf
   ask-none z = rw (failed j z)
@@ -137,7 +159,7 @@ module _ (s : List ℕ) (p : ℕ) (out : List ℕ) {first kinds joined sums : Li
         number = unfold fileNeighboursReasons firstOf in rw (passed j n z, shown j n z p ∙ sym e ∙ h)
 
 -- a distance asked of a file
-module _ (s : List ℕ) (p q : ℕ) {first kinds joined sums : List ℕ} {r : Decoded} (j : Judged s first kinds joined sums r) where
+module _ (s : List ℕ) (p q : ℕ) {first kinds classes joined sums : List ℕ} {r : Decoded} (j : Judged s first kinds classes joined sums r) where
   pub measure-none : r ≡ answer.NoRelease → measured 19 0 ≡ fileDistanceCall s p q
   unfolding fileDistanceCall fileDistanceReasons firstOf
   measure-none z = rw (failed j z)
@@ -156,12 +178,12 @@ module _ (s : List ℕ) (p q : ℕ) {first kinds joined sums : List ℕ} {r : De
 
     pub measure-done : placed n first p ≡ true → placed n first q ≡ true → {d : ℕ} → d ≡ distance (visible (unfolded n first kinds joined)) p q → measured 0 d ≡ fileDistanceCall s p q
     unfolding fileDistanceCall fileDistanceReasons firstOf
-    measure-done a b e = rw (passed j n z, shown j n z p ∙ a, shown j n z q ∙ b) (ap (measured 0) (e ∙ ap (λ (g : Graph). distance (visible g) p q) (j .graph n z)))
+    measure-done a b e = rw (passed j n z, shown j n z p ∙ a, shown j n z q ∙ b) (ap (measured 0) (e ∙ distance-same n first kinds classes joined p q ∙ ap (λ (g : Graph). distance (visible g) p q) (j .graph n z)))
 
 -- what is filled
-module _ {s first kinds joined sums : List ℕ} {r : Decoded} (j : Judged s first kinds joined sums r) (m : ℕ) (e : r ≡ answer.Graph m) (n : ℕ) (d : m ≡ n) where
-  pub judged-exact : Exact n first kinds joined
-  judged-exact = subst (λ (k : ℕ). Exact k first kinds joined) d (j .exact m e)
+module _ {s first kinds classes joined sums : List ℕ} {r : Decoded} (j : Judged s first kinds classes joined sums r) (m : ℕ) (e : r ≡ answer.Graph m) (n : ℕ) (d : m ≡ n) where
+  pub judged-exact : Exact n first kinds classes joined
+  judged-exact = subst (λ (k : ℕ). Exact k first kinds classes joined) d (j .exact m e)
 
   pub judged-sums : {few : Bool} → few ≡ isFew (length s) n → few ≡ true → Cubed n first sums × JoinedSummed joined sums
   judged-sums {few} f t =

@@ -1,12 +1,10 @@
 -- What the calls on releases ask of tables and files, and what they tell.
-use mathlib.Core.Path.{_≡_}
 use mathlib.Core.Bool.{cond}
 use mathlib.Core.List.{List}
-use Prim.Native.Nat.{ℕ, _<_}
+use Prim.Native.Nat.{ℕ}
 use lib.Dec.{ltb}
-use lib.ListN.{length, getD}
+use lib.ListN.{length}
 use Rattle.model.specs.Graph.{Graph}
-use Rattle.model.specs.Tables.{nodeNumber}
 use Rattle.model.specs.Release.{release}
 use Rattle.model.specs.Calls.{Measured, Released, releaseRefused, released}
 
@@ -17,7 +15,3 @@ told g out = cond (ltb (length out) (length (release g))) (releaseRefused out 18
 -- a distance told, as the model's record of it
 abbrev pub measured : ℕ → ℕ → Measured
 measured r d = record { result = r; distance = d }
-
--- the marks of n nodes, in a list of their own
-pub record Marks (n : ℕ) (nodes hidden : List ℕ) : Type 0 where
-  pub same : (p : ℕ) → p < n → getD hidden p 0 ≡ nodeNumber nodes p 3

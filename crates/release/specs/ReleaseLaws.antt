@@ -10,7 +10,7 @@ use lib.ListN.{length, getD, take}
 use lib.Seq.{length-take-le}
 use borrow.Author.Tests.{ltb-true, lt-ltb}
 use Rattle.model.specs.Graph.{Graph, rowWords}
-use Rattle.model.specs.Tables.{Tables, graphOf, edgeBit, nodeNumber, edgesIn, markedGraph}
+use Rattle.model.specs.Tables.{Tables, graphOf, edgeBit, nodeNumber, edgesIn}
 use Rattle.model.specs.Refusals.{Reasons, firstOf}
 use Rattle.model.specs.Release.{isVisible, release, visible, visibleEdge}
 use Rattle.model.specs.Calls.{released, releaseReasons, releaseRefused, releaseCall}
@@ -18,22 +18,29 @@ use Rattle.model.specs.TestLaws.{decide}
 use Rattle.buffers.specs.Filled.{Filled}
 use Rattle.tables.specs.Lent.{tableReasons, Held}
 use Rattle.tables.specs.LentLaws.{table-refused, table-rest, held-sized}
-use Rattle.masking.specs.Masking.{Drawn}
+use Rattle.masking.specs.Masking.{Drawn, drawn}
 use Rattle.layout.specs.File.{Partition, writtenFile}
 use Rattle.layout.specs.Truth.{Truth}
 use Rattle.layout.specs.TruthLaws.{truth-partition, written-is}
 use Rattle.model.specs.ReadBackLaws.{visible-inside}
 use Rattle.model.specs.RefusalLaws.{call-done, call-refused}
-use Rattle.release.specs.Release.{told, Marks}
+use Rattle.release.specs.Release.{told}
 
--- the graph of edges and marks is that of the tables
-pub marks-graph : (n : ℕ) (t : Tables) (hidden : List ℕ) → Marks n (t .nodes) hidden → markedGraph n (t .edges) hidden ≡ graphOf n t
-unfolding markedGraph edgesIn graphOf
-marks-graph n t hidden m = λ i. record { nodeCount = n; edge = λ p q. ltb p n && (ltb q n && edgeBit (t .edges) p q); hidden = fun-ext (λ p. mark p (decide (ltb p n))) i }
+-- the graph of edges, marks and classes, these in lists of their own, is that of the tables
+pub taken-graph : (n : ℕ) (t : Tables) {hidden₀ hidden classes₀ classes : List ℕ} → Filled (λ p. nodeNumber (t .nodes) p 3) n hidden₀ hidden → Filled (λ p. nodeNumber (t .nodes) p 4) n classes₀ classes → drawn n (t .edges) hidden classes ≡ graphOf n t
+unfolding drawn graphOf
+taken-graph n t {hidden₀} {hidden} {classes₀} {classes} m k = λ i. record { nodeCount = n; edge = edgesIn n (t .edges); hidden = fun-ext (λ p. mark p (decide (ltb p n))) i; class = fun-ext (λ p. class p (decide (ltb p n))) i }
   where
     mark : (p : ℕ) → (ltb p n ≡ true) ⊎ (ltb p n ≡ false) → (ltb p n && eqb (getD hidden p 0) 1) ≡ (ltb p n && eqb (nodeNumber (t .nodes) p 3) 1)
-    mark p (inl x) = rw (m .same p (ltb-true p n x))
+    mark p (inl x) = rw (m .numbers p (ltb-true p n x))
     mark p (inr x) = rw x
+
+    class : (p : ℕ) → (ltb p n ≡ true) ⊎ (ltb p n ≡ false) → cond (ltb p n) (getD classes p 0) 0 ≡ cond (ltb p n) (nodeNumber (t .nodes) p 4) 0
+    class p (inl x) = rw (m′ p (ltb-true p n x))
+      where
+        m′ : (q : ℕ) → q < n → getD classes q 0 ≡ nodeNumber (t .nodes) q 4
+        m′ = k .numbers
+    class p (inr x) = rw x
 
 -- release
 module _ (n : ℕ) (t : Tables) (out : List ℕ) (r : ℕ) (e : r ≡ firstOf (tableReasons n t [])) where
@@ -57,61 +64,50 @@ module _ (n : ℕ) (t : Tables) (out : List ℕ) (r : ℕ) (e : r ≡ firstOf (t
       step (inr x) = rw x (call-done (releaseReasons n t out) (releaseRefused out) (released (graphOf n t) out) (first ∙ unfold firstOf in rw x))
 
 -- the writer looks at edges of visible nodes only, so it may have the table before masking
-pub truth-whole : (n : ℕ) {edges : List ℕ} (hidden : List ℕ) {lst masked : List ℕ} → length edges ≡ rowWords * n → Truth (markedGraph n edges hidden) lst masked → Truth (markedGraph n edges hidden) lst edges
-truth-whole n {edges} hidden {lst} {masked} l t = record {
+pub truth-whole : (n : ℕ) {edges : List ℕ} (hidden classes : List ℕ) {lst masked : List ℕ} → length edges ≡ rowWords * n → Truth (drawn n edges hidden classes) lst classes masked → Truth (drawn n edges hidden classes) lst classes edges
+truth-whole n {edges} hidden classes {lst} {masked} l t = record {
   proper = t .proper;
   size = t .size;
-  rows = unfold markedGraph in omega (arith, l);
+  labelled = t .labelled;
+  rows = unfold drawn in omega (arith, l);
   visible-least = t .visible-least;
   hidden-least = t .hidden-least;
+  class-is = t .class-is;
   edge-is = λ p q x y. bit p q x y;
 }
   where
-    g : Graph
-    g = markedGraph n edges hidden
+    below : (p : ℕ) → isVisible (drawn n edges hidden classes) p ≡ true → p < n
+    below p x = unfold drawn in visible-inside (drawn n edges hidden classes) p x
 
-    below : (p : ℕ) → isVisible (markedGraph n edges hidden) p ≡ true → p < n
-    below p x = unfold markedGraph in visible-inside (markedGraph n edges hidden) p x
-
-    bit : (p q : ℕ) → isVisible (markedGraph n edges hidden) p ≡ true → isVisible (markedGraph n edges hidden) q ≡ true → edgeBit edges p q ≡ visible (markedGraph n edges hidden) .edge p q
-    bit p q x y = sym (shown p q x y ∙ inside p q x y)
+    bit : (p q : ℕ) → isVisible (drawn n edges hidden classes) p ≡ true → isVisible (drawn n edges hidden classes) q ≡ true → edgeBit edges p q ≡ visible (drawn n edges hidden classes) .edge p q
+    bit p q x y = sym (shown ∙ inside)
       where
-        shown : (p q : ℕ) → isVisible (markedGraph n edges hidden) p ≡ true → isVisible (markedGraph n edges hidden) q ≡ true → visible (markedGraph n edges hidden) .edge p q ≡ markedGraph n edges hidden .edge p q
-        shown p q x y = unfold visibleEdge in rw (x, y)
+        shown : visible (drawn n edges hidden classes) .edge p q ≡ drawn n edges hidden classes .edge p q
+        shown = unfold visibleEdge in rw (x, y)
 
-        inside : (p q : ℕ) → isVisible (markedGraph n edges hidden) p ≡ true → isVisible (markedGraph n edges hidden) q ≡ true → markedGraph n edges hidden .edge p q ≡ edgeBit edges p q
-        inside p q x y = unfold markedGraph edgesIn in rw (lt-ltb p n (below p x), lt-ltb q n (below q y))
+        inside : drawn n edges hidden classes .edge p q ≡ edgeBit edges p q
+        inside = unfold drawn edgesIn in rw (lt-ltb p n (below p x), lt-ltb q n (below q y))
 
--- tables that hold a graph, with their marks apart
-pub drawn-held : {n : ℕ} {t : Tables} {hidden₀ hidden : List ℕ} → Held n t → n ≤ length hidden₀ → Filled (λ p. nodeNumber (t .nodes) p 3) n hidden₀ hidden → Drawn n (t .edges) hidden
-drawn-held {n} {t} {hidden₀} {hidden} h l m =
+-- tables that hold a graph, with their marks and classes apart
+pub drawn-held : {n : ℕ} {t : Tables} {hidden₀ hidden classes₀ classes : List ℕ} → Held n t → n ≤ length hidden₀ → n ≤ length classes₀
+    → Filled (λ p. nodeNumber (t .nodes) p 3) n hidden₀ hidden → Filled (λ p. nodeNumber (t .nodes) p 4) n classes₀ classes → Drawn n (t .edges) hidden classes
+drawn-held {n} {t} h l l′ m k =
     let s = held-sized h in
-    record { small = s .small; proper = rw (same-graph m) (h .proper); size = s .edges; marked = omega (arith, m .size) }
-  where
-    same-graph : Filled (λ p. nodeNumber (t .nodes) p 3) n hidden₀ hidden → markedGraph n (t .edges) hidden ≡ graphOf n t
-    same-graph m = marks-graph n t hidden (record { same = m .numbers })
-
-pub taken-graph : (n : ℕ) (t : Tables) {hidden₀ hidden : List ℕ} → Filled (λ p. nodeNumber (t .nodes) p 3) n hidden₀ hidden → markedGraph n (t .edges) hidden ≡ graphOf n t
-taken-graph n t {hidden₀} {hidden} m = marks-graph n t hidden (record { same = m .numbers })
+    record { small = s .small; proper = rw (taken-graph n t m k) (h .proper); size = s .edges; marked = omega (arith, m .size); labelled = omega (arith, k .size) }
 
 -- the file that is written from such least members
-pub written-told : (g : Graph) (n : ℕ) (lst edges out : List ℕ) → n ≡ g .nodeCount → Truth g lst edges → writtenFile n lst edges out ≡ told g out
-unfolding told
-written-told g n lst edges out e t = rw e (written-is g lst edges t out)
-
-pub truth-parts : (g : Graph) (n : ℕ) (lst edges : List ℕ) → n ≡ g .nodeCount → Truth g lst edges → Partition n lst edges
-truth-parts g n lst edges e t = rw e (truth-partition g lst edges t)
-
--- what a release is written from: edges, and least members of the visible part
-module _ (n : ℕ) (edges hidden : List ℕ) {lst : List ℕ} (w : Truth (markedGraph n edges hidden) lst edges) where
-  same-size : n ≡ markedGraph n edges hidden .nodeCount
-  same-size = unfold markedGraph in refl
-
+module _ (n : ℕ) (edges hidden classes : List ℕ) {lst : List ℕ} (w : Truth (drawn n edges hidden classes) lst classes edges) where
   pub visible-parts : Partition n lst edges
-  visible-parts = truth-parts (markedGraph n edges hidden) n lst edges same-size w
+  visible-parts = unfold drawn in truth-partition (drawn n edges hidden classes) lst classes edges w
 
-  pub visible-told : (t : Tables) {hidden₀ : List ℕ} → t .edges ≡ edges → Filled (λ p. nodeNumber (t .nodes) p 3) n hidden₀ hidden → (out : List ℕ) → writtenFile n lst edges out ≡ told (graphOf n t) out
-  visible-told t e m out = written-told (markedGraph n edges hidden) n lst edges out same-size w ∙ ap (λ (g : Graph). told g out) (ap (λ (x : List ℕ). markedGraph n x hidden) (sym e) ∙ taken-graph n t m)
+  pub visible-labelled : n ≤ length classes
+  visible-labelled = unfold drawn in w .labelled
+
+  pub visible-told : (t : Tables) {hidden₀ classes₀ : List ℕ} → t .edges ≡ edges → Filled (λ p. nodeNumber (t .nodes) p 3) n hidden₀ hidden → Filled (λ p. nodeNumber (t .nodes) p 4) n classes₀ classes → (out : List ℕ)
+      → writtenFile n lst classes edges out ≡ told (graphOf n t) out
+  visible-told t e m k out =
+      let file : writtenFile n lst classes edges out ≡ told (drawn n edges hidden classes) out = unfold told drawn in written-is (drawn n edges hidden classes) lst classes edges w out in
+      file ∙ ap (λ (g : Graph). told g out) (ap (λ (x : List ℕ). drawn n x hidden classes) (sym e) ∙ taken-graph n t m k)
 
 -- a prefix that is lent has its length
 pub prefix-length : (k : ℕ) (s : List ℕ) → k ≤ length s → k ≡ length (take k s)

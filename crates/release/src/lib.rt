@@ -4,10 +4,10 @@ ghost use mathlib.Core.Bool.{true};
 ghost use lib.ListN.{length};
 ghost use Prim.Native.Nat.{_*_, _≤_};
 ghost use Rattle.model.specs.Graph.{rowWords};
-ghost use Rattle.model.specs.Tables.{graphOf, markedGraph};
+ghost use Rattle.model.specs.Tables.{graphOf};
 ghost use Rattle.model.specs.Calls.{fileDistanceCall, fileNeighboursCall, readCall, releaseCall};
 ghost use Rattle.rows.specs.Rows.{lent};
-ghost use Rattle.masking.specs.Masking.{Drawn};
+ghost use Rattle.masking.specs.Masking.{Drawn, drawn};
 ghost use Rattle.layout.specs.Truth.{Truth};
 ghost use Rattle.writer.specs.Written.{releasedBy};
 ghost use Rattle.compressed.specs.Compressed.{placed, smallNodes};
@@ -42,22 +42,29 @@ fn unmeasured(number: u16) -> Measured
 }
 
 // The edges between visible nodes, and the least members of their groups: what the release writer needs.
-fn summarise(edges: &[u64], hidden: &[u16], n: usize, masked: &mut [u64], least: &mut [u16])
-    requires { ⌜ Drawn n (now edges) (now hidden) × (length (now masked) ≡ rowWords * n) × (n ≤ length (now least)) ⌝ }
-    ensures { λ _. ⌜ Truth (markedGraph n (now (edges .entry)) (now (hidden .entry))) (now (least .exit)) (now (masked .exit)) ⌝ }
+fn summarise(
+    edges: &[u64],
+    hidden: &[u16],
+    classes: &[u16],
+    n: usize,
+    masked: &mut [u64],
+    least: &mut [u16],
+)
+    requires { ⌜ Drawn n (now edges) (now hidden) (now classes) × (length (now masked) ≡ rowWords * n) × (n ≤ length (now least)) ⌝ }
+    ensures { λ _. ⌜ Truth (drawn n (now (edges .entry)) (now (hidden .entry)) (now (classes .entry))) (now (least .exit)) (now (classes .entry)) (now (masked .exit)) ⌝ }
 {
     masking::mask_edges(edges, hidden, n, masked);
-    grouping::find_groups(masked, hidden, n, least);
+    grouping::find_groups(masked, hidden, classes, n, least);
 }
 
 // The least members of the groups of the visible nodes.
-fn least_members(edges: &[u64], hidden: &[u16], n: usize, least: &mut [u16])
-    requires { ⌜ Drawn n (now edges) (now hidden) × (n ≤ length (now least)) ⌝ }
-    ensures { λ _. ⌜ Truth (markedGraph n (now (edges .entry)) (now (hidden .entry))) (now (least .exit)) (now (edges .entry)) ⌝ }
+fn least_members(edges: &[u64], hidden: &[u16], classes: &[u16], n: usize, least: &mut [u16])
+    requires { ⌜ Drawn n (now edges) (now hidden) (now classes) × (n ≤ length (now least)) ⌝ }
+    ensures { λ _. ⌜ Truth (drawn n (now (edges .entry)) (now (hidden .entry)) (now (classes .entry))) (now (least .exit)) (now (classes .entry)) (now (edges .entry)) ⌝ }
 {
     let mut masked = [0u64; Graph::NODES * Graph::ROW_WORDS];
     let end = Graph::ROW_WORDS * n;
-    summarise(edges, hidden, n, &mut masked[..end], least);
+    summarise(edges, hidden, classes, n, &mut masked[..end], least);
 }
 
 // The release of the graph that tables hold, or 18.
@@ -66,10 +73,12 @@ fn write_visible(n: usize, edges: &[u64], nodes: &[u16], keys: &[u32], out: &mut
     ensures { λ r. ⌜ releasedBy r (now (out .exit)) ≡ told (graphOf n (lent (now (edges .entry)) (now (nodes .entry)) (now (keys .entry)))) (now (out .entry)) ⌝ }
 {
     let mut hidden = [0u16; Graph::NODES];
-    copies::take_marks(nodes, n, &mut hidden);
+    copies::take_numbers(nodes, n, groups::MARK, &mut hidden);
+    let mut classes = [0u16; Graph::NODES];
+    copies::take_numbers(nodes, n, groups::CLASS, &mut classes);
     let mut least = [0u16; Graph::NODES];
-    least_members(edges, &hidden, n, &mut least);
-    writer::write(n, &least, edges, out)
+    least_members(edges, &hidden, &classes, n, &mut least);
+    writer::write(n, &least, &classes, edges, out)
 }
 
 // The release file of the visible part, and its m, g, s and length. 0, or 11, 12, 18.
@@ -113,8 +122,16 @@ fn read_with(
     }
     let mut least = [Graph::NONE; Graph::NODES];
     let mut kinds = [SINGLE; Graph::NODES];
+    let mut classes = [0u16; Graph::NODES];
     let mut sums = [0u32; 2 * Graph::NODES];
-    let judged = judging::judge(file, &mut least, &mut kinds, joined, &mut sums);
+    let judged = judging::judge(
+        file,
+        &mut least,
+        &mut kinds,
+        &mut classes,
+        joined,
+        &mut sums,
+    );
     let Decoded::Graph { n: told } = judged else {
         return 19;
     };
@@ -127,6 +144,7 @@ fn read_with(
         few,
         &mut least,
         &kinds,
+        &classes,
         joined,
         &sums,
         edges,
@@ -136,7 +154,7 @@ fn read_with(
     0
 }
 
-// A release read back into tables: hidden nodes are those missing, without edges. 0, or 11, 19, 20.
+// A release read back into tables: hidden nodes are those missing, without edges and of class 0. 0, or 11, 19, 20.
 pub fn read(n: usize, edges: &mut [u64], nodes: &mut [u16], keys: &mut [u32], file: &[u8]) -> u16
     ensures { λ r. ⌜ filled r (lent (now (edges .exit)) (now (nodes .exit)) (now (keys .exit))) ≡ readCall n (lent (now (edges .entry)) (now (nodes .entry)) (now (keys .entry))) (now (file .entry)) ⌝ }
 {
@@ -167,8 +185,16 @@ fn ask_with(file: &[u8], p: u16, out: &mut [u16], joined: &mut [u64]) -> Listed
 {
     let mut least = [Graph::NONE; Graph::NODES];
     let mut kinds = [SINGLE; Graph::NODES];
+    let mut classes = [0u16; Graph::NODES];
     let mut sums = [0u32; 2 * Graph::NODES];
-    let judged = judging::judge(file, &mut least, &mut kinds, joined, &mut sums);
+    let judged = judging::judge(
+        file,
+        &mut least,
+        &mut kinds,
+        &mut classes,
+        joined,
+        &mut sums,
+    );
     let Decoded::Graph { n } = judged else {
         return queries::unlisted(19);
     };
@@ -199,8 +225,16 @@ fn measure_with(file: &[u8], p: u16, q: u16, joined: &mut [u64]) -> Measured
 {
     let mut least = [Graph::NONE; Graph::NODES];
     let mut kinds = [SINGLE; Graph::NODES];
+    let mut classes = [0u16; Graph::NODES];
     let mut sums = [0u32; 2 * Graph::NODES];
-    let judged = judging::judge(file, &mut least, &mut kinds, joined, &mut sums);
+    let judged = judging::judge(
+        file,
+        &mut least,
+        &mut kinds,
+        &mut classes,
+        joined,
+        &mut sums,
+    );
     let Decoded::Graph { n } = judged else {
         return unmeasured(19);
     };

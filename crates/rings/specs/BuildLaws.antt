@@ -11,7 +11,7 @@ use Rattle.model.specs.Grouping.{similar}
 use Rattle.model.specs.Tables.{nodeNumber, nodesOf}
 use Rattle.model.specs.TableLaws.{least-at}
 use Rattle.rings.specs.Ring.{Of, Parts}
-use Rattle.rings.specs.Steps.{Built, Follows, Leading, LeastAndMarks, Linked, MarksKept, Rings, Stored}
+use Rattle.rings.specs.Steps.{Built, Follows, Leading, LeastAndLabels, Linked, LabelsKept, Rings, Stored}
 use Rattle.rings.specs.StoreLaws.{at, off, beside, size}
 use Rattle.rings.specs.NodesLaws.{graph-parts, is-nodes, of-nodes}
 use Rattle.rings.specs.CertificateLaws.{LedByClass, certified, led}
@@ -19,11 +19,11 @@ use Rattle.rings.specs.CertificateLaws.{LedByClass, certified, led}
 pub rings-none : (lst t : List ℕ) → Rings 0 lst t
 rings-none lst t = record { least = λ p h. absurd (omega arith); follows = λ p h. absurd (omega arith) }
 
-pub kept-none : (t : List ℕ) → MarksKept t t
-kept-none t = record { marks = λ p. refl; size = refl }
+pub kept-none : (t : List ℕ) → LabelsKept t t
+kept-none t = record { labels = λ p k h l. refl; size = refl }
 
-pub kept-more : {t t₁ t₂ : List ℕ} → MarksKept t t₁ → MarksKept t₁ t₂ → MarksKept t t₂
-kept-more a b = record { marks = λ p. b .marks p ∙ a .marks p; size = b .size ∙ a .size }
+pub kept-more : {t t₁ t₂ : List ℕ} → LabelsKept t t₁ → LabelsKept t₁ t₂ → LabelsKept t t₂
+kept-more a b = record { labels = λ p k h l. b .labels p k h l ∙ a .labels p k h l; size = b .size ∙ a .size }
 
 -- p follows a
 by-previous : {n p : ℕ} (a : ℕ) {t : List ℕ} → nodeNumber t p 2 ≡ a → a < n → nodeNumber t a 0 ≡ nodeNumber t p 0 → nodeNumber t a 1 ≡ p → (nodeNumber t p 0 ≡ p) ⊎ (a < p) → Follows n t p
@@ -35,8 +35,8 @@ module _ {n i l : ℕ} {lst t t₁ : List ℕ} (k : Leading n lst) (s : length t
   end-before d = omega (arith, k .low i h)
 
   -- it leads the ring
-  pub leader-put : {t₂ : List ℕ} → l ≡ i → Linked i i t₁ t₂ → Rings (i + 1) lst t₂ × MarksKept t t₂
-  leader-put {t₂} d f = (record { least = λ p hp. least p hp (ℕ-discrete p i); follows = λ p hp. follows p hp (ℕ-discrete p i) }, record { marks = λ p. f .rest p 3 (omega arith) (omega arith) ∙ beside e p 3 (omega arith) (omega arith) (omega arith); size = f .size ∙ size e })
+  pub leader-put : {t₂ : List ℕ} → l ≡ i → Linked i i t₁ t₂ → Rings (i + 1) lst t₂ × LabelsKept t t₂
+  leader-put {t₂} d f = (record { least = λ p hp. least p hp (ℕ-discrete p i); follows = λ p hp. follows p hp (ℕ-discrete p i) }, record { labels = λ p k h₃ l₅. f .rest p k h₃ l₅ ∙ beside e p k l₅ (omega arith) (omega arith); size = f .size ∙ size e })
     where
       here : nodeNumber t₂ i 0 ≡ l
       here = f .least i ∙ at e (omega arith)
@@ -76,10 +76,10 @@ module _ {n i l : ℕ} {lst t t₁ : List ℕ} (k : Leading n lst) (s : length t
     leads : nodeNumber t l 0 ≡ l
     leads = r .least l hl ∙ ap (λ (x : ℕ). getD lst x 0) el ∙ k .leads i h ∙ sym el
 
-    pub member-put : {t₂ t₃ : List ℕ} → Linked a i t₁ t₂ → Linked i l t₂ t₃ → Rings (i + 1) lst t₃ × MarksKept t t₃
+    pub member-put : {t₂ t₃ : List ℕ} → Linked a i t₁ t₂ → Linked i l t₂ t₃ → Rings (i + 1) lst t₃ × LabelsKept t t₃
     member-put {t₂} {t₃} f g = (
       record { least = λ p hp. least p hp (ℕ-discrete p i); follows = λ p hp. follows p hp (ℕ-discrete p i) (ℕ-discrete p l) },
-      record { marks = λ p. g .rest p 3 (omega arith) (omega arith) ∙ f .rest p 3 (omega arith) (omega arith) ∙ beside e p 3 (omega arith) (omega arith) (omega arith); size = g .size ∙ f .size ∙ size e },
+      record { labels = λ p k h₃ l₅. g .rest p k h₃ l₅ ∙ f .rest p k h₃ l₅ ∙ beside e p k l₅ (omega arith) (omega arith); size = g .size ∙ f .size ∙ size e },
     )
       where
         ha : a < i
@@ -124,7 +124,7 @@ led-same {n} {R} t {t′} k a s = record {
 }
 
 -- lst has the least members of the groups, so the table is the model's
-module _ {g : Graph} {lst t : List ℕ} (a : LeastAndMarks g lst t) where
+module _ {g : Graph} {lst t : List ℕ} (a : LeastAndLabels g lst t) where
   abbrev R : ℕ → ℕ → Type 0
   R = Of (g .nodeCount) (similar (whole g))
 
@@ -144,12 +144,12 @@ module _ {g : Graph} {lst t : List ℕ} (a : LeastAndMarks g lst t) where
     leads = λ p hp. rw (is-least p hp) (is-least (nodeNumber (nodesOf g) p 0) (omega (arith, model .low p hp)) ∙ model .leads p hp);
   }
 
-  pub grouped-nodes : {t′ : List ℕ} → Rings (g .nodeCount) lst t′ → MarksKept t t′ → t′ ≡ nodesOf g
+  pub grouped-nodes : {t′ : List ℕ} → Rings (g .nodeCount) lst t′ → LabelsKept t t′ → t′ ≡ nodesOf g
   grouped-nodes {t′} r x =
       is-nodes g (a .proper)
       (certified parts t′ (led-same (nodesOf g) parts model (λ p hp. r .least p hp ∙ is-least p hp)) (r .follows))
       (x .size ∙ a .size)
-      (λ p hp. x .marks p ∙ a .marks p hp)
+      (record { marks = λ p hp. x .labels p 3 (omega arith) (omega arith) ∙ a .labels .marks p hp; classes = λ p hp. x .labels p 4 (omega arith) (omega arith) ∙ a .labels .classes p hp })
 
-pub built : {n i : ℕ} {lst t t′ : List ℕ} → Rings i lst t′ → MarksKept t t′ → i ≡ n → Built n lst t t′
+pub built : {n i : ℕ} {lst t t′ : List ℕ} → Rings i lst t′ → LabelsKept t t′ → i ≡ n → Built n lst t t′
 built {n} {i} {lst} {t} {t′} r x e = record { nodes = λ g c a. grouped-nodes a (subst (λ z. Rings z lst t′) (e ∙ sym c) r) x }

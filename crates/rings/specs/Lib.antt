@@ -2,7 +2,7 @@ pub mod Ring
 pub mod RingLaws
 pub mod Steps
 pub mod StoreLaws
-pub mod MarkLaws
+pub mod LabelLaws
 pub mod MoveLaws
 pub mod CountLaws
 pub mod UpdateLaws

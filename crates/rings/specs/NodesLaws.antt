@@ -1,4 +1,4 @@
--- The node table that the model demands of a graph is the one table that holds the graph's groups, with its marks.
+-- The node table that the model demands of a graph is the one table that holds the graph's groups, with its labels.
 use mathlib.Core.Path.{_≡_, refl, sym, subst, _∙_, ap}
 use mathlib.Core.Logic.{_⊎_, inl, inr, ⊎-elim}
 use mathlib.Core.Bool.{true, false, cond, _&&_}
@@ -17,7 +17,8 @@ use Rattle.model.specs.Tables.{groupIn, nextIn, nodeNumber, nodeOf, nodesOf, pr
 use Rattle.model.specs.TestLaws.{decide}
 use Rattle.model.specs.ListLaws.{Ascending, filter-ascending, filter-elim, filter-intro, headOr-in, headOr-le, nodes-ascending, nodes-in, nodes-out}
 use Rattle.model.specs.TwinLaws.{similar-refl, similar-sym, similar-trans}
-use Rattle.model.specs.TableLaws.{getD-blocks, getD-nodes, length-nodes, length-nodes-of, mark-at, proper-simple}
+use Rattle.model.specs.TableLaws.{class-at, length-nodes-of, mark-at, number-at, proper-simple}
+use Rattle.rings.specs.Steps.{Labelled}
 use Rattle.rings.specs.Ring.{up, Parts, Best, Table, Of}
 use Rattle.rings.specs.RingLaws.{Circle, Way, over, reversed, round, up-circle, way}
 
@@ -123,10 +124,6 @@ best-one {n} o k {p} {q} {q′} hp a b =
     (λ s. o .full hq hq′ (omega arith))
     (o .turn hp hq hq′)
 
-pub node-at : (g : Graph) (p k : ℕ) → p < g .nodeCount → k < nodeNumbers → nodeNumber (nodesOf g) p k ≡ getD (nodeOf g p) k 0
-unfolding nodeNumber nodesOf nodeOf
-node-at g p k hp hk = getD-blocks (nodeOf g) nodeNumbers (λ q. refl) (nodes (g .nodeCount)) p k (rw length-nodes hp) hk ∙ ap (λ (q : ℕ). getD (nodeOf g q) k 0) (getD-nodes (g .nodeCount) p hp)
-
 module _ (g : Graph) (h : Proper g) where
   abbrev n : ℕ
   n = g .nodeCount
@@ -164,24 +161,25 @@ module _ (g : Graph) (h : Proper g) where
   unfolding nodeOf
   of-nodes =
       record {
-        least = λ p hp. nearest (λ q. q) hp (head-best (groupIn g p) (ascends p) (λ q m. group-in p q hp m .1) (in-group p p (graph-parts .own hp))) (node-at g p 0 hp (omega arith));
-        next = λ p hp. nearest (λ q. up n p q) hp (next-best (groupIn g p) (ascends p) (λ q m. group-in p q hp m .1) (in-group p p (graph-parts .own hp))) (node-at g p 1 hp (omega arith));
-        prev = λ p hp. nearest (λ q. up n q p) hp (prev-best (groupIn g p) (ascends p) (λ q m. group-in p q hp m .1) (in-group p p (graph-parts .own hp))) (node-at g p 2 hp (omega arith));
+        least = λ p hp. nearest (λ q. q) hp (head-best (groupIn g p) (ascends p) (λ q m. group-in p q hp m .1) (in-group p p (graph-parts .own hp))) (number-at g p 0 hp (omega arith));
+        next = λ p hp. nearest (λ q. up n p q) hp (next-best (groupIn g p) (ascends p) (λ q m. group-in p q hp m .1) (in-group p p (graph-parts .own hp))) (number-at g p 1 hp (omega arith));
+        prev = λ p hp. nearest (λ q. up n q p) hp (prev-best (groupIn g p) (ascends p) (λ q m. group-in p q hp m .1) (in-group p p (graph-parts .own hp))) (number-at g p 2 hp (omega arith));
       }
 
-  -- and it is the only one, with these marks
+  -- and it is the only one, with these labels
   pub is-nodes : {t : List ℕ} → Table (g .nodeCount) (Of (g .nodeCount) (similar (whole g))) t → length t ≡ nodeNumbers * g .nodeCount
-      → ((p : ℕ) → p < g .nodeCount → nodeNumber t p 3 ≡ cond (g .hidden p) 1 0) → t ≡ nodesOf g
-  is-nodes {t} a l ms = ext-getD 0 t (nodesOf g) (l ∙ sym (length-nodes-of g)) (λ i hi. at i hi)
+      → Labelled g t → t ≡ nodesOf g
+  is-nodes {t} a l x = ext-getD 0 t (nodesOf g) (l ∙ sym (length-nodes-of g)) (λ i hi. at i hi)
     where
       one : (p : ℕ) → p < n → (k : ℕ) → k < nodeNumbers → nodeNumber t p k ≡ nodeNumber (nodesOf g) p k
       one p hp zero hk = le-antisymm (a .least p hp .near _ (of-nodes .least p hp .mem)) (of-nodes .least p hp .near _ (a .least p hp .mem))
       one p hp (suc zero) hk = best-one (up-circle n) graph-parts hp (a .next p hp) (of-nodes .next p hp)
       one p hp (suc (suc zero)) hk = best-one (reversed (up-circle n)) graph-parts hp (a .prev p hp) (of-nodes .prev p hp)
-      one p hp (suc (suc (suc zero))) hk = ms p hp ∙ sym (mark-at g p hp)
-      one p hp (suc (suc (suc (suc k)))) hk = absurd (omega arith)
+      one p hp (suc (suc (suc zero))) hk = x .marks p hp ∙ sym (mark-at g p hp)
+      one p hp (suc (suc (suc (suc zero)))) hk = x .classes p hp ∙ sym (class-at g p hp)
+      one p hp (suc (suc (suc (suc (suc k))))) hk = absurd (omega arith)
 
       at : (i : ℕ) → i < length t → getD t i 0 ≡ getD (nodesOf g) i 0
       at i hi =
-          let e : nodeNumbers * (i / 4) + i % 4 ≡ i = omega arith in
-          subst (λ x. getD t x 0 ≡ getD (nodesOf g) x 0) e (unfold nodeNumber in one (i / 4) (omega arith) (i % 4) (omega arith))
+          let e : nodeNumbers * (i / nodeNumbers) + i % nodeNumbers ≡ i = omega arith in
+          subst (λ j. getD t j 0 ≡ getD (nodesOf g) j 0) e (unfold nodeNumber in one (i / nodeNumbers) (omega arith) (i % nodeNumbers) (omega arith))

@@ -115,16 +115,21 @@ pub record Leading (n : ℕ) (lst : List ℕ) : Type 0 where
   pub low : (p : ℕ) → p < n → getD lst p 0 ≤ p
   pub leads : (p : ℕ) → p < n → getD lst (getD lst p 0) 0 ≡ getD lst p 0
 
--- lst has the least member of each node's group, and t the marks
-pub record LeastAndMarks (g : Graph) (lst t : List ℕ) : Type 0 where
+-- t has the labels of a graph's nodes: marks and classes
+pub record Labelled (g : Graph) (t : List ℕ) : Type 0 where
+  pub marks : (p : ℕ) → p < g .nodeCount → nodeNumber t p 3 ≡ cond (g .hidden p) 1 0
+  pub classes : (p : ℕ) → p < g .nodeCount → nodeNumber t p 4 ≡ g .class p
+
+-- lst has the least member of each node's group, and t the labels
+pub record LeastAndLabels (g : Graph) (lst t : List ℕ) : Type 0 where
   pub proper : Proper g
   pub least : (p : ℕ) → p < g .nodeCount → getD lst p 0 ≡ least (whole g .nodes) (similar (whole g)) p
   pub size : length t ≡ nodeNumbers * g .nodeCount
-  pub marks : (p : ℕ) → p < g .nodeCount → nodeNumber t p 3 ≡ cond (g .hidden p) 1 0
+  pub labels : Labelled g t
 
--- t′ is the node table of the graph whose least members and marks they are
+-- t′ is the node table of the graph whose least members and labels they are
 pub record Built (n : ℕ) (lst t t′ : List ℕ) : Type 0 where
-  pub nodes : (g : Graph) → g .nodeCount ≡ n → LeastAndMarks g lst t → t′ ≡ nodesOf g
+  pub nodes : (g : Graph) → g .nodeCount ≡ n → LeastAndLabels g lst t → t′ ≡ nodesOf g
 
 -- p's previous member has the same least member, is followed by p, and is below p unless p is the least
 pub record Follows (n : ℕ) (t : List ℕ) (p : ℕ) : Type 0 where
@@ -138,12 +143,13 @@ pub record Rings (i : ℕ) (lst t : List ℕ) : Type 0 where
   pub least : (p : ℕ) → p < i → nodeNumber t p 0 ≡ getD lst p 0
   pub follows : (p : ℕ) → p < i → Follows i t p
 
--- the first i marks are those that mark tells
-pub record MarksPut (mark : ℕ → ℕ) (i : ℕ) (t t′ : List ℕ) : Type 0 where
+-- the first i nodes have the marks and the classes that are told
+pub record LabelsPut (mark class : ℕ → ℕ) (i : ℕ) (t t′ : List ℕ) : Type 0 where
   pub size : length t′ ≡ length t
   pub marks : (p : ℕ) → p < i → nodeNumber t′ p 3 ≡ mark p
+  pub classes : (p : ℕ) → p < i → nodeNumber t′ p 4 ≡ class p
 
--- the marks stay
-pub record MarksKept (t t′ : List ℕ) : Type 0 where
-  pub marks : (p : ℕ) → nodeNumber t′ p 3 ≡ nodeNumber t p 3
+-- the labels stay
+pub record LabelsKept (t t′ : List ℕ) : Type 0 where
+  pub labels : (p k : ℕ) → 3 ≤ k → k < nodeNumbers → nodeNumber t′ p k ≡ nodeNumber t p k
   pub size : length t′ ≡ length t

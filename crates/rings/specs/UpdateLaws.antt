@@ -1,4 +1,4 @@
--- An update as a whole: two nodes are taken out, the relation changes at them alone, and they are put back one after the other.
+-- An update as a whole: two nodes, or one, are taken out, the relation changes at them alone, and they are put back one after the other.
 use mathlib.Core.Path.{_≡_, sym, subst, _∙_, ap}
 use mathlib.Core.Logic.{_≢_}
 use mathlib.Core.Bool.{Bool, true}
@@ -7,14 +7,15 @@ use Prim.Native.Nat.{ℕ, _+_, _*_, _≤_, _<_}
 use native.Mathlib.Omega.{arith}
 use native.Mathlib.Nat.{le-antisymm}
 use native.Mathlib.Decide.{ℕ-discrete}
+use lib.Dec.{eqb}
 use lib.ListN.{length}
 use Rattle.model.specs.Graph.{maxNodes, nodeNumbers}
 use Rattle.model.specs.Tables.{nodeNumber}
-use Rattle.rings.specs.Ring.{Parts, Out, Ring, Table, Of}
+use Rattle.rings.specs.Ring.{Best, Parts, Out, Ring, Table, Of}
 use Rattle.rings.specs.RingLaws.{out-parts}
 use Rattle.rings.specs.Steps.{Sound, Taken, OthersLeft, stayed, left, Fit, Back, joined, alone}
 use Rattle.rings.specs.MoveLaws.{sound, taken, placed}
-use Rattle.rings.specs.CountLaws.{count, count-joined, count-taken, leadsIn}
+use Rattle.rings.specs.CountLaws.{count, count-joined, count-same, count-taken, leadsIn}
 
 -- the search for a group among n nodes: r is the one, or none is
 pub data Found (n u w : ℕ) (S : ℕ → Bool) (t : List ℕ) (r : ℕ) : Type 0 where
@@ -36,6 +37,11 @@ back-size (alone f e i) = ap length e
 pub back-rest : {n u w z : ℕ} {S : ℕ → Bool} {t t′ : List ℕ} → Back n u w z S t t′ → (p k : ℕ) → p < n → 3 ≤ k → k < nodeNumbers → nodeNumber t′ p k ≡ nodeNumber t p k
 back-rest (joined g h f x i) p k hp h3 hk = x .put .rest p k hp h3 hk
 back-rest (alone f e i) p k hp h3 hk = ap (λ x. nodeNumber x p k) e
+
+-- the test of a leader is asked for nodes alone
+pub back-cong : {n u w z : ℕ} {S S′ : ℕ → Bool} {t t′ : List ℕ} → ((q : ℕ) → q < n → S q ≡ S′ q) → Back n u w z S t t′ → Back n u w z S′ t t′
+back-cong e (joined g h f x i) = joined g h (record { not-u = f .not-u; not-w = f .not-w; leads = f .leads; alike = sym (e g h) ∙ f .alike }) x i
+back-cong e (alone f d i) = alone (λ p h y. f p h (record { not-u = y .not-u; not-w = y .not-w; leads = y .leads; alike = e p h ∙ y .alike })) d i
 
 pub others-left-small : {b u r : ℕ} → OthersLeft b u r → r ≤ 1
 others-left-small (stayed e i) = omega arith
@@ -167,3 +173,63 @@ module _ {n u v : ℕ} {sim sim′ : ℕ → ℕ → Bool} {t : List ℕ} (a : S
               let c₃ = back-count (out-parts (a .parts′) v) table₂ (λ r hr nu nv s. ((a .hu, hr, s), (λ i. absurd (a .ne i)), (λ i. absurd (nv i)))) x₃ in
               let c₄ = back-count (a .parts′) table₃ (λ r hr nv nv′ s. (a .hv, hr, s)) x₄ in
               omega arith
+
+-- the rings stay
+pub record RingsKept (t t′ : List ℕ) : Type 0 where
+  pub rings : (p k : ℕ) → k < 3 → nodeNumber t′ p k ≡ nodeNumber t p k
+  pub size : length t′ ≡ length t
+
+pub rings-table : {n : ℕ} {R : ℕ → ℕ → Type 0} {t t′ : List ℕ} → RingsKept t t′ → Table n R t → Table n R t′
+rings-table {n} {R} x a = record {
+  least = λ p hp. near (x .rings p 0 (omega arith)) (a .least p hp);
+  next = λ p hp. near (x .rings p 1 (omega arith)) (a .next p hp);
+  prev = λ p hp. near (x .rings p 2 (omega arith)) (a .prev p hp);
+}
+  where
+    near : {P : ℕ → Type 0} {δ : ℕ → ℕ} {v v′ : ℕ} → v′ ≡ v → Best P δ v → Best P δ v′
+    near {P} {δ} e b = subst (λ z. Best P δ z) (sym e) b
+
+-- u is taken out of the groups of sim and put into those of sim′, which differ at u alone
+pub record Move (n u : ℕ) (sim sim′ : ℕ → ℕ → Bool) (t : List ℕ) : Type 0 where
+  pub small : n ≤ maxNodes
+  pub parts : Parts n (Of n sim)
+  pub parts′ : Parts n (Of n sim′)
+  pub hu : u < n
+  pub agree : (p q : ℕ) → p ≢ u → q ≢ u → sim p q ≡ sim′ p q
+  pub size : length t ≡ nodeNumbers * n
+  pub table : Table n (Of n sim) t
+
+module _ {n u : ℕ} {sim sim′ : ℕ → ℕ → Bool} {t : List ℕ} (a : Move n u sim sim′ t) where
+  pub alone₀ : Sound n t
+  alone₀ = sound (a .parts) (a .table) (a .small) (a .size)
+
+  module _ {t₁ : List ℕ} (x₁ : Taken n u t t₁) where
+    out₁ : Table n (Out u (Of n sim)) t₁
+    out₁ = taken (a .parts) (a .hu) (a .table) x₁
+
+    module _ {t₂ : List ℕ} (x₂ : RingsKept t₁ t₂) where
+      over-u : (p q : ℕ) → Out u (Of n sim) p q → Out u (Of n sim′) p q
+      over-u p q x = (shift sim sim′ (a .parts′) (a .hu) (a .hu) (λ y z i j k l. a .agree y z i k) p q (x .0) (x .1) (x .2) (x .1) (x .2), x .1, x .2)
+
+      back-u : (p q : ℕ) → Out u (Of n sim′) p q → Out u (Of n sim) p q
+      back-u p q x = (shift sim′ sim (a .parts) (a .hu) (a .hu) (λ y z i j k l. sym (a .agree y z i k)) p q (x .0) (x .1) (x .2) (x .1) (x .2), x .1, x .2)
+
+      out₂ : Table n (Out u (Of n sim′)) t₂
+      out₂ = rings-table x₂ (same over-u back-u out₁)
+
+      pub alone₂ : Sound n t₂
+      alone₂ = sound (out-parts (a .parts′) u) out₂ (a .small) (x₂ .size ∙ x₁ .size ∙ a .size)
+
+      module _ {z : ℕ} {t₃ : List ℕ} (x₃ : Back n u u z (sim′ u) t₂ t₃) where
+        pub moved-alone : Table n (Of n sim′) t₃
+        moved-alone = back (a .parts′) (a .hu) out₂ (λ r hr nu nu′ s. (a .hu, hr, s)) (λ r x nu. (x .1, nu, x .2)) x₃
+
+        pub alone-size : length t₃ ≡ nodeNumbers * n
+        alone-size = back-size x₃ ∙ x₂ .size ∙ x₁ .size ∙ a .size
+
+        pub counted-alone : {b r : ℕ} → b ≡ nodeNumber t u 1 → OthersLeft b u r → count n (leadsIn t₃) + z ≡ count n (leadsIn t) + r
+        counted-alone e p =
+            let c₁ = count-taken (a .parts) (a .table) (a .hu) x₁ e p in
+            let c₂ : count n (leadsIn t₂) ≡ count n (leadsIn t₁) = count-same n (λ q hq. ap (λ (v : ℕ). eqb v q) (x₂ .rings q 0 (omega arith))) in
+            let c₃ = back-count (a .parts′) out₂ (λ r hr nu nu′ s. (a .hu, hr, s)) x₃ in
+            omega arith

@@ -22,7 +22,12 @@ impl Graph {
 
     pub const ROW_WORDS: usize = 8;
 
-    pub const NODE_NUMBERS: usize = 4;
+    pub const NODE_NUMBERS: usize = 5;
+
+    // Where a node's class is among its numbers.
+    pub const CLASS: usize = 4;
+
+    pub const CLASSES: usize = 256;
 
     // Stands for no node.
     pub const NONE: u16 = 65535;

@@ -6,9 +6,9 @@ use Prim.Native.Nat.{ℕ, zero, suc, _+_, _*_, _/_, _%_, _^_, _≤_, _<_}
 use lib.Bits.{bitXor}
 use lib.Dec.{eqb}
 use lib.ListN.{getD, take, drop}
-use Rattle.model.specs.Graph.{maxNodes, rowWords, whole}
+use Rattle.model.specs.Graph.{Graph, maxNodes, rowWords, whole}
 use Rattle.model.specs.Grouping.{similar}
-use Rattle.model.specs.Tables.{edgesIn, edgesOf, graphIn, keysOf, nodeNumber}
+use Rattle.model.specs.Tables.{classedIn, edgesIn, edgesOf, graphIn, keysOf, nodeNumber}
 
 -- an edge table without a bit for a number n or above
 pub record Within (n : ℕ) (edges : List ℕ) : Type 0 where
@@ -39,9 +39,13 @@ Passed P from to = (k : ℕ) → from ≤ k → k < to → P k ≡ false
 abbrev pub Skipped : (ℕ → Bool) → ℕ → ℕ → ℕ → Type 0
 Skipped P from m r = (from ≤ r) × (r ≤ m) × Passed P from r
 
+-- the edges and classes of tables, nobody hidden
+abbrev pub classed : ℕ → List ℕ → List ℕ → Graph
+classed n edges table = classedIn n edges (λ p. nodeNumber table p 4)
+
 -- q, neither u nor w, is the least of its group, and u is similar to it
 unfoldable pub joins : ℕ → List ℕ → List ℕ → ℕ → ℕ → ℕ → Bool
-joins n edges table u w q = not (eqb q u) && (not (eqb q w) && (eqb (nodeNumber table q 0) q && similar (whole (graphIn n edges)) u q))
+joins n edges table u w q = not (eqb q u) && (not (eqb q w) && (eqb (nodeNumber table q 0) q && similar (whole (classed n edges table)) u q))
 
 -- what the code looks at: key k of u and of q (0 open, 1 closed)
 unfoldable pub keyAgrees : List ℕ → ℕ → ℕ → ℕ → Bool
@@ -50,9 +54,12 @@ keyAgrees keys k u q = eqb (getD keys (2 * u + k) 0) (getD keys (2 * q + k) 0)
 unfoldable pub keysAgree : List ℕ → ℕ → ℕ → Bool
 keysAgree keys u q = keyAgrees keys 0 u q || keyAgrees keys 1 u q
 
--- q, neither u nor w, is the least of a group that u may join by the keys
+unfoldable pub sameClass : List ℕ → ℕ → ℕ → Bool
+sameClass table u q = eqb (nodeNumber table u 4) (nodeNumber table q 4)
+
+-- q, neither u nor w, is the least of a group that u may join by the keys and the class
 unfoldable pub mayJoin : List ℕ → List ℕ → ℕ → ℕ → ℕ → Bool
-mayJoin table keys u w q = keysAgree keys u q && (not (eqb q u) && (not (eqb q w) && eqb (nodeNumber table q 0) q))
+mayJoin table keys u w q = keysAgree keys u q && (not (eqb q u) && (not (eqb q w) && (sameClass table u q && eqb (nodeNumber table q 0) q)))
 
 -- node q's own bit in word i of a row
 unfoldable pub ownBit : ℕ → ℕ → ℕ

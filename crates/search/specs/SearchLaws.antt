@@ -11,12 +11,12 @@ use lib.ListN.{length, getD, take, drop, length-take, length-drop}
 use lib.Seq.{getD-drop, getD-take}
 use borrow.Author.Tests.{eqb-true, eqb-false, eq-eqb, ltb-false, ltb-true, ne-eqb, not-false, not-true}
 use Rattle.model.specs.Graph.{Graph, Proper, View, whole}
-use Rattle.model.specs.Grouping.{falseTwins, similar, trueTwins}
+use Rattle.model.specs.Grouping.{closedKey, falseTwins, openKey, similar, trueTwins}
 use Rattle.model.specs.Tables.{edgeBit, edgesIn, edgesOf, graphIn, keyPair, keysOf, nodeNumber, rowOf}
 use Rattle.model.specs.TestLaws.{and-fst, and-snd, and-true, decide, differ, iff-eq, or-left, or-none, or-right}
-use Rattle.model.specs.TwinLaws.{similar-N, similar-N+, similar-cases}
+use Rattle.model.specs.TwinLaws.{similar-N, similar-N+, similar-cases, similar-split}
 use Rattle.model.specs.TableLaws.{edges-in, edge-bit, length-edges, length-keys}
-use Rattle.search.specs.Search.{Passed, Ready, Skipped, Within, firstFrom, joins, keyAgrees, keysAgree, mayJoin, meets, ownBit, ownBits, rowIn, tried}
+use Rattle.search.specs.Search.{Passed, Ready, Skipped, Within, classed, firstFrom, joins, keyAgrees, keysAgree, mayJoin, meets, ownBit, ownBits, rowIn, sameClass, tried}
 use Rattle.search.specs.TwinRowLaws.{false-key, false-meet, keys-apart, meet-false, meet-true, true-key, true-meet}
 
 -- the first that passes
@@ -135,6 +135,15 @@ pub meets-parts : (c : Bool) (u q : ℕ) (edges : List ℕ) {r : Bool} → r ≡
     → r ≡ meets c u q (rowIn edges u) (rowIn edges q) 8
 meets-parts c u q edges e = e ∙ rw (row-part edges u, row-part edges q)
 
+-- who is similar is so by the class and by the edges
+pub similar-by-class : (n : ℕ) (edges table : List ℕ) (p q : ℕ) → similar (whole (classed n edges table)) p q ≡ (sameClass table p q && similar (whole (graphIn n edges)) p q)
+unfolding sameClass
+similar-by-class n edges table p q = similar-split (whole (classed n edges table)) p q
+
+class-first : (a b c : Bool) → ((a && b) && c) ≡ (b && (a && c))
+class-first true b c = refl
+class-first false b c = sym (and-false b)
+
 -- trying is joining
 module _ (n : ℕ) (edges table keys : List ℕ) (ready : Ready n edges keys) (u w q : ℕ) (hu : u < n) (hq : q < n) where
   abbrev v : View
@@ -144,8 +153,8 @@ module _ (n : ℕ) (edges table keys : List ℕ) (ready : Ready n edges keys) (u
   open-key = keyAgrees keys 0 u q
 
   similar-of : (open-key ≡ true) ⊎ (open-key ≡ false) → meets (not open-key) u q (rowIn edges u) (rowIn edges q) 8 ≡ true → similar v u q ≡ true
-  similar-of (inl t) h = similar-N v u q (meet-false n edges keys ready u q hu hq (meets-words false u q edges (rw t at h)))
-  similar-of (inr t) h = similar-N+ v u q (meet-true n edges keys ready u q hu hq (meets-words true u q edges (rw t at h)))
+  similar-of (inl t) h = similar-N v u q refl (meet-false n edges keys ready u q hu hq (meets-words false u q edges (rw t at h)))
+  similar-of (inr t) h = similar-N+ v u q refl (meet-true n edges keys ready u q hu hq (meets-words true u q edges (rw t at h)))
 
   abbrev Found : Type 0
   Found = (keysAgree keys u q ≡ true) × (meets (not open-key) u q (rowIn edges u) (rowIn edges q) 8 ≡ true)
@@ -159,10 +168,10 @@ module _ (n : ℕ) (edges table keys : List ℕ) (ready : Ready n edges keys) (u
 
   pub tried-joins : tried edges table keys u w (rowIn edges u) q ≡ joins n edges table u w q
   unfolding tried mayJoin joins
-  tried-joins = iff-eq _ _ there back
+  tried-joins = iff-eq _ _ there back ∙ rw (similar-by-class n edges table u q, class-first (sameClass table u q) (eqb (nodeNumber table q 0) q) (similar v u q))
     where
       own : Bool
-      own = eqb (nodeNumber table q 0) q
+      own = sameClass table u q && eqb (nodeNumber table q 0) q
 
       both-keys : Bool
       both-keys = keysAgree keys u q
@@ -217,16 +226,16 @@ module _ {n : ℕ} {edges : List ℕ} (h : Within n edges) where
 pub row-length : (edges : List ℕ) (p : ℕ) → 8 * p + 8 ≤ length edges → length (take (8 * p + 8 - 8 * p) (drop (8 * p) edges)) ≡ 8
 row-length edges p h = simp (length-take, length-drop) (omega arith)
 
--- edges and keys do not tell who is hidden
+-- edges and keys do not tell who is hidden, nor classes
 abbrev unhidden : ℕ → (ℕ → ℕ → Bool) → Graph
-unhidden n f = record { nodeCount = n; edge = f; hidden = λ p. false }
+unhidden n f = record { nodeCount = n; edge = f; hidden = λ p. false; class = λ p. 0 }
 
 edges-unhidden : (g : Graph) → edgesOf g ≡ edgesOf (unhidden (g .nodeCount) (g .edge))
 unfolding edgesOf rowOf
 edges-unhidden g = refl
 
 keys-unhidden : (g : Graph) → keysOf g ≡ keysOf (unhidden (g .nodeCount) (g .edge))
-unfolding keysOf keyPair
+unfolding keysOf keyPair openKey closedKey
 keys-unhidden g = refl
 
 -- tables of a graph are ready
@@ -248,9 +257,9 @@ module _ (keys : List ℕ) (u q : ℕ) where
   unfolding keysAgree
   keys-second r s e t f = rw (sym e ∙ t) f
 
-least-number : (table : List ℕ) (q : ℕ) → nodeNumber table q 0 ≡ getD table (4 * q) 0
+least-number : (table : List ℕ) (q : ℕ) → nodeNumber table q 0 ≡ getD table (5 * q) 0
 unfolding nodeNumber
-least-number table q = let e : 4 * q + 0 ≡ 4 * q = omega arith in rw e
+least-number table q = let e : 5 * q + 0 ≡ 5 * q = omega arith in rw e
 
 module _ (table keys : List ℕ) (u w q : ℕ) where
   pub may-no-key : (r : Bool) → r ≡ keysAgree keys u q → not r ≡ true → false ≡ mayJoin table keys u w q
@@ -265,9 +274,13 @@ module _ (table keys : List ℕ) (u w q : ℕ) where
   unfolding mayJoin
   may-not-other e = rw (eq-eqb q w e, and-false (not (eqb q u))) (sym (and-false (keysAgree keys u q)))
 
-  pub may-least : (r : Bool) (x : ℕ) → r ≡ keysAgree keys u q → not r ≡ false → (q ≡ u → ⊥) → (q ≡ w → ⊥) → x ≡ getD table (4 * q) 0 → eqb x q ≡ mayJoin table keys u w q
+  pub may-not-class : (r : Bool) → r ≡ sameClass table u q → not r ≡ true → false ≡ mayJoin table keys u w q
   unfolding mayJoin
-  may-least r x e t a b f = rw (sym e ∙ not-false r t, ne-eqb q u a, ne-eqb q w b, f, least-number table q)
+  may-not-class r e t = rw (sym e ∙ not-true r t, and-false (not (eqb q w)), and-false (not (eqb q u))) (sym (and-false (keysAgree keys u q)))
+
+  pub may-least : (r s : Bool) (x : ℕ) → r ≡ keysAgree keys u q → not r ≡ false → (q ≡ u → ⊥) → (q ≡ w → ⊥) → s ≡ sameClass table u q → not s ≡ false → x ≡ getD table (5 * q) 0 → eqb x q ≡ mayJoin table keys u w q
+  unfolding mayJoin
+  may-least r s x e t a b f i g = rw (sym e ∙ not-false r t, ne-eqb q u a, ne-eqb q w b, sym f ∙ not-false s i, g, least-number table q)
 
 pub own-here : (q i w m : ℕ) → w ≡ q / 64 → w ≡ i → m ≡ 2 ^ (q % 64) → m ≡ ownBit q i
 unfolding ownBit

@@ -4,7 +4,7 @@ ghost use mathlib.Core.Bool.{false};
 ghost use Prim.Native.Nat.{_+_, _*_, _≤_, _<_};
 ghost use lib.ListN.{length};
 ghost use Rattle.model.specs.Graph.{maxNodes, rowWords, nodeNumbers};
-ghost use Rattle.search.specs.Search.{Passed, Ready, Skipped, block, firstFrom, joins, keyAgrees, keysAgree, mayJoin, meets, ownBit, ownBits, tried};
+ghost use Rattle.search.specs.Search.{Passed, Ready, Skipped, block, firstFrom, joins, keyAgrees, keysAgree, mayJoin, meets, ownBit, ownBits, sameClass, tried};
 use rows::Graph;
 
 // Whether key k of u and of q agree: 0 the open one, 1 the closed one.
@@ -26,9 +26,17 @@ fn keys_agree(keys: &[u32], u: usize, q: usize) -> bool
     key_agrees(keys, 1, u, q)
 }
 
-// Whether q, neither u nor w, is the least of a group that u may join by the keys.
+// Whether u and q are of one class.
+pub fn same_class(nodes: &[u16], u: usize, q: usize) -> bool
+    requires { ⌜ (u < maxNodes) × (q < maxNodes) × (nodeNumbers * u + nodeNumbers ≤ length (now nodes)) × (nodeNumbers * q + nodeNumbers ≤ length (now nodes)) ⌝ }
+    ensures { λ r. ⌜ r ≡ sameClass (now (nodes .entry)) u q ⌝ }
+{
+    nodes[Graph::NODE_NUMBERS * u + Graph::CLASS] == nodes[Graph::NODE_NUMBERS * q + Graph::CLASS]
+}
+
+// Whether q, neither u nor w, is the least of a group that u may join by the keys and the class.
 fn may_join(nodes: &[u16], keys: &[u32], u: usize, w: usize, q: usize) -> bool
-    requires { ⌜ (u < maxNodes) × (q < maxNodes) × (nodeNumbers * q + nodeNumbers ≤ length (now nodes)) × (2 * u + 2 ≤ length (now keys)) × (2 * q + 2 ≤ length (now keys)) ⌝ }
+    requires { ⌜ (u < maxNodes) × (q < maxNodes) × (nodeNumbers * u + nodeNumbers ≤ length (now nodes)) × (nodeNumbers * q + nodeNumbers ≤ length (now nodes)) × (2 * u + 2 ≤ length (now keys)) × (2 * q + 2 ≤ length (now keys)) ⌝ }
     ensures { λ r. ⌜ r ≡ mayJoin (now (nodes .entry)) (now (keys .entry)) u w q ⌝ }
 {
     if !keys_agree(keys, u, q) {
@@ -38,6 +46,9 @@ fn may_join(nodes: &[u16], keys: &[u32], u: usize, w: usize, q: usize) -> bool
         return false;
     }
     if q == w {
+        return false;
+    }
+    if !same_class(nodes, u, q) {
         return false;
     }
     rows::wide(nodes[Graph::NODE_NUMBERS * q]) == q
@@ -133,7 +144,7 @@ fn find_twin(
     w: usize,
     row: &[u64],
 ) -> usize
-    requires { ⌜ (m ≤ maxNodes) × (u < maxNodes) × (rowWords * m ≤ length (now edges)) × (nodeNumbers * m ≤ length (now nodes)) × (2 * m ≤ length (now keys)) × (2 * u + 2 ≤ length (now keys)) × (length (now row) ≡ rowWords) ⌝ }
+    requires { ⌜ (m ≤ maxNodes) × (u < maxNodes) × (rowWords * m ≤ length (now edges)) × (nodeNumbers * m ≤ length (now nodes)) × (nodeNumbers * u + nodeNumbers ≤ length (now nodes)) × (2 * m ≤ length (now keys)) × (2 * u + 2 ≤ length (now keys)) × (length (now row) ≡ rowWords) ⌝ }
     ensures { λ r. ⌜ r ≡ firstFrom (tried (now (edges .entry)) (now (nodes .entry)) (now (keys .entry)) u w (now (row .entry))) 0 m ⌝ }
 {
     let mut from = 0;

@@ -6,7 +6,7 @@ use Prim.Native.Nat.{ℕ, _≤_}
 use lib.ListN.{length}
 use Rattle.model.specs.Graph.{maxNodes}
 use Rattle.model.specs.Tables.{Tables, edgesOf, graphOf, holds}
-use Rattle.model.specs.Store.{isName, isStore, marksOf, storeWords, wrongName}
+use Rattle.model.specs.Store.{isName, isStore, nodeWords, storeWords, wrongName}
 use Rattle.model.specs.Refusals.{Reasons, lengths, wrongSize}
 use Rattle.model.specs.Calls.{Stored}
 use Rattle.rows.specs.Rows.{lent}
@@ -33,10 +33,10 @@ pub record Judged (n : ℕ) (s name : List ℕ) : Type 0 where
   pub named : isName name ≡ true
   pub store : isStore n s ≡ true
 
--- the words are a used place with the name a, b, and the edges and marks of the graph that tables hold
+-- the words are a used place with the name a, b, the edges and the words of the nodes of the graph that tables hold
 pub record Written (n : ℕ) (edges nodes : List ℕ) (a b : ℕ) (place : List ℕ) : Type 0 where
   pub words : (keys : List ℕ) → Held n (lent edges nodes keys)
-      → place ≡ 1 ∷ (a ∷ (b ∷ (edgesOf (graphOf n (lent edges nodes keys)) ++ marksOf (graphOf n (lent edges nodes keys)))))
+      → place ≡ 1 ∷ (a ∷ (b ∷ (edgesOf (graphOf n (lent edges nodes keys)) ++ nodeWords (graphOf n (lent edges nodes keys)))))
 
 -- they are written over place i of the store s
 pub record Put (n : ℕ) (edges nodes : List ℕ) (a b i : ℕ) (s after : List ℕ) : Type 0 where

@@ -12,7 +12,7 @@ use Rattle.model.specs.Lists.{all, nodes}
 use Rattle.model.specs.Graph.{Graph, maxNodes}
 use Rattle.model.specs.Tables.{Tables, edgesOf, graphOf, holds, tablesOf}
 use Rattle.model.specs.TableLaws.{held-proper, held-tables}
-use Rattle.model.specs.Store.{Place, dropping, free, graphAt, isFull, isKept, isName, isStore, keeping, kept, keptGraph, marksOf, maxStates, nameBytes, number, placeIn, placeOf, placeWords, placesIn, storeOf, storeWords, wordsAt, wrongName, wrongStore}
+use Rattle.model.specs.Store.{Place, dropping, free, graphAt, isFull, isKept, isName, isStore, keeping, kept, keptGraph, maxStates, nameBytes, nodeWords, number, placeIn, placeOf, placeWords, placesIn, storeOf, storeWords, wordsAt, wrongName, wrongStore}
 use Rattle.model.specs.Refusals.{firstOf, judged, lengths, wrongSize}
 use Rattle.model.specs.Calls.{dropCall, dropReasons, fillRefused, keepCall, keepReasons, restoreCall, restoreReasons, storeRefused}
 use Rattle.model.specs.TestLaws.{and-fst, and-snd, and-true, decide, or-none}
@@ -175,12 +175,12 @@ module _ (n : ℕ) (s name : List ℕ) (j : Judged n s name) (words : Words s) w
     free-below d = omega (arith, first-le (freeAt n s) maxStates 0)
 
     pub kept-new : (a b : ℕ) → a ≡ number (take 8 name) → b ≡ number (drop 8 name) → (g : Graph) → i < maxStates
-        → putAt n s i (1 ∷ (a ∷ (b ∷ (edgesOf g ++ marksOf g)))) ≡ storeOf n (keeping name g (placesIn n s))
+        → putAt n s i (1 ∷ (a ∷ (b ∷ (edgesOf g ++ nodeWords g)))) ≡ storeOf n (keeping name g (placesIn n s))
     kept-new a b first second g l = sym (ap (storeOf n) (keeping-found n s name g i found) ∙ put-place i (kept name g) l ∙ ap (putAt n s i) (unfold placeOf in rw (first, second)))
 
 -- a place written: the state, then the first words
 pub place-written : (n : ℕ) (edges nodes : List ℕ) (a b : ℕ) (p to : List ℕ) {after : List ℕ} → length p ≡ placeWords n
-    → ((keys : List ℕ) → Held n (lent edges nodes keys) → to ≡ edgesOf (graphOf n (lent edges nodes keys)) ++ marksOf (graphOf n (lent edges nodes keys)))
+    → ((keys : List ℕ) → Held n (lent edges nodes keys) → to ≡ edgesOf (graphOf n (lent edges nodes keys)) ++ nodeWords (graphOf n (lent edges nodes keys)))
     → after ≡ set (set (set (take 3 p ++ (to ++ drop (length p - 3) (drop 3 p))) 0 1) 1 a) 2 b → Written n edges nodes a b after
 place-written n edges nodes a b [] to size h e = absurd (omega arith)
 place-written n edges nodes a b (x ∷ []) to size h e = absurd (omega arith)

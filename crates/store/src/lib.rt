@@ -95,7 +95,7 @@ fn put_name(place: &mut [u64], name: Name)
     place[2] = name.second;
 }
 
-// A used place: the name, the edges, the marks.
+// A used place: the name, the edges, the words of the nodes.
 fn write_place(n: usize, edges: &[u64], nodes: &[u16], name: Name, place: &mut [u64])
     requires { ⌜ (n ≤ maxNodes) × (length (now edges) ≡ rowWords * n) × (length (now nodes) ≡ nodeNumbers * n) × (length (now place) ≡ placeWords n) ⌝ }
     ensures { λ _. ⌜ Written n (now (edges .entry)) (now (nodes .entry)) (name .first) (name .second) (now (place .exit)) ⌝ }
@@ -149,7 +149,7 @@ fn fill(n: usize, place: &[u64], edges: &mut [u64], nodes: &mut [u16], keys: &mu
     states::restore(n, &place[STATE..end], &place[end..], edges, nodes, keys);
 }
 
-// The tables of the graph kept under a name, all worked out from its edges and marks. 0, or 11, 12, 21.
+// The tables of the graph kept under a name, all worked out from its edges, marks and classes. 0, or 11, 12, 21.
 pub fn restore(
     n: usize,
     edges: &mut [u64],

@@ -8,19 +8,20 @@ ghost use Rattle.model.specs.Lists.{all, nodes};
 ghost use Rattle.model.specs.Graph.{maxNodes, rowWords};
 ghost use Rattle.model.specs.Store.{isStore, maxStates, placeWords, storeWords, wordsAt};
 ghost use Rattle.edges.specs.Edges.{edgesHold};
+ghost use Rattle.states.specs.States.{wordLimit};
 ghost use Rattle.store.specs.Judging.{placeHolds};
 use places::PLACES;
 use rows::Graph;
 
-// Whether the edges are those of a graph, and the marks 0 or 1.
-fn state_holds(n: usize, edges: &[u64], marks: &[u64]) -> bool
+// Whether the edges are those of a graph, and each word is a mark and twice a class.
+fn state_holds(n: usize, edges: &[u64], words: &[u64]) -> bool
     requires { ⌜ (n ≤ maxNodes) × (length (now edges) ≡ rowWords * n) ⌝ }
-    ensures { λ r. ⌜ r ≡ (edgesHold n (now (edges .entry)) && all (now (marks .entry)) (λ x. ltb x 2)) ⌝ }
+    ensures { λ r. ⌜ r ≡ (edgesHold n (now (edges .entry)) && all (now (words .entry)) (λ x. ltb x wordLimit)) ⌝ }
 {
     if !edges::hold(edges, n) {
         return false;
     }
-    buffers::union_of(marks) < 2
+    buffers::union_of(words) < states::WORD_LIMIT
 }
 
 // Whether a place is free and all zeros, or used and its state a graph. Any two words are a name.

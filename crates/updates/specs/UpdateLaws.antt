@@ -1,25 +1,24 @@
 -- Updates of the tables are the model's.
-use mathlib.Core.Path.{_≡_, refl, sym, ap, subst, _∙_}
+use mathlib.Core.Path.{_≡_, refl, sym, ap, _∙_}
 use mathlib.Core.Bool.{Bool, true, false, cond, not, _||_, or-true}
 use mathlib.Core.List.{List}
 use mathlib.Core.Logic.{_≢_}
-use Prim.Native.Nat.{ℕ, suc, zero, _+_, _*_, _/_, _%_, _≤_, _<_}
+use Prim.Native.Nat.{ℕ, _+_, _*_, _≤_, _<_}
 use native.Mathlib.Omega.{arith}
 use native.Mathlib.Decide.{ℕ-discrete}
 use lib.Dec.{eqb, ltb}
 use lib.IntN.{ℤ, pos}
-use lib.ListN.{length, getD, set, length-set}
-use lib.Seq.{getD-set-same, getD-set-other, ext-getD}
+use lib.ListN.{set}
 use mir.Val.{boolByte}
 use borrow.Author.Tests.{eq-eqb, ne-eqb, lt-ltb, le-ltb}
-use Rattle.model.specs.Graph.{Graph, Proper, nodeNumbers}
-use Rattle.model.specs.Tables.{Tables, tablesOf, graphOf, edgeBit, nodeNumber, nodesOf, nodeOf, edgesIn, edgesOf, rowOf, keysOf, keyPair, groupIn}
+use Rattle.model.specs.Graph.{Graph, maxClasses, nodeNumbers}
+use Rattle.model.specs.Release.{u16Limit}
+use Rattle.model.specs.Tables.{Tables, tablesOf, graphOf, edgeBit, nodeNumber, edgesIn, edgesOf, rowOf, keysOf, keyPair}
 use Rattle.model.specs.Refusals.{firstOf, pairReasons}
-use Rattle.model.specs.Updates.{Update, onEdge, updateReasons, refusal, updated, answer, update}
-use Rattle.model.specs.UpdateLaws.{mark-answer, mark-edges, u-inside, updated-count, refusal-below, update-accepted, update-refused as model-refused, wanted-bit}
+use Rattle.model.specs.Updates.{Update, updateReasons, refusal, updated, answer, update}
+use Rattle.model.specs.UpdateLaws.{class-below, class-zero, mark-answer, refusal-below, u-inside, update-accepted, update-refused as model-refused}
 use Rattle.model.specs.Steps.{Stepped}
-use Rattle.model.specs.TableLaws.{length-nodes-of, mark-at}
-use Rattle.rings.specs.NodesLaws.{node-at}
+use Rattle.rings.specs.GraphLaws.{mark-nodes}
 use Rattle.rows.specs.BitLaws.{bool-number}
 use Rattle.rows.specs.Rows.{lent}
 use Rattle.rows.specs.PairLaws.{pair-ends}
@@ -27,13 +26,16 @@ use Rattle.groups.specs.Groups.{Asked, change}
 use Rattle.updates.specs.Batch.{Updated, heldReasons, isMarked}
 use Rattle.tables.specs.Lent.{Held}
 
--- the reasons of an edge's and of a mark's update, by what the code has found in the tables
+-- the reasons of an edge's, a mark's and a class's update, by what the code has found in the tables
 module _ (n u v w : ℕ) (es ns ks : List ℕ) where
   abbrev byEdge : ℕ
   byEdge = refusal (graphOf n (lent es ns ks)) (change 1 u v w)
 
   abbrev byMark : ℕ
   byMark = refusal (graphOf n (lent es ns ks)) (change 2 u v w)
+
+  abbrev byClass : ℕ
+  byClass = refusal (graphOf n (lent es ns ks)) (change 3 u v w)
 
   pub edge-pair : {r : ℕ} → r ≡ firstOf (pairReasons n u v) → r ≢ 0 → r ≡ byEdge
   unfolding refusal updateReasons firstOf graphOf pairReasons
@@ -75,9 +77,31 @@ module _ (n u v w : ℕ) (es ns ks : List ℕ) where
   unfolding refusal updateReasons firstOf graphOf heldReasons
   mark-held h k l = rw (lt-ltb u n h, eq-eqb v 0 k, le-ltb 1 w l)
 
-pub other-kind : (g : Graph) (k u v w : ℕ) → k ≢ 1 → k ≢ 2 → 13 ≡ refusal g (change k u v w)
+  pub class-u : n ≤ u → 14 ≡ byClass
+  unfolding refusal updateReasons firstOf graphOf
+  class-u h = rw (le-ltb u n h)
+
+  pub class-more : u < n → maxClasses ≤ v → 15 ≡ byClass
+  unfolding refusal updateReasons firstOf graphOf
+  class-more h k = rw (lt-ltb u n h, le-ltb v maxClasses k)
+
+  pub class-wanted : u < n → w ≢ 0 → 15 ≡ byClass
+  unfolding refusal updateReasons firstOf graphOf
+  class-wanted h k = rw (lt-ltb u n h, ne-eqb w 0 k, or-true (not (ltb v maxClasses)))
+
+  -- where u is a node and v a class
+  module _ (h : u < n) (k : v < maxClasses) (z : w ≡ 0) where
+    pub class-held : nodeNumber ns u 4 ≡ v → 16 ≡ byClass
+    unfolding refusal updateReasons firstOf graphOf
+    class-held e = rw (lt-ltb u n h, lt-ltb v maxClasses k, eq-eqb w 0 z, eq-eqb (nodeNumber ns u 4) v e)
+
+    pub class-other : nodeNumber ns u 4 ≢ v → 0 ≡ byClass
+    unfolding refusal updateReasons firstOf graphOf
+    class-other d = rw (lt-ltb u n h, lt-ltb v maxClasses k, eq-eqb w 0 z, ne-eqb (nodeNumber ns u 4) v d)
+
+pub other-kind : (g : Graph) (k u v w : ℕ) → k ≢ 1 → k ≢ 2 → k ≢ 3 → 13 ≡ refusal g (change k u v w)
 unfolding refusal updateReasons firstOf
-other-kind g k u v w a b = rw (ne-eqb k 1 a, ne-eqb k 2 b)
+other-kind g k u v w a b c = rw (ne-eqb k 1 a, ne-eqb k 2 b, ne-eqb k 3 c)
 
 -- what is wanted holds already, or does not
 module _ (w : ℕ) (there : Bool) where
@@ -90,75 +114,13 @@ module _ (w : ℕ) (there : Bool) where
   held-not d = rw (ne-eqb (cond there 1 0) w (λ e. d (bool-number there ∙ e)))
 
 -- an accepted update of a mark: the mark alone is written
-module _ (g : Graph) (c : Update) (h : Proper g) (ok : refusal g c ≡ 0) (no-edge : onEdge c ≡ false) where
-  -- a graph with these edges, for what the tables tell of edges alone
-  abbrev with : (ℕ → ℕ → Bool) → Graph
-  with e = record { nodeCount = g .nodeCount; edge = e; hidden = g .hidden }
-
-  edges-kept : edgesOf g ≡ edgesOf (updated g c)
-  unfolding edgesOf rowOf updated
-  edges-kept = ap (λ (e : ℕ → ℕ → Bool). edgesOf (with e)) (sym (mark-edges g c no-edge))
-
-  keys-kept : keysOf g ≡ keysOf (updated g c)
-  unfolding keysOf keyPair updated
-  keys-kept = ap (λ (e : ℕ → ℕ → Bool). keysOf (with e)) (sym (mark-edges g c no-edge))
-
-  group-kept : (p k : ℕ) → k < 3 → getD (nodeOf g p) k 0 ≡ getD (nodeOf (updated g c) p) k 0
-  unfolding nodeOf groupIn updated
-  group-kept p zero l = ap (λ (e : ℕ → ℕ → Bool). getD (nodeOf (with e) p) 0 0) (sym (mark-edges g c no-edge))
-  group-kept p (suc zero) l = ap (λ (e : ℕ → ℕ → Bool). getD (nodeOf (with e) p) 1 0) (sym (mark-edges g c no-edge))
-  group-kept p (suc (suc zero)) l = ap (λ (e : ℕ → ℕ → Bool). getD (nodeOf (with e) p) 2 0) (sym (mark-edges g c no-edge))
-  group-kept p (suc (suc (suc k))) l = absurd (omega arith)
-
-  -- the mark of p after it
-  mark-after : (p : ℕ) (b : Bool) → p < g .nodeCount → eqb p (c .u) ≡ b → nodeNumber (nodesOf (updated g c)) p 3 ≡ cond (cond b (eqb (c .wanted) 1) (g .hidden p)) 1 0
-  unfolding updated
-  mark-after p b hp e = mark-at (updated g c) p hp ∙ rw (no-edge, e)
-
-  after : List ℕ
-  after = set (nodesOf g) (4 * c .u + 3) (c .wanted)
-
-  size : length (nodesOf g) ≡ 4 * g .nodeCount
-  size = length-nodes-of g
-
-  off : (p k : ℕ) → (4 * p + k ≡ 4 * c .u + 3 → ⊥) → nodeNumber after p k ≡ nodeNumber (nodesOf g) p k
-  unfolding after nodeNumber
-  off p k d = getD-set-other (nodesOf g) (4 * c .u + 3) (4 * p + k) (c .wanted) 0 d
-
-  on : nodeNumber after (c .u) 3 ≡ c .wanted
-  unfolding after nodeNumber
-  on = getD-set-same (nodesOf g) (4 * c .u + 3) (c .wanted) 0 (omega (arith, size, u-inside g c h ok))
-
-  low : (p k : ℕ) → p < g .nodeCount → k < 3 → nodeNumber after p k ≡ nodeNumber (nodesOf (updated g c)) p k
-  low p k hp hk =
-      off p k (omega arith)
-      ∙ node-at g p k hp (omega arith)
-      ∙ group-kept p k hk
-      ∙ sym (node-at (updated g c) p k (rw (updated-count g c) hp) (omega arith))
-
-  mark : (p : ℕ) → p < g .nodeCount → Dec (p ≡ c .u) → nodeNumber after p 3 ≡ nodeNumber (nodesOf (updated g c)) p 3
-  mark p hp (yes e) = ap (λ (q : ℕ). nodeNumber after q 3) e ∙ on ∙ sym (mark-after p true hp (eq-eqb p (c .u) e) ∙ wanted-bit g c h ok)
-  mark p hp (no e) = off p 3 (omega arith) ∙ mark-at g p hp ∙ sym (mark-after p false hp (ne-eqb p (c .u) e))
-
-  cell : (p k : ℕ) → p < g .nodeCount → k < 4 → nodeNumber after p k ≡ nodeNumber (nodesOf (updated g c)) p k
-  cell p zero hp hk = low p 0 hp (omega arith)
-  cell p (suc zero) hp hk = low p 1 hp (omega arith)
-  cell p (suc (suc zero)) hp hk = low p 2 hp (omega arith)
-  cell p (suc (suc (suc zero))) hp hk = mark p hp (ℕ-discrete p (c .u))
-  cell p (suc (suc (suc (suc k)))) hp hk = absurd (omega arith)
-
-  nodes-marked : set (nodesOf g) (4 * c .u + 3) (c .wanted) ≡ nodesOf (updated g c)
-  unfolding after
-  nodes-marked = ext-getD 0 after (nodesOf (updated g c)) (length-set (nodesOf g) (4 * c .u + 3) (c .wanted) ∙ size ∙ ap (λ (n : ℕ). 4 * n) (sym (updated-count g c)) ∙ sym (length-nodes-of (updated g c))) at
-    where
-      at : (i : ℕ) → i < length after → getD after i 0 ≡ getD (nodesOf (updated g c)) i 0
-      at i l =
-          let e : 4 * (i / 4) + i % 4 ≡ i = omega arith in
-          subst (λ y. getD after y 0 ≡ getD (nodesOf (updated g c)) y 0) e (unfold nodeNumber in cell (i / 4) (i % 4) (omega (arith, length-set (nodesOf g) (4 * c .u + 3) (c .wanted), size)) (omega arith))
-
-  marked : lent (edgesOf g) (set (nodesOf g) (nodeNumbers * c .u + 3) (c .wanted)) (keysOf g) ≡ tablesOf (updated g c)
-  unfolding tablesOf
-  marked = λ i. record { edges = edges-kept i; nodes = nodes-marked i; keys = keys-kept i }
+marked : (n u v w : ℕ) (t : Tables) → Held n t → refusal (graphOf n t) (change 2 u v w) ≡ 0 → {ns : List ℕ} → ns ≡ set (t .nodes) (nodeNumbers * u + 3) w → lent (t .edges) ns (t .keys) ≡ tablesOf (updated (graphOf n t) (change 2 u v w))
+unfolding tablesOf updated edgesOf rowOf keysOf keyPair
+marked n u v w t h ok {ns} e =
+    let es = ap (λ (s : Tables). s .edges) (h .same) in
+    let ms = mark-nodes (graphOf n t) (change 2 u v w) (h .proper) ok refl (record { is = e ∙ ap (λ (s : Tables). set (s .nodes) (nodeNumbers * u + 3) w) (h .same) }) in
+    let ks = ap (λ (s : Tables). s .keys) (h .same) in
+    λ i. record { edges = es i; nodes = ms i; keys = ks i }
 
 -- an update by its numbers, once it is known whether it is refused
 module _ (n k u v w r : ℕ) (t : Tables) (h : Held n t) (e : r ≡ refusal (graphOf n t) (change k u v w)) where
@@ -188,17 +150,25 @@ module _ (n k u v w r : ℕ) (t : Tables) (h : Held n t) (e : r ≡ refusal (gra
     done : {after : Tables} {a : ℤ} → after ≡ tablesOf (updated g c) → a ≡ answer g c → Updated n (change k u v w) t after a
     done x y = record { tables = x ∙ ap (λ (s : Stepped Graph ℤ). tablesOf (s .after)) (sym (update-accepted g c none)); answered = y }
 
-    pub edge-asked : k ≡ 1 → Asked n u v w t
+    pub edge-asked : k ≡ 1 → Asked n (change 1 u v w) t
     edge-asked q = record { proper = h .proper; same = h .same; accepted = rw q at none }
 
     pub edge-updated : k ≡ 1 → {after : Tables} {a : ℤ} → (after ≡ tablesOf (updated g (change 1 u v w))) × (a ≡ answer g (change 1 u v w)) → Updated n (change k u v w) t after a
     edge-updated q x = done (rw q (x .0)) (rw q (x .1))
 
-    pub mark-updated : k ≢ 1 → {ns : List ℕ} → ns ≡ set (t .nodes) (nodeNumbers * u + 3) w → Updated n (change k u v w) t (lent (t .edges) ns (t .keys)) (pos 0)
-    unfolding tablesOf
-    mark-updated q {ns} x = done (written ∙ marked g c (h .proper) none (ne-eqb k 1 q)) (sym (mark-answer g c (ne-eqb k 1 q) none))
+    -- for a class nothing is wanted beside it
+    class-none : k ≡ 3 → refusal g (change 3 u v 0) ≡ 0
+    class-none q = let z = class-zero g (change 3 u v w) (rw q at none) refl in rw z at (rw q at none)
+
+    pub class-asked : k ≡ 3 → Asked n (change 3 u v 0) t × (v < u16Limit)
+    class-asked q = (record { proper = h .proper; same = h .same; accepted = class-none q }, omega (arith, class-below g (change 3 u v 0) (class-none q) refl))
+
+    pub class-updated : k ≡ 3 → {after : Tables} {a : ℤ} → (after ≡ tablesOf (updated g (change 3 u v 0))) × (a ≡ answer g (change 3 u v 0)) → Updated n (change k u v w) t after a
+    class-updated q x = let z = class-zero g (change 3 u v w) (rw q at none) refl in done (rw (q, z) (x .0)) (rw (q, z) (x .1))
+
+    pub mark-updated : k ≢ 1 → k ≢ 3 → {ns : List ℕ} → ns ≡ set (t .nodes) (nodeNumbers * u + 3) w → Updated n (change k u v w) t (lent (t .edges) ns (t .keys)) (pos 0)
+    mark-updated a b {ns} x = step (ℕ-discrete k 2)
       where
-        written : lent (t .edges) ns (t .keys) ≡ lent (edgesOf g) (set (nodesOf g) (nodeNumbers * u + 3) w) (keysOf g)
-        written =
-            ap (λ (l : List ℕ). lent (t .edges) l (t .keys)) x
-            ∙ ap (λ (s : Tables). lent (s .edges) (set (s .nodes) (nodeNumbers * u + 3) w) (s .keys)) (h .same)
+        step : Dec (k ≡ 2) → Updated n (change k u v w) t (lent (t .edges) ns (t .keys)) (pos 0)
+        step (yes q) = done (rw q (marked n u v w t h (rw q at none) x)) (sym (mark-answer g c (eq-eqb k 2 q) none))
+        step (no d) = absurd (omega (arith, other-kind g k u v w a d b, none))

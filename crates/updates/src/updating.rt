@@ -73,6 +73,23 @@ fn mark_refusal(nodes: &[u16], n: usize, u: usize, v: usize, wanted: u16) -> u16
     held_refusal(wanted, is_hidden(nodes, u))
 }
 
+// Why an update of a class is refused, or 0.
+fn class_refusal(nodes: &[u16], n: usize, u: usize, v: usize, wanted: u16) -> u16
+    requires { ⌜ (n ≤ maxNodes) × (length (now nodes) ≡ nodeNumbers * n) ⌝ }
+    ensures { λ r. ⌜ ((edges keys : List ℕ) → r ≡ refusal (graphOf n (lent edges (now (nodes .entry)) keys)) (change 3 u v wanted)) ⌝ }
+{
+    if u >= n {
+        return 14;
+    }
+    if v >= Graph::CLASSES || wanted != 0 {
+        return 15;
+    }
+    if groups::number(nodes, u, groups::CLASS) == v {
+        return 16;
+    }
+    0
+}
+
 // Why an update is refused, or 0.
 fn refusal_of(
     edges: &[u64],
@@ -89,6 +106,7 @@ fn refusal_of(
     match kind {
         1 => edge_refusal(edges, nodes, n, u, v, wanted),
         2 => mark_refusal(nodes, n, u, v, wanted),
+        3 => class_refusal(nodes, n, u, v, wanted),
         _ => 13,
     }
 }
@@ -129,6 +147,9 @@ pub fn update(
     }
     if kind == 1 {
         return groups::update_edge(edges, nodes, keys, n, u, v, wanted);
+    }
+    if kind == 3 {
+        return groups::update_class(edges, nodes, keys, n, u, v);
     }
     set_mark(nodes, u, wanted);
     0

@@ -1,4 +1,4 @@
-// The release file, written from the least members of the groups and the edges into a lent buffer.
+// The release file, written from the least members of the groups, the classes and the edges into a lent buffer.
 ghost use mathlib.Core.Path.{_≡_};
 ghost use mathlib.Core.List.{[], _∷_};
 ghost use Prim.Native.Nat.{_+_, _*_, _-_, _≤_, _<_};
@@ -15,8 +15,8 @@ ghost use Rattle.layout.specs.Words.{AscendingLeaders, LeaderPlaces, LeaderSet,
 ghost use Rattle.writer.specs.Written.{SizesTold, releasedBy};
 use rows::Graph;
 
-// The mark and the count before the members of a group.
-const GROUP_HEAD: usize = 4;
+// The mark, the count and the class before the members of a group.
+const GROUP_HEAD: usize = 6;
 
 // The greatest node that there can be.
 const LAST: usize = Graph::NODES - 1;
@@ -100,16 +100,25 @@ fn is_clique(next: &[u16], n: usize, edges: &[u64], l: usize) -> bool
 }
 
 // The group whose least member is l. Its count is known once the members stand.
-fn write_group(out: &mut [u8], at: usize, next: &[u16], n: usize, edges: &[u64], l: usize) -> usize
+fn write_group(
+    out: &mut [u8],
+    at: usize,
+    next: &[u16],
+    n: usize,
+    classes: &[u16],
+    edges: &[u64],
+    l: usize,
+) -> usize
     requires { ⌜ Ahead n (now next) ⌝ }
-    requires { ⌜ (l < n) × (rowWords * n ≤ length (now edges)) ⌝ }
-    requires { ⌜ at + length (groupBytes (edgeBit (now edges)) (chain n (now next) n l)) ≤ length (now out) ⌝ }
-    ensures { λ r. ⌜ Wrote (now (out .entry)) at (groupBytes (edgeBit (now (edges .entry))) (chain n (now (next .entry)) n l)) (now (out .exit)) r ⌝ }
+    requires { ⌜ (l < n) × (rowWords * n ≤ length (now edges)) × (n ≤ length (now classes)) ⌝ }
+    requires { ⌜ at + length (groupBytes (edgeBit (now edges)) (now classes) (chain n (now next) n l)) ≤ length (now out) ⌝ }
+    ensures { λ r. ⌜ Wrote (now (out .entry)) at (groupBytes (edgeBit (now (edges .entry))) (now (classes .entry)) (chain n (now (next .entry)) n l)) (now (out .exit)) r ⌝ }
 {
     let to = write_members(out, at + GROUP_HEAD, next, n, l);
     let clique = is_clique(next, n, edges, l);
     let a = put_group_mark(out, at, clique);
-    put_u16(out, a, (to - at - GROUP_HEAD) / 2);
+    let b = put_u16(out, a, (to - at - GROUP_HEAD) / 2);
+    put_u16(out, b, rows::wide(classes[l]));
     to
 }
 
@@ -119,17 +128,18 @@ fn write_groups(
     at: usize,
     next: &[u16],
     n: usize,
+    classes: &[u16],
     edges: &[u64],
     leaders: &[u16],
 ) -> usize
     requires { ⌜ Ahead n (now next) ⌝ }
-    requires { ⌜ Rows n (now edges) (now leaders) ⌝ }
-    requires { ⌜ at + length (groupsBytes (edgeBit (now edges)) (chain n (now next) n) (now leaders)) ≤ length (now out) ⌝ }
-    ensures { λ r. ⌜ Wrote (now (out .entry)) at (groupsBytes (edgeBit (now (edges .entry))) (chain n (now (next .entry)) n) (now (leaders .entry))) (now (out .exit)) r ⌝ }
+    requires { ⌜ Rows n (now edges) (now leaders) × (n ≤ length (now classes)) ⌝ }
+    requires { ⌜ at + length (groupsBytes (edgeBit (now edges)) (now classes) (chain n (now next) n) (now leaders)) ≤ length (now out) ⌝ }
+    ensures { λ r. ⌜ Wrote (now (out .entry)) at (groupsBytes (edgeBit (now (edges .entry))) (now (classes .entry)) (chain n (now (next .entry)) n) (now (leaders .entry))) (now (out .exit)) r ⌝ }
 {
     let mut to = at;
     for i in 0..leaders.len() {
-        to = write_group(out, to, next, n, edges, rows::wide(leaders[i]));
+        to = write_group(out, to, next, n, classes, edges, rows::wide(leaders[i]));
     }
     to
 }
@@ -346,22 +356,23 @@ fn write_file(
     n: usize,
     m: usize,
     least: &[u16],
+    classes: &[u16],
     edges: &[u64],
     leaders: &[u16],
     set: &[u64; Graph::ROW_WORDS],
     out: &mut [u8],
 ) -> usize
-    requires { ⌜ Partition n (now least) (now edges) ⌝ }
+    requires { ⌜ Partition n (now least) (now edges) × (n ≤ length (now classes)) ⌝ }
     requires { ⌜ (now leaders ≡ leadersOf n (now least)) × LeaderSet (now leaders) (now set) ⌝ }
     requires { ⌜ m ≡ fileNodes n (now least) ⌝ }
-    requires { ⌜ length (fileOf n (now least) (now edges)) ≤ length (now out) ⌝ }
-    ensures { λ r. ⌜ Wrote (now (out .entry)) 0 (fileOf n (now (least .entry)) (now (edges .entry))) (now (out .exit)) r ⌝ }
+    requires { ⌜ length (fileOf n (now least) (now classes) (now edges)) ≤ length (now out) ⌝ }
+    ensures { λ r. ⌜ Wrote (now (out .entry)) 0 (fileOf n (now (least .entry)) (now (classes .entry)) (now (edges .entry))) (now (out .exit)) r ⌝ }
 {
     let mut next = [Graph::NONE; Graph::NODES];
     link(least, n, &mut next);
     let position = positions_of(leaders);
     let a = write_head(out, 0, n, m, leaders.len());
-    let b = write_groups(out, a, &next, n, edges, leaders);
+    let b = write_groups(out, a, &next, n, classes, edges, leaders);
     let c = write_superedges(out, b, edges, leaders, set, &position);
     put_mark(out, c, b"EN")
 }
@@ -403,9 +414,9 @@ pub struct Written {
 }
 
 // The release file into a lent buffer; 18, and nothing written, if the buffer is too short.
-pub fn write(n: usize, least: &[u16], edges: &[u64], out: &mut [u8]) -> Written
-    requires { ⌜ Partition n (now least) (now edges) ⌝ }
-    ensures { λ r. ⌜ releasedBy r (now (out .exit)) ≡ writtenFile n (now (least .entry)) (now (edges .entry)) (now (out .entry)) ⌝ }
+pub fn write(n: usize, least: &[u16], classes: &[u16], edges: &[u64], out: &mut [u8]) -> Written
+    requires { ⌜ Partition n (now least) (now edges) × (n ≤ length (now classes)) ⌝ }
+    ensures { λ r. ⌜ releasedBy r (now (out .exit)) ≡ writtenFile n (now (least .entry)) (now (classes .entry)) (now (edges .entry)) (now (out .entry)) ⌝ }
 {
     let mut leaders = [0u16; Graph::NODES];
     let measured = measure(n, least, edges, &mut leaders);
@@ -421,7 +432,7 @@ pub fn write(n: usize, least: &[u16], edges: &[u64], out: &mut [u8]) -> Written
     let m = measured.nodes;
     let g = measured.groups;
     let set = measured.set;
-    write_file(n, m, least, edges, &leaders[..g], &set, out);
+    write_file(n, m, least, classes, edges, &leaders[..g], &set, out);
     Written {
         result: 0,
         nodes: m as u16,

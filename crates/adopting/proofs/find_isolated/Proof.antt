@@ -12,10 +12,10 @@ use Rattle.adopting.proofs.find_isolated.Statement.{statement}
 use Rattle.adopting.proofs.find_isolated.Tie as tie
 
 abbrev Inv-loop : tie.InvT-loop
-Inv-loop edges least n p₀ p = (p ≤ n) × ((k : ℕ) → k < p → isIsolated edges least k ≡ false)
+Inv-loop edges classes least n p₀ p = (p ≤ n) × ((k : ℕ) → k < p → isIsolated edges classes least k ≡ false)
 
 abbrev μ-loop : tie.MeasureT-loop
-μ-loop edges least n p₀ p = n - p
+μ-loop edges classes least n p₀ p = n - p
 
 loop-holds : tie.Need-loop-holds Inv-loop μ-loop
 loop-holds c = (omega arith, below-none _)
@@ -29,14 +29,14 @@ shared-slice-read-wide c = omega arith
 wide-requires : tie.Need-wide-requires Inv-loop μ-loop
 wide-requires c κs = search needs
 
-is-empty-requires : tie.Need-is-empty-requires Inv-loop μ-loop
-is-empty-requires c κs = (omega arith, omega arith)
+is-bare-requires : tie.Need-is-bare-requires Inv-loop μ-loop
+is-bare-requires c κs = (omega arith, omega arith, omega arith)
 
 cast-result : tie.Need-cast-result Inv-loop μ-loop
 cast-result c = omega arith
 
 returns : tie.Need-returns Inv-loop μ-loop
-returns c = first-is (omega arith) (c .before .before .before .before .before .before .loop .inv .1) (isolated-if _ _ _ (c .before .before .before .wide .ensures) (c .before .before .if1 .taken) (c .before .is-empty .ensures) ∙ c .if2 .taken)
+returns c = first-is (omega arith) (c .before .before .before .before .before .before .loop .inv .1) (isolated-if _ _ _ _ (c .before .before .before .wide .ensures) (c .before .before .if1 .taken) (c .before .is-bare .ensures) ∙ c .if2 .taken)
 
 add-p : tie.Need-add-p Inv-loop μ-loop
 add-p c = omega arith
@@ -47,7 +47,7 @@ loop-less c = omega arith
 loop-again : tie.Need-loop-again Inv-loop μ-loop
 loop-again c =
     let head = c .before .before .before .before in
-    (omega arith, below-more _ _ (head .loop .inv .1) (⊎-elim (λ w. isolated-if _ _ _ (c .before .wide .ensures) (w .0 .taken) (w .1 .ensures) ∙ w .2 .left) (λ w. isolated-not _ _ _ (c .before .wide .ensures) (w .left)) (c .if1 .came)))
+    (omega arith, below-more _ _ (head .loop .inv .1) (⊎-elim (λ w. isolated-if _ _ _ _ (c .before .wide .ensures) (w .0 .taken) (w .1 .ensures) ∙ w .2 .left) (λ w. isolated-not _ _ _ _ (c .before .wide .ensures) (w .left)) (c .if1 .came)))
 
 returns-2 : tie.Need-returns-2 Inv-loop μ-loop
 returns-2 c = first-no (omega arith) (c .before .loop .inv .1)
@@ -62,7 +62,7 @@ find-isolated-spec =
     mul-wide
     shared-slice-read-wide
     wide-requires
-    is-empty-requires
+    is-bare-requires
     cast-result
     returns
     add-p

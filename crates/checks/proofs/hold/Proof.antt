@@ -40,7 +40,7 @@ leaders-apart-requires : tie.Need-leaders-apart-requires
 leaders-apart-requires c κs =
     let s = c .before .before .before .before .before .before .before .before in
     let pre = s .before .pre in
-    (rows-ready _ (lent _ (s .before .args .nodes .now) _) (pre .0) (pre .1) (pre .3) (λ i. omega (arith, s .shared-slice-known .given i)) (passed (c .before .rows-hold .ensures) (c .if3 .left)), pre .2)
+    (rows-ready _ _ _ (pre .0) (pre .1) (pre .3) (λ i. omega (arith, s .shared-slice-known .given i)) (passed (c .before .rows-hold .ensures) (c .if3 .left)), pre .2)
 
 returns-4 : tie.Need-returns-4
 returns-4 c =

@@ -3,7 +3,7 @@
 use native.Mathlib.Omega.{arith}
 use borrow.Author.Needs.{needs}
 use Rattle.search.specs.SearchLaws.{meets-parts}
-use Rattle.checks.specs.StepLaws.{twin-above, twin-misled, twin-rows, twin-self}
+use Rattle.checks.specs.StepLaws.{twin-above, twin-classes, twin-misled, twin-rows, twin-self}
 use Rattle.checks.proofs.is_twin.Statement.{statement}
 use Rattle.checks.proofs.is_twin.Tie as tie
 
@@ -18,6 +18,14 @@ returns-2 c = twin-misled _ _ _ _ (omega arith) (c .before .number .ensures) (c 
 
 returns-3 : tie.Need-returns-3
 returns-3 c = twin-self _ _ _ _ (c .before .before .number .ensures) (c .before .if2 .left) (c .if3 .taken)
+
+same-class-requires : tie.Need-same-class-requires
+same-class-requires c κs = search needs
+
+returns-4 : tie.Need-returns-4
+returns-4 c =
+    let a = c .before .before in
+    twin-classes _ _ _ _ (omega arith) (a .before .before .number .ensures) (a .before .if2 .left) (c .before .same-class .ensures) (c .if4 .taken)
 
 edge-requires : tie.Need-edge-requires
 edge-requires c κs = search needs
@@ -61,10 +69,12 @@ part-same-row-end-2 c = search needs
 same-row-requires : tie.Need-same-row-requires
 same-row-requires c κs = search needs
 
-returns-4 : tie.Need-returns-4
-returns-4 c =
-    let a = c .before .before .before .before .before in
-    twin-rows _ _ _ _ _ _ (omega arith) (a .before .number .ensures) (a .if2 .left) (c .before .before .before .edge .ensures) (meets-parts _ _ _ _ (c .same-row .ensures))
+returns-5 : tie.Need-returns-5
+returns-5 c =
+    let e = c .before .before .before in
+    let k = e .before in
+    let a = k .before .before .before in
+    twin-rows _ _ _ _ (omega arith) (a .before .number .ensures) (a .if2 .left) (k .before .same-class .ensures) _ _ (k .if4 .left) (e .edge .ensures) (meets-parts _ _ _ _ (c .same-row .ensures))
 
 pub is-twin-spec : {M : Type 1} → statement M
 is-twin-spec =
@@ -74,6 +84,8 @@ is-twin-spec =
     number-requires
     returns-2
     returns-3
+    same-class-requires
+    returns-4
     edge-requires
     mul-a
     mul-b
@@ -88,4 +100,4 @@ is-twin-spec =
     part-same-row-start-2
     part-same-row-end-2
     same-row-requires
-    returns-4)
+    returns-5)

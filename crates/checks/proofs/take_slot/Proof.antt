@@ -34,7 +34,7 @@ same-length c = search needs
 returns : tie.Need-returns
 returns c =
     let w = c .before .before .before in
-    slot-taken _ _ _ _ _ (w .before .before .before .pre) (w .before .slot .ensures) (w .word-of .ensures) (c .before .mask .ensures) (c .has-bit .ensures)
+    slot-taken _ _ _ _ _ _ (w .before .before .before .pre) (w .before .slot .ensures) (w .word-of .ensures) (c .before .mask .ensures) (c .has-bit .ensures)
 
 pub take-slot-spec : {M : Type 1} → statement M
 take-slot-spec =

@@ -13,7 +13,7 @@ slice-aggregate-are-all-apart-2 c = search needs
 
 are-all-apart-requires : tie.Need-are-all-apart-requires
 are-all-apart-requires c κs =
-    (c .before .before .before .before .before .before .pre, (links-none, links-none))
+    (c .before .before .before .before .before .before .before .pre, (links-none, links-none))
 
 returns : tie.Need-returns
 returns c = search needs

@@ -12,7 +12,7 @@ slice-aggregate-group-visible-2 c = search needs
 
 group-visible-requires : tie.Need-group-visible-requires
 group-visible-requires c κs =
-    let pre = c .before .before .before .before .before .before .pre in
+    let pre = c .before .before .before .before .before .before .before .pre in
     (pre .0, links-none, links-none, pre .1)
 
 same-length : tie.Need-same-length

@@ -7,7 +7,7 @@ use Rattle.grouping.proofs.is_new.Statement.{statement}
 use Rattle.grouping.proofs.is_new.Tie as tie
 
 returns : tie.Need-returns
-returns c = new-passed (c .before .before .before .pre .3) (c .if1 .taken)
+returns c = new-passed (c .before .before .before .before .pre .4) (c .if1 .taken)
 
 mul-a : tie.Need-mul-a
 mul-a c = search needs
@@ -29,9 +29,9 @@ part-row-end c = search needs
 
 find-alike-requires : tie.Need-find-alike-requires
 find-alike-requires c κs =
-    let start = c .before .before .before .before .before in
+    let start = c .before .before .before .before .before .before in
     let pre = start .pre in
-    (pre .0, pre .1, pre .2, pre .3, row-part (start .args .joined .now) (start .args .u))
+    (pre .0, pre .1, pre .2, pre .3, pre .4, row-part (start .args .joined .now) (start .args .u))
 
 same-length : tie.Need-same-length
 same-length c = search needs

@@ -5,9 +5,8 @@ use mathlib.Core.Path.{sym, _∙_}
 use native.Mathlib.Omega.{arith}
 use borrow.Author.Needs.{needs}
 use borrow.Author.Tests.{not-false, not-true}
-use Rattle.grouping.specs.HashLaws.{slot-lt}
 use Rattle.search.specs.SearchLaws.{row-part, within-length}
-use Rattle.grouping.specs.Chains.{rowSlot}
+use Rattle.grouping.specs.Chains.{classedSlot, rowSlot}
 use Rattle.grouping.specs.SlotLaws.{rows-tell}
 use Rattle.grouping.specs.LeastLaws.{apart-words, least-closed, least-hidden, least-open}
 use Rattle.grouping.proofs.least_of.Statement.{statement}
@@ -21,7 +20,7 @@ wide-requires c κs = search needs
 
 returns : tie.Need-returns
 returns c =
-    let pre = c .before .before .before .before .before .before .before .pre in
+    let pre = c .before .before .before .before .before .before .before .before .pre in
     c .wide .ensures ∙ least-hidden (pre .0 .0) (pre .0 .2) _ (c .before .before .is-visible .ensures) (not-true _ (c .before .if1 .taken))
 
 mul-r : tie.Need-mul-r
@@ -41,34 +40,36 @@ part-row-start c = search needs
 
 part-row-end : tie.Need-part-row-end
 part-row-end c =
-    let pre = c .before .before .before .before .before .before .pre in
+    let pre = c .before .before .before .before .before .before .before .pre in
     omega (arith, within-length (pre .0 .0 .within), pre .0 .2)
 
 find-alike-requires : tie.Need-find-alike-requires
 find-alike-requires c κs =
-    let start = c .before .before .before .before .before .before .before in
+    let start = c .before .before .before .before .before .before .before .before in
     let pre = start .pre in
     let w = pre .0 .0 .within in
-    (omega (arith, w .small, pre .0 .2), omega (arith, within-length w, pre .0 .2), omega (arith, pre .1 .0, slot-lt (start .args .edges .now) false (start .args .u)), pre .0 .1 .open-links, row-part (start .args .edges .now) (start .args .u))
+    let tell = rows-tell (start .args .edges .now) (start .args .classes .now) (apart-words (pre .0 .0)) (start .args .u) in
+    (omega (arith, w .small, pre .0 .2), omega (arith, within-length w, pre .0 .2), omega (arith, pre .0 .0 .labelled, pre .0 .2), omega (arith, pre .1 .0, tell .small false (start .args .u)), pre .0 .1 .open-links, row-part (start .args .edges .now) (start .args .u))
 
 returns-2 : tie.Need-returns-2
 returns-2 c =
-    let pre = c .before .before .before .before .before .before .before .before .before .pre in
-    least-open (pre .0 .0) (pre .0 .2) _ (c .before .before .before .before .is-visible .ensures) (not-false _ (c .before .before .before .if1 .left)) (rowSlot _) (c .before .find-alike .ensures .1 _ _ (sym (pre .1 .0)) (pre .0 .1 .open-chains)) (c .if2 .taken)
+    let pre = c .before .before .before .before .before .before .before .before .before .before .pre in
+    least-open (pre .0 .0) (pre .0 .2) _ (c .before .before .before .before .is-visible .ensures) (not-false _ (c .before .before .before .if1 .left)) (classedSlot _ (rowSlot _)) (c .before .find-alike .ensures .1 _ _ (sym (pre .1 .0)) (pre .0 .1 .open-chains)) (c .if2 .taken)
 
 find-alike-requires-2 : tie.Need-find-alike-requires-2
 find-alike-requires-2 c κs =
-    let start = c .before .before .before .before .before .before .before .before .before in
+    let start = c .before .before .before .before .before .before .before .before .before .before in
     let pre = start .pre in
     let w = pre .0 .0 .within in
-    (omega (arith, w .small, pre .0 .2), omega (arith, within-length w, pre .0 .2), omega (arith, pre .1 .1, slot-lt (start .args .edges .now) true (start .args .u)), pre .0 .1 .closed-links, row-part (start .args .edges .now) (start .args .u))
+    let tell = rows-tell (start .args .edges .now) (start .args .classes .now) (apart-words (pre .0 .0)) (start .args .u) in
+    (omega (arith, w .small, pre .0 .2), omega (arith, within-length w, pre .0 .2), omega (arith, pre .0 .0 .labelled, pre .0 .2), omega (arith, pre .1 .1, tell .small true (start .args .u)), pre .0 .1 .closed-links, row-part (start .args .edges .now) (start .args .u))
 
 returns-3 : tie.Need-returns-3
 returns-3 c =
-    let pre = c .before .before .before .before .before .before .before .before .before .before .pre in
+    let pre = c .before .before .before .before .before .before .before .before .before .before .before .pre in
     let q = c .before .before .find-alike .ensures in
     let r = c .find-alike2 .ensures in
-    least-closed (pre .0 .0) (pre .0 .2) _ (c .before .before .before .before .before .is-visible .ensures) (not-false _ (c .before .before .before .before .if1 .left)) (rowSlot _) (q .1 _ _ (sym (pre .1 .0)) (pre .0 .1 .open-chains)) (rows-tell _ (apart-words (pre .0 .0)) _) (omega (arith, q .0, c .before .if2 .left)) (r .0) (r .1 _ _ (sym (pre .1 .1)) (pre .0 .1 .closed-chains))
+    least-closed (pre .0 .0) (pre .0 .2) _ (c .before .before .before .before .before .is-visible .ensures) (not-false _ (c .before .before .before .before .if1 .left)) (classedSlot _ (rowSlot _)) (q .1 _ _ (sym (pre .1 .0)) (pre .0 .1 .open-chains)) (rows-tell _ _ (apart-words (pre .0 .0)) _) (omega (arith, q .0, c .before .if2 .left)) (r .0) (r .1 _ _ (sym (pre .1 .1)) (pre .0 .1 .closed-chains))
 
 pub least-of-spec : {M : Type 1} → statement M
 least-of-spec =

@@ -1,13 +1,13 @@
--- The invariant: the nodes below p stand in rings, and the marks are kept.
+-- The invariant: the nodes below p stand in rings, and the labels are kept.
 use Prim.Native.Nat.{_-_, _≤_}
 use native.Mathlib.Omega.{arith}
-use Rattle.rings.specs.Steps.{MarksKept, Rings}
+use Rattle.rings.specs.Steps.{LabelsKept, Rings}
 use Rattle.rings.specs.BuildLaws.{built, kept-more, kept-none, rings-none}
 use Rattle.groups.proofs.build.Statement.{statement}
 use Rattle.groups.proofs.build.Tie as tie
 
 abbrev Inv-loop : tie.InvT-loop
-Inv-loop nodes₀ least n p₀ nodes p = Rings p least nodes × MarksKept nodes₀ nodes × p ≤ n
+Inv-loop nodes₀ least n p₀ nodes p = Rings p least nodes × LabelsKept nodes₀ nodes × p ≤ n
 
 abbrev μ-loop : tie.MeasureT-loop
 μ-loop nodes₀ least n p₀ nodes p = n - p

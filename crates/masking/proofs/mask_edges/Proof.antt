@@ -12,7 +12,7 @@ abbrev μ-loop : tie.MeasureT-loop
 μ-loop edges hidden n masked₀ set p₀ masked p = n - p
 
 visible-set-requires : tie.Need-visible-set-requires Inv-loop μ-loop
-visible-set-requires c κs = let d = c .before .before .before .pre .0 in (d .small, d .marked)
+visible-set-requires c κs = let d = c .before .before .before .pre in (d .0, d .1)
 
 loop-holds : tie.Need-loop-holds Inv-loop μ-loop
 loop-holds c = (omega arith, masking-start _ _ _ _)
@@ -22,7 +22,7 @@ mask-node-requires c κs =
     let head = c .before .before .before in
     let pre = head .before .before .before .before .before .pre in
     let l = c .before .before .loop-test .taken in
-    (omega (arith, pre .0 .small), omega (arith, pre .0 .marked), omega (arith, pre .0 .size), omega (arith, pre .1, head .loop .inv .1 .size))
+    (omega (arith, pre .0), omega (arith, pre .1), omega (arith, pre .2), omega (arith, pre .3, head .loop .inv .1 .size))
 
 add-p : tie.Need-add-p Inv-loop μ-loop
 add-p c = omega arith
@@ -40,7 +40,7 @@ returns : tie.Need-returns Inv-loop μ-loop
 returns c =
     let start = c .before .before in
     let pre = start .before .before .before .before .pre in
-    masking-done (pre .0) (pre .1) (start .visible-set .ensures) (c .before .loop .inv .1) (c .loop-test .left)
+    masking-done (pre .3) (start .visible-set .ensures) (c .before .loop .inv .1) (c .loop-test .left)
 
 pub mask-edges-spec : {M : Type 1} → statement M
 mask-edges-spec =

@@ -43,6 +43,15 @@ mul-nodes-4 c = search needs
 slice-write-nodes-4 : tie.Need-slice-write-nodes-4
 slice-write-nodes-4 c = simp length-set (omega arith)
 
+add-nodes-4 : tie.Need-add-nodes-4
+add-nodes-4 c = search needs
+
+mul-nodes-5 : tie.Need-mul-nodes-5
+mul-nodes-5 c = search needs
+
+slice-write-nodes-5 : tie.Need-slice-write-nodes-5
+slice-write-nodes-5 c = simp length-set (omega arith)
+
 same-length : tie.Need-same-length
 same-length c = search needs
 
@@ -65,5 +74,8 @@ put-node-spec =
     add-nodes-3
     mul-nodes-4
     slice-write-nodes-4
+    add-nodes-4
+    mul-nodes-5
+    slice-write-nodes-5
     same-length
     returns)

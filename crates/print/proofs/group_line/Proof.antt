@@ -34,7 +34,7 @@ number-at-requires c κs = search needs
 put-members-requires : tie.Need-put-members-requires
 put-members-requires c κs = let d = c .before .before .before .before .before .before .before .before .before .args in
     let r = rw (group-line-is (d .p) _ _ (d .file .now) (c .before .before .before .before .before .byte-at .ensures) (c .number-at .ensures .0)) at (c .before .before .before .before .before .before .before .before .before .pre .1) in
-    (omega arith, room-first (memberTexts (c .number-at .result) (drop (d .p + 4) (d .file .now))) (text "\n") _ _ (room-then (c .before .before .before .before .put-byte .ensures) (memberTexts (c .number-at .result) (drop (d .p + 4) (d .file .now)) ++ text "\n") r))
+    (omega arith, room-first (memberTexts (c .number-at .result) (drop (d .p + 6) (d .file .now))) (text "\n") _ _ (room-then (c .before .before .before .before .put-byte .ensures) (memberTexts (c .number-at .result) (drop (d .p + 6) (d .file .now)) ++ text "\n") r))
 
 slice-aggregate-put-text : tie.Need-slice-aggregate-put-text
 slice-aggregate-put-text c = search needs
@@ -43,7 +43,7 @@ put-text-requires : tie.Need-put-text-requires
 unfolding text
 put-text-requires c κs = let d = c .before .before .before .before .before .before .before .before .before .before .before .before .before .before .args in
     let r = rw (group-line-is (d .p) _ _ (d .file .now) (c .before .before .before .before .before .before .before .before .before .before .byte-at .ensures) (c .before .before .before .before .before .number-at .ensures .0)) at (c .before .before .before .before .before .before .before .before .before .before .before .before .before .before .pre .1) in
-    room-then (c .before .before .before .before .put-members .ensures) (text "\n") (room-then (c .before .before .before .before .before .before .before .before .before .put-byte .ensures) (memberTexts (c .before .before .before .before .before .number-at .result) (drop (d .p + 4) (d .file .now)) ++ text "\n") r)
+    room-then (c .before .before .before .before .put-members .ensures) (text "\n") (room-then (c .before .before .before .before .before .before .before .before .before .put-byte .ensures) (memberTexts (c .before .before .before .before .before .number-at .result) (drop (d .p + 6) (d .file .now)) ++ text "\n") r)
 
 same-length : tie.Need-same-length
 same-length c = search needs

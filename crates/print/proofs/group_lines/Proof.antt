@@ -10,7 +10,7 @@ use Rattle.print.proofs.group_lines.Statement.{statement}
 use Rattle.print.proofs.group_lines.Tie as tie
 
 abbrev Inv-loop : tie.InvT-loop
-Inv-loop out₀ at file from k to₀ p₀ left₀ out to p left = (p + 131074 * left ≤ 8 + 131074 * k) × Left out₀ at (groupTexts k (drop from file)) out to (groupTexts left (drop p file))
+Inv-loop out₀ at file from k to₀ p₀ left₀ out to p left = (p + 131076 * left ≤ 8 + 131076 * k) × Left out₀ at (groupTexts k (drop from file)) out to (groupTexts left (drop p file))
 
 abbrev μ-loop : tie.MeasureT-loop
 μ-loop out₀ at file from k to₀ p₀ left₀ out to p left = left

@@ -9,7 +9,7 @@ use Rattle.print.proofs.groups_end.Statement.{statement}
 use Rattle.print.proofs.groups_end.Tie as tie
 
 abbrev Inv-loop : tie.InvT-loop
-Inv-loop file from k p₀ left₀ p left = (p + 131074 * left ≤ 8 + 131074 * k) × (afterGroups left (drop p file) ≡ afterGroups k (drop from file))
+Inv-loop file from k p₀ left₀ p left = (p + 131076 * left ≤ 8 + 131076 * k) × (afterGroups left (drop p file) ≡ afterGroups k (drop from file))
 
 abbrev μ-loop : tie.MeasureT-loop
 μ-loop file from k p₀ left₀ p left = left

@@ -33,7 +33,7 @@ array-borrow-prefix-nodes c = search needs
 
 slice-aggregate-release-after-2 : tie.Need-slice-aggregate-release-after-2
 slice-aggregate-release-after-2 c =
-    sym (length-take-le (4 * c .before .before .before .before .before .args .n) (replicate 2048 0) (omega (arith, length-replicate {A = ℕ} 2048 0, c .before .before .before .before .before .pre .0 .nodes)))
+    sym (length-take-le (5 * c .before .before .before .before .before .args .n) (replicate 2560 0) (omega (arith, length-replicate {A = ℕ} 2560 0, c .before .before .before .before .before .pre .0 .nodes)))
 
 array-borrow-prefix-keys : tie.Need-array-borrow-prefix-keys
 array-borrow-prefix-keys c = search needs
@@ -58,7 +58,7 @@ slice-aggregate-release-after-6 c = search needs
 
 release-after-requires : tie.Need-release-after-requires
 release-after-requires c κs =
-    lent-parts (replicate 4096 0) (replicate 2048 0) (replicate 1024 0) (replicate 36889 0) (c .before .before .before .before .before .before .before .before .before .pre .0) (omega (arith, length-replicate {A = ℕ} 4096 0)) (omega (arith, length-replicate {A = ℕ} 2048 0)) (omega (arith, length-replicate {A = ℕ} 1024 0)) (omega (arith, length-replicate {A = ℕ} 36889 0)) (omega arith) (omega (arith, length-replicate {A = ℕ} 65536 0)) (c .before .before .before .before .before .before .words .ensures)
+    lent-parts (replicate 4096 0) (replicate 2560 0) (replicate 1024 0) (replicate 36889 0) (c .before .before .before .before .before .before .before .before .before .pre .0) (omega (arith, length-replicate {A = ℕ} 4096 0)) (omega (arith, length-replicate {A = ℕ} 2560 0)) (omega (arith, length-replicate {A = ℕ} 1024 0)) (omega (arith, length-replicate {A = ℕ} 36889 0)) (omega arith) (omega (arith, length-replicate {A = ℕ} 65536 0)) (c .before .before .before .before .before .before .words .ensures)
 
 array-share-prefix-answers : tie.Need-array-share-prefix-answers
 array-share-prefix-answers c = search needs

@@ -11,7 +11,7 @@ enum-known-head : tie.Need-enum-known-head
 enum-known-head c = search needs
 
 returns : tie.Need-returns
-returns c = let pre = c .before .before .before .before .before .before .pre in no-head _ _ _ _ _ _ _ (pre .0) (pre .1) (not-a-head _ (c .match .keys2))
+returns c = let pre = c .before .before .before .before .before .before .before .pre in no-head _ _ _ _ _ _ _ _ (pre .0) (pre .1) (not-a-head _ (c .match .keys2))
 
 cast-nodes : tie.Need-cast-nodes
 cast-nodes c = search needs
@@ -26,15 +26,15 @@ head-fits-requires : tie.Need-head-fits-requires
 head-fits-requires c κs = search needs
 
 returns-2 : tie.Need-returns-2
-returns-2 c = let pre = c .before .before .before .before .before .before .before .before .before .before .pre in wrong-size _ _ _ _ _ _ _ (pre .0) (pre .1) _ _ _ (c .before .before .before .head .given .1) (sym (not-true _ (c .if1 .taken)) ∙ c .before .head-fits .ensures)
+returns-2 c = let pre = c .before .before .before .before .before .before .before .before .before .before .before .pre in wrong-size _ _ _ _ _ _ _ _ (pre .0) (pre .1) _ _ _ (c .before .before .before .head .given .1) (sym (not-true _ (c .if1 .taken)) ∙ c .before .head-fits .ensures)
 
 read-body-requires : tie.Need-read-body-requires
 read-body-requires c κs =
-    let pre = c .before .before .before .before .before .before .before .before .before .before .before .before .before .before .pre in
-    let e = sym (not-false _ (c .before .before .before .before .if1 .left)) ∙ c .before .before .before .before .before .head-fits .ensures in
+    let pre = c .before .before .before .before .before .before .before .before .before .before .before .before .before .before .before .before .pre in
+    let e = sym (not-false _ (c .before .before .before .before .before .if1 .left)) ∙ c .before .before .before .before .before .before .head-fits .ensures in
     let small = sized-n _ _ _ e in
-    let is = c .before .before .before .before .before .before .before .head .given .1 in
-    (after-head _ _ _ _ _ _ _ (pre .0) (pre .1) _ _ _ is, small, sized-g _ _ _ e, pre .1 .0, head-room _ _ _ _ _ _ _ (pre .0) (pre .1) _ _ _ is small, pre .1 .1)
+    let is = c .before .before .before .before .before .before .before .before .head .given .1 in
+    (after-head _ _ _ _ _ _ _ _ (pre .0) (pre .1) _ _ _ is, small, sized-g _ _ _ e, pre .1 .0, head-room _ _ _ _ _ _ _ _ (pre .0) (pre .1) _ _ _ is small, pre .1 .1)
 
 same-length : tie.Need-same-length
 same-length c = search needs
@@ -48,14 +48,14 @@ same-length-3 c = search needs
 same-length-4 : tie.Need-same-length-4
 same-length-4 c = search needs
 
-returns-3 : tie.Need-returns-3
-returns-3 c =
-    let pre = c .before .before .before .before .before .before .before .before .before .before .before .before .before .before .before .before .before .before .before .before .before .before .before .before .pre in
-    let e = sym (not-false _ (c .before .before .before .before .before .before .before .before .before .before .before .before .before .before .if1 .left)) ∙ c .before .before .before .before .before .before .before .before .before .before .before .before .before .before .before .head-fits .ensures in
-    wrong-body _ _ _ _ _ _ _ (pre .0) (pre .1) _ _ _ (c .before .before .before .before .before .before .before .before .before .before .before .before .before .before .before .before .before .head .given .1) e _ _ _ _ _ (c .before .before .before .before .before .before .before .before .before .read-body .ensures) (not-true _ (c .if2 .taken))
-
 same-length-5 : tie.Need-same-length-5
 same-length-5 c = search needs
+
+returns-3 : tie.Need-returns-3
+returns-3 c =
+    let pre = c .before .before .before .before .before .before .before .before .before .before .before .before .before .before .before .before .before .before .before .before .before .before .before .before .before .before .before .before .pre in
+    let e = sym (not-false _ (c .before .before .before .before .before .before .before .before .before .before .before .before .before .before .before .before .before .if1 .left)) ∙ c .before .before .before .before .before .before .before .before .before .before .before .before .before .before .before .before .before .before .head-fits .ensures in
+    wrong-body _ _ _ _ _ _ _ _ (pre .0) (pre .1) _ _ _ (c .before .before .before .before .before .before .before .before .before .before .before .before .before .before .before .before .before .before .before .before .head .given .1) e _ _ _ _ _ _ (c .before .before .before .before .before .before .before .before .before .before .before .read-body .ensures) (not-true _ (c .if2 .taken))
 
 same-length-6 : tie.Need-same-length-6
 same-length-6 c = search needs
@@ -66,11 +66,17 @@ same-length-7 c = search needs
 same-length-8 : tie.Need-same-length-8
 same-length-8 c = search needs
 
+same-length-9 : tie.Need-same-length-9
+same-length-9 c = search needs
+
+same-length-10 : tie.Need-same-length-10
+same-length-10 c = search needs
+
 returns-4 : tie.Need-returns-4
 returns-4 c =
-    let pre = c .before .before .before .before .before .before .before .before .before .before .before .before .before .before .before .before .before .before .before .before .before .before .before .before .pre in
-    let e = sym (not-false _ (c .before .before .before .before .before .before .before .before .before .before .before .before .before .before .if1 .left)) ∙ c .before .before .before .before .before .before .before .before .before .before .before .before .before .before .before .head-fits .ensures in
-    decode-graph _ _ _ _ _ _ _ (pre .0) (pre .1) _ _ _ (c .before .before .before .before .before .before .before .before .before .before .before .before .before .before .before .before .before .head .given .1) e _ _ _ _ _ (c .before .before .before .before .before .before .before .before .before .read-body .ensures) (not-false _ (c .if2 .left))
+    let pre = c .before .before .before .before .before .before .before .before .before .before .before .before .before .before .before .before .before .before .before .before .before .before .before .before .before .before .before .before .pre in
+    let e = sym (not-false _ (c .before .before .before .before .before .before .before .before .before .before .before .before .before .before .before .before .before .if1 .left)) ∙ c .before .before .before .before .before .before .before .before .before .before .before .before .before .before .before .before .before .before .head-fits .ensures in
+    decode-graph _ _ _ _ _ _ _ _ (pre .0) (pre .1) _ _ _ (c .before .before .before .before .before .before .before .before .before .before .before .before .before .before .before .before .before .before .before .before .head .given .1) e _ _ _ _ _ _ (c .before .before .before .before .before .before .before .before .before .before .before .read-body .ensures) (not-false _ (c .if2 .left))
 
 pub graph-at-spec : {M : Type 1} → statement M
 graph-at-spec =
@@ -88,9 +94,11 @@ graph-at-spec =
     same-length-2
     same-length-3
     same-length-4
-    returns-3
     same-length-5
+    returns-3
     same-length-6
     same-length-7
     same-length-8
+    same-length-9
+    same-length-10
     returns-4)

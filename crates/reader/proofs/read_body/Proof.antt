@@ -24,30 +24,30 @@ same-length c = search needs
 same-length-2 : tie.Need-same-length-2
 same-length-2 c = search needs
 
+same-length-3 : tie.Need-same-length-3
+same-length-3 c = search needs
+
 returns : tie.Need-returns
-returns c = let pre = c .before .before .before .before .before .before .before .before .before .before .before .before .before .before .before .before .pre in body-broken _ _ _ _ _ _ _ _ _ _ _ _ _ (pre .0) (pre .3) (pre .4) (c .before .before .before .before .before .before .before .read-groups .ensures) (pre .5) (c .enum-told .given .1)
+returns c = let pre = c .before .before .before .before .before .before .before .before .before .before .before .before .before .before .before .before .before .before .before .before .pre in body-broken _ _ _ _ _ _ _ _ _ _ _ _ _ _ _ (pre .0) (pre .3) (pre .4) (c .before .before .before .before .before .before .before .before .before .read-groups .ensures) (pre .5) (c .enum-told .given .1)
 
 slice-aggregate-read-joined : tie.Need-slice-aggregate-read-joined
 slice-aggregate-read-joined c = search needs
 
 read-joined-requires : tie.Need-read-joined-requires
 read-joined-requires c κs =
-    let pre = c .before .before .before .before .before .before .before .before .before .before .before .before .before .before .before .before .before .before .before .before .before .pre in
-    let groups = c .before .before .before .before .before .before .before .before .before .before .before .before .read-groups .ensures in
+    let pre = c .before .before .before .before .before .before .before .before .before .before .before .before .before .before .before .before .before .before .before .before .before .before .before .before .before .pre in
+    let groups = c .before .before .before .before .before .before .before .before .before .before .before .before .before .before .read-groups .ensures in
     let whole = c .before .before .before .before .before .next .given .1 in (
       (
-        body-nodes _ _ _ _ _ _ _ _ _ _ _ _ _ (pre .0) (pre .3) (pre .4) groups _ _ whole (pre .1),
-        body-placed _ _ _ _ _ _ _ _ _ _ _ _ _ (pre .0) (pre .3) (pre .4) groups _ _ whole (pre .1) (pre .2) (length-replicate {A = ℕ} 512 0),
-        body-ascend _ _ _ _ _ _ _ _ _ _ _ _ _ (pre .0) (pre .3) (pre .4) groups _ _ whole,
+        body-nodes _ _ _ _ _ _ _ _ _ _ _ _ _ _ _ (pre .0) (pre .3) (pre .4) groups _ _ whole (pre .1),
+        body-placed _ _ _ _ _ _ _ _ _ _ _ _ _ _ _ (pre .0) (pre .3) (pre .4) groups _ _ whole (pre .1) (pre .2) (length-replicate {A = ℕ} 512 0),
+        body-ascend _ _ _ _ _ _ _ _ _ _ _ _ _ _ _ (pre .0) (pre .3) (pre .4) groups _ _ whole,
       ),
       (pre .3 .rows .bits, pre .4, pre .5),
     )
 
 is-end-requires : tie.Need-is-end-requires
 is-end-requires c κs = search needs
-
-same-length-3 : tie.Need-same-length-3
-same-length-3 c = search needs
 
 same-length-4 : tie.Need-same-length-4
 same-length-4 c = search needs
@@ -58,10 +58,16 @@ same-length-5 c = search needs
 same-length-6 : tie.Need-same-length-6
 same-length-6 c = search needs
 
+same-length-7 : tie.Need-same-length-7
+same-length-7 c = search needs
+
+same-length-8 : tie.Need-same-length-8
+same-length-8 c = search needs
+
 returns-2 : tie.Need-returns-2
 returns-2 c =
-    let pre = c .before .before .before .before .before .before .before .before .before .before .before .before .before .before .before .before .before .before .before .before .before .before .before .before .before .before .before .pre in
-    body-read _ _ _ _ _ _ _ _ _ _ _ _ _ (pre .0) (pre .3) (pre .4) (c .before .before .before .before .before .before .before .before .before .before .before .before .before .before .before .before .before .before .read-groups .ensures) _ _ (c .before .before .before .before .before .before .before .before .before .before .before .next .given .1) _ _ _ _ (c .before .before .before .before .before .read-joined .ensures) (c .is-end .ensures)
+    let pre = c .before .before .before .before .before .before .before .before .before .before .before .before .before .before .before .before .before .before .before .before .before .before .before .before .before .before .before .before .before .before .before .pre in
+    body-read _ _ _ _ _ _ _ _ _ _ _ _ _ _ _ (pre .0) (pre .3) (pre .4) (c .before .before .before .before .before .before .before .before .before .before .before .before .before .before .before .before .before .before .before .before .read-groups .ensures) _ _ (c .before .before .before .before .before .before .before .before .before .before .before .next .given .1) _ _ _ _ (c .before .before .before .before .before .read-joined .ensures) (c .is-end .ensures)
 
 pub read-body-spec : {M : Type 1} → statement M
 read-body-spec =
@@ -73,12 +79,14 @@ read-body-spec =
     enum-told
     same-length
     same-length-2
+    same-length-3
     returns
     slice-aggregate-read-joined
     read-joined-requires
     is-end-requires
-    same-length-3
     same-length-4
     same-length-5
     same-length-6
+    same-length-7
+    same-length-8
     returns-2)

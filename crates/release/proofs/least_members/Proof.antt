@@ -17,12 +17,12 @@ array-borrow-prefix-masked : tie.Need-array-borrow-prefix-masked
 array-borrow-prefix-masked c = search needs
 
 slice-aggregate-summarise : tie.Need-slice-aggregate-summarise
-slice-aggregate-summarise c = prefix-length (8 * c .before .before .before .before .args .n) (replicate 4096 0) (omega (arith, length-replicate {A = ℕ} 4096 0, c .before .before .before .before .pre .0 .small))
+slice-aggregate-summarise c = prefix-length (8 * c .before .before .before .before .before .args .n) (replicate 4096 0) (omega (arith, length-replicate {A = ℕ} 4096 0, c .before .before .before .before .before .pre .0 .small))
 
 summarise-requires : tie.Need-summarise-requires
 summarise-requires c κs =
-    let pre = c .before .before .before .before .before .pre in
-    (pre .0, sym (prefix-length (8 * c .before .before .before .before .before .args .n) (replicate 4096 0) (omega (arith, length-replicate {A = ℕ} 4096 0, pre .0 .small))), pre .1)
+    let pre = c .before .before .before .before .before .before .pre in
+    (pre .0, sym (prefix-length (8 * c .before .before .before .before .before .before .args .n) (replicate 4096 0) (omega (arith, length-replicate {A = ℕ} 4096 0, pre .0 .small))), pre .1)
 
 same-length : tie.Need-same-length
 same-length c = search needs
@@ -30,7 +30,7 @@ same-length c = search needs
 returns : tie.Need-returns
 returns c =
     let s = c .before .before .before in
-    truth-whole _ _ (s .before .before .before .before .before .before .pre .0 .size) (s .summarise .ensures)
+    truth-whole _ _ _ (s .before .before .before .before .before .before .before .pre .0 .size) (s .summarise .ensures)
 
 pub least-members-spec : {M : Type 1} → statement M
 least-members-spec =

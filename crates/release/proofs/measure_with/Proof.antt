@@ -16,6 +16,9 @@ slice-aggregate-judge-2 c = search needs
 slice-aggregate-judge-3 : tie.Need-slice-aggregate-judge-3
 slice-aggregate-judge-3 c = search needs
 
+slice-aggregate-judge-4 : tie.Need-slice-aggregate-judge-4
+slice-aggregate-judge-4 c = search needs
+
 judge-requires : tie.Need-judge-requires
 judge-requires c κs = search needs
 
@@ -34,14 +37,14 @@ same-length c = search needs
 returns : tie.Need-returns
 returns c =
     let e = c .unmeasured .ensures in
-    rw (e .0, e .1) (measure-none _ _ _ (c .before .before .before .before .before .before .before .before .judge .ensures) (c .before .enum-told .given .1))
+    rw (e .0, e .1) (measure-none _ _ _ (c .before .before .before .before .before .before .before .before .before .judge .ensures) (c .before .enum-told .given .1))
 
 slice-aggregate-is-placed : tie.Need-slice-aggregate-is-placed
 slice-aggregate-is-placed c = search needs
 
 is-placed-requires : tie.Need-is-placed-requires
 is-placed-requires c κs =
-    let x = c .before .before .before .before .before .before .before .before .before .judge .ensures .exact _ (c .before .before .judged .given .1) .compressed in
+    let x = c .before .before .before .before .before .before .before .before .before .before .judge .ensures .exact _ (c .before .before .judged .given .1) .compressed in
     omega (arith, x .small, x .nodes)
 
 unmeasured-requires-2 : tie.Need-unmeasured-requires-2
@@ -53,14 +56,14 @@ same-length-2 c = search needs
 returns-2 : tie.Need-returns-2
 returns-2 c =
     let e = c .unmeasured2 .ensures in
-    rw (e .0, e .1) (measure-first _ _ _ (c .before .before .before .before .before .before .before .before .before .before .before .before .judge .ensures) _ (c .before .before .before .before .before .judged .given .1) (c .before .before .is-placed .ensures) (not-true _ (c .before .if1 .taken)))
+    rw (e .0, e .1) (measure-first _ _ _ (c .before .before .before .before .before .before .before .before .before .before .before .before .before .judge .ensures) _ (c .before .before .before .before .before .judged .given .1) (c .before .before .is-placed .ensures) (not-true _ (c .before .if1 .taken)))
 
 slice-aggregate-is-placed-2 : tie.Need-slice-aggregate-is-placed-2
 slice-aggregate-is-placed-2 c = search needs
 
 is-placed-requires-2 : tie.Need-is-placed-requires-2
 is-placed-requires-2 c κs =
-    let x = c .before .before .before .before .before .before .before .before .before .before .before .before .judge .ensures .exact _ (c .before .before .before .before .before .judged .given .1) .compressed in
+    let x = c .before .before .before .before .before .before .before .before .before .before .before .before .before .judge .ensures .exact _ (c .before .before .before .before .before .judged .given .1) .compressed in
     omega (arith, x .small, x .nodes)
 
 unmeasured-requires-3 : tie.Need-unmeasured-requires-3
@@ -72,7 +75,7 @@ same-length-3 c = search needs
 returns-3 : tie.Need-returns-3
 returns-3 c =
     let e = c .unmeasured3 .ensures in
-    rw (e .0, e .1) (measure-second _ _ _ (c .before .before .before .before .before .before .before .before .before .before .before .before .before .before .before .judge .ensures) _ (c .before .before .before .before .before .before .before .before .judged .given .1) (c .before .before .is-placed2 .ensures) (not-true _ (c .before .if2 .taken)))
+    rw (e .0, e .1) (measure-second _ _ _ (c .before .before .before .before .before .before .before .before .before .before .before .before .before .before .before .before .judge .ensures) _ (c .before .before .before .before .before .before .before .before .judged .given .1) (c .before .before .is-placed2 .ensures) (not-true _ (c .before .if2 .taken)))
 
 slice-aggregate-distance : tie.Need-slice-aggregate-distance
 slice-aggregate-distance c = search needs
@@ -82,7 +85,7 @@ slice-aggregate-distance-2 c = search needs
 
 distance-requires : tie.Need-distance-requires
 distance-requires c κs = (
-  c .before .before .before .before .before .before .before .before .before .before .before .before .before .before .before .before .before .judge .ensures .exact _ (c .before .before .before .before .before .before .before .before .before .before .judged .given .1) .compressed,
+  c .before .before .before .before .before .before .before .before .before .before .before .before .before .before .before .before .before .before .judge .ensures .exact _ (c .before .before .before .before .before .before .before .before .before .before .judged .given .1) .compressed,
   sym (c .before .before .before .before .before .before .before .is-placed .ensures) ∙ not-false _ (c .before .before .before .before .before .before .if1 .left),
   sym (c .before .before .before .before .is-placed2 .ensures) ∙ not-false _ (c .before .before .before .if2 .left),
 )
@@ -92,7 +95,7 @@ same-length-4 c = search needs
 
 returns-4 : tie.Need-returns-4
 returns-4 c =
-    measure-done _ _ _ (c .before .before .before .before .before .before .before .before .before .before .before .before .before .before .before .before .before .before .judge .ensures) _ (c .before .before .before .before .before .before .before .before .before .before .before .judged .given .1)
+    measure-done _ _ _ (c .before .before .before .before .before .before .before .before .before .before .before .before .before .before .before .before .before .before .before .judge .ensures) _ (c .before .before .before .before .before .before .before .before .before .before .before .judged .given .1)
     (sym (c .before .before .before .before .before .before .before .before .is-placed .ensures) ∙ not-false _ (c .before .before .before .before .before .before .before .if1 .left))
     (sym (c .before .before .before .before .before .is-placed2 .ensures) ∙ not-false _ (c .before .before .before .before .if2 .left))
     (c .distance .ensures)
@@ -104,6 +107,7 @@ measure-with-spec =
     slice-aggregate-judge
     slice-aggregate-judge-2
     slice-aggregate-judge-3
+    slice-aggregate-judge-4
     judge-requires
     enum-known-judged
     enum-told

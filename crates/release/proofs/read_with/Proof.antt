@@ -30,6 +30,9 @@ slice-aggregate-judge-2 c = search needs
 slice-aggregate-judge-3 : tie.Need-slice-aggregate-judge-3
 slice-aggregate-judge-3 c = search needs
 
+slice-aggregate-judge-4 : tie.Need-slice-aggregate-judge-4
+slice-aggregate-judge-4 c = search needs
+
 judge-requires : tie.Need-judge-requires
 judge-requires c κs = search needs
 
@@ -52,7 +55,10 @@ same-length-7 : tie.Need-same-length-7
 same-length-7 c = search needs
 
 returns-2 : tie.Need-returns-2
-returns-2 c = read-none _ _ _ _ (c .before .before .before .before .before .before .before .before .before .before .before .before .before .right-size .ensures) (not-false _ (c .before .before .before .before .before .before .before .before .before .before .before .before .if1 .left)) (c .before .before .before .before .before .before .before .judge .ensures) (c .enum-told .given .1)
+returns-2 c =
+    let j = c .before .before .before .before .before .before .before .before in
+    let i = j .before .before .before .before .before .before in
+    read-none _ _ _ _ (i .before .right-size .ensures) (not-false _ (i .if1 .left)) (j .judge .ensures) (c .enum-told .given .1)
 
 same-length-8 : tie.Need-same-length-8
 same-length-8 c = search needs
@@ -67,10 +73,15 @@ same-length-11 : tie.Need-same-length-11
 same-length-11 c = search needs
 
 returns-3 : tie.Need-returns-3
-returns-3 c = read-other _ _ _ _ (c .before .before .before .before .before .before .before .before .before .before .before .before .before .before .before .right-size .ensures) (not-false _ (c .before .before .before .before .before .before .before .before .before .before .before .before .before .before .if1 .left)) (c .before .before .before .before .before .before .before .before .before .judge .ensures) _ (c .before .before .judged .given .1) (c .if2 .taken)
+returns-3 c =
+    let j = c .before .before .before .before .before .before .before .before .before .before in
+    let i = j .before .before .before .before .before .before in
+    read-other _ _ _ _ (i .before .right-size .ensures) (not-false _ (i .if1 .left)) (j .judge .ensures) _ (c .before .before .judged .given .1) (c .if2 .taken)
 
 are-few-requires : tie.Need-are-few-requires
-are-few-requires c κs = sized _ _ _ (c .before .before .before .before .before .before .before .before .before .before .before .before .before .before .before .right-size .ensures) (not-false _ (c .before .before .before .before .before .before .before .before .before .before .before .before .before .before .if1 .left)) .small
+are-few-requires c κs =
+    let i = c .before .before .before .before .before .before .before .before .before .before .before .before .before .before .before .before in
+    sized _ _ _ (i .before .right-size .ensures) (not-false _ (i .if1 .left)) .small
 
 slice-aggregate-fill : tie.Need-slice-aggregate-fill
 slice-aggregate-fill c = search needs
@@ -81,12 +92,16 @@ slice-aggregate-fill-2 c = search needs
 slice-aggregate-fill-3 : tie.Need-slice-aggregate-fill-3
 slice-aggregate-fill-3 c = search needs
 
+slice-aggregate-fill-4 : tie.Need-slice-aggregate-fill-4
+slice-aggregate-fill-4 c = search needs
+
 fill-requires : tie.Need-fill-requires
 fill-requires c κs =
-    let j = c .before .before .before .before .before .before .before .before .before .before .before .before .before .before .before .before .before .judge .ensures in
-    let z = c .before .before .before .before .before .before .before .before .before .before .judged .given .1 in
-    let d = c .before .before .before .before .before .before .before .before .if2 .left in
-    ((judged-exact j _ z _ d, sized _ _ _ (c .before .before .before .before .before .before .before .before .before .before .before .before .before .before .before .before .before .before .before .before .before .before .before .right-size .ensures) (not-false _ (c .before .before .before .before .before .before .before .before .before .before .before .before .before .before .before .before .before .before .before .before .before .before .if1 .left))), judged-sums j _ z _ d (c .before .before .before .before .before .before .before .are-few .ensures))
+    let f = c .before .before .before .before .before .before .before .before in
+    let k = f .before .before .before in
+    let j = k .before .before .before .before .before .before .before .before in
+    let i = j .before .before .before .before .before .before in
+    ((judged-exact (j .judge .ensures) _ (k .judged .given .1) _ (f .before .if2 .left), sized _ _ _ (i .before .right-size .ensures) (not-false _ (i .if1 .left))), judged-sums (j .judge .ensures) _ (k .judged .given .1) _ (f .before .if2 .left) (f .are-few .ensures))
 
 same-length-12 : tie.Need-same-length-12
 same-length-12 c = search needs
@@ -101,7 +116,13 @@ same-length-15 : tie.Need-same-length-15
 same-length-15 c = search needs
 
 returns-4 : tie.Need-returns-4
-returns-4 c = read-done _ _ _ _ (c .before .before .before .before .before .before .before .before .before .before .before .before .before .before .before .before .before .before .before .before .before .before .before .before .before .before .before .before .before .before .before .right-size .ensures) (not-false _ (c .before .before .before .before .before .before .before .before .before .before .before .before .before .before .before .before .before .before .before .before .before .before .before .before .before .before .before .before .before .before .if1 .left)) (c .before .before .before .before .before .before .before .before .before .before .before .before .before .before .before .before .before .before .before .before .before .before .before .before .before .judge .ensures) _ (c .before .before .before .before .before .before .before .before .before .before .before .before .before .before .before .before .before .before .judged .given .1) (c .before .before .before .before .before .before .before .before .before .before .before .before .before .before .before .before .if2 .left) (c .before .before .before .before .before .before .before .fill .ensures)
+returns-4 c =
+    let w = c .before .before .before .before .before .before .before in
+    let f = w .before .before .before .before .before .before .before .before .before in
+    let k = f .before .before .before in
+    let j = k .before .before .before .before .before .before .before .before in
+    let i = j .before .before .before .before .before .before in
+    read-done _ _ _ _ (i .before .right-size .ensures) (not-false _ (i .if1 .left)) (j .judge .ensures) _ (k .judged .given .1) (f .before .if2 .left) (w .fill .ensures)
 
 pub read-with-spec : {M : Type 1} → statement M
 read-with-spec =
@@ -115,6 +136,7 @@ read-with-spec =
     slice-aggregate-judge
     slice-aggregate-judge-2
     slice-aggregate-judge-3
+    slice-aggregate-judge-4
     judge-requires
     enum-known-judged
     enum-told
@@ -132,6 +154,7 @@ read-with-spec =
     slice-aggregate-fill
     slice-aggregate-fill-2
     slice-aggregate-fill-3
+    slice-aggregate-fill-4
     fill-requires
     same-length-12
     same-length-13

@@ -31,7 +31,7 @@ find-twin-requires c κs =
     let small = start .pre .0 .small in
     let rows = ready-edges _ _ _ (start .pre .0) in
     let pairs = ready-keys _ _ _ (start .pre .0) in
-    (omega arith, omega arith, omega arith, omega arith, omega arith, omega arith, row-length (start .args .edges .now) (start .args .u) (omega arith))
+    (omega arith, omega arith, omega arith, omega arith, omega arith, omega arith, omega arith, row-length (start .args .edges .now) (start .args .u) (omega arith))
 
 returns : tie.Need-returns
 returns c =

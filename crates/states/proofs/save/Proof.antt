@@ -20,20 +20,20 @@ slice-aggregate-copy-words c = let s = c .before .before .before .before in sym 
 copy-words-requires : tie.Need-copy-words-requires
 copy-words-requires c κs = let s = c .before .before .before .before in omega (arith, length-take-le (8 * s .args .n) (s .args .to .now) (omega arith))
 
-mul-save-marks : tie.Need-mul-save-marks
-mul-save-marks c = search needs
+mul-save-words : tie.Need-mul-save-words
+mul-save-words c = search needs
 
-sub-save-marks : tie.Need-sub-save-marks
-sub-save-marks c = search needs
+sub-save-words : tie.Need-sub-save-words
+sub-save-words c = search needs
 
-part-save-marks-start : tie.Need-part-save-marks-start
-part-save-marks-start c = search needs
+part-save-words-start : tie.Need-part-save-words-start
+part-save-words-start c = search needs
 
-part-save-marks-end : tie.Need-part-save-marks-end
-part-save-marks-end c = search needs
+part-save-words-end : tie.Need-part-save-words-end
+part-save-words-end c = search needs
 
-save-marks-requires : tie.Need-save-marks-requires
-save-marks-requires c κs = search needs
+save-words-requires : tie.Need-save-words-requires
+save-words-requires c κs = search needs
 
 same-length : tie.Need-same-length
 same-length c = search needs
@@ -42,7 +42,7 @@ returns : tie.Need-returns
 returns c =
     let e = c .before .before .before .before .before .before in
     let s = e .before .before .before .before .before in
-    λ keys h. saved h (s .args .to .now) (e .copy-words .last .1 .0) (c .before .before .save-marks .last .1 .1 .0) (s .pre .3) (e .copy-words .ensures) (c .before .before .save-marks .ensures)
+    λ keys h. saved h (s .args .to .now) (e .copy-words .last .1 .0) (c .before .before .save-words .last .1 .1 .0) (s .pre .3) (e .copy-words .ensures) (c .before .before .save-words .ensures)
 
 pub save-spec : {M : Type 1} → statement M
 save-spec =
@@ -52,10 +52,10 @@ save-spec =
     slice-relend-prefix-copy-words
     slice-aggregate-copy-words
     copy-words-requires
-    mul-save-marks
-    sub-save-marks
-    part-save-marks-start
-    part-save-marks-end
-    save-marks-requires
+    mul-save-words
+    sub-save-words
+    part-save-words-start
+    part-save-words-end
+    save-words-requires
     same-length
     returns)

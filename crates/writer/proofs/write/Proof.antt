@@ -13,7 +13,7 @@ measure-requires : tie.Need-measure-requires
 measure-requires c κs = search needs
 
 returns : tie.Need-returns
-returns c = refused _ _ _ (c .before .before .before .measure .ensures .bytes-are) _ (c .if1 .taken)
+returns c = refused _ _ _ _ (c .before .before .before .measure .ensures .bytes-are) _ (c .if1 .taken)
 
 array-share-prefix-leaders : tie.Need-array-share-prefix-leaders
 array-share-prefix-leaders c = search needs
@@ -24,11 +24,8 @@ slice-aggregate-write-file c = let m = c .before .before .before .before .before
 write-file-requires : tie.Need-write-file-requires
 write-file-requires c κs =
     let m = c .before .before .before .before .before .before .before .measure .ensures in
-    let p = c .before .before .before .before .before .before .before .before .before .before .before .before .pre in
-    (p, ((m .listed, marked-as (m .set-is) (m .listed)), (m .nodes-are, room-is _ _ _ (m .bytes-are) p (c .before .before .before .before .if1 .left))))
-
-cast-t19 : tie.Need-cast-t19
-cast-t19 c = search needs
+    let p = c .before .before .before .before .before .before .before .before .before .before .before .before .before .pre in
+    (p, ((m .listed, marked-as (m .set-is) (m .listed)), (m .nodes-are, room-is _ _ _ _ (m .bytes-are) (p .0) (c .before .before .before .before .if1 .left))))
 
 cast-t20 : tie.Need-cast-t20
 cast-t20 c = search needs
@@ -37,7 +34,10 @@ cast-t21 : tie.Need-cast-t21
 cast-t21 c = search needs
 
 cast-t22 : tie.Need-cast-t22
-cast-t22 c = omega (arith, c .before .before .before .before .before .before .before .before .before .before .before .before .measure .ensures .bytes-fit)
+cast-t22 c = search needs
+
+cast-t23 : tie.Need-cast-t23
+cast-t23 c = omega (arith, c .before .before .before .before .before .before .before .before .before .before .before .before .measure .ensures .bytes-fit)
 
 same-length : tie.Need-same-length
 same-length c = search needs
@@ -45,7 +45,7 @@ same-length c = search needs
 returns-2 : tie.Need-returns-2
 returns-2 c =
     let m = c .before .before .before .before .before .before .before .before .before .before .before .before .measure .ensures in
-    done _ _ _ (m .bytes-are) (m .groups-are) (m .nodes-are) (m .superedges-are) _ (c .before .before .before .before .before .before .before .before .before .before .before .before .before .before .before .before .before .pre) (c .before .before .before .before .before .before .before .before .before .if1 .left) (c .before .before .before .before .write-file .ensures)
+    done _ _ _ _ (m .bytes-are) (m .groups-are) (m .nodes-are) (m .superedges-are) _ (c .before .before .before .before .before .before .before .before .before .before .before .before .before .before .before .before .before .before .pre .0) (c .before .before .before .before .before .before .before .before .before .if1 .left) (c .before .before .before .before .write-file .ensures)
 
 pub write-spec : {M : Type 1} → statement M
 write-spec =
@@ -57,9 +57,9 @@ write-spec =
     array-share-prefix-leaders
     slice-aggregate-write-file
     write-file-requires
-    cast-t19
     cast-t20
     cast-t21
     cast-t22
+    cast-t23
     same-length
     returns-2)

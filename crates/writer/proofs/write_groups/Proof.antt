@@ -14,10 +14,10 @@ use Rattle.writer.proofs.write_groups.Statement.{statement}
 use Rattle.writer.proofs.write_groups.Tie as tie
 
 abbrev Inv-loop : tie.InvT-loop
-Inv-loop out₀ at next n edges leaders to₀ i₀ i-end out to i = Left out₀ at (groupsBytes (edgeBit edges) (chain n next n) leaders) out to (flat (λ i. groupBytes (edgeBit edges) (chain n next n (getD leaders i 0))) (length leaders) i)
+Inv-loop out₀ at next n classes edges leaders to₀ i₀ i-end out to i = Left out₀ at (groupsBytes (edgeBit edges) classes (chain n next n) leaders) out to (flat (λ i. groupBytes (edgeBit edges) classes (chain n next n (getD leaders i 0))) (length leaders) i)
 
 abbrev μ-loop : tie.MeasureT-loop
-μ-loop out₀ at next n edges leaders to₀ i₀ i-end out to i = length leaders - i
+μ-loop out₀ at next n classes edges leaders to₀ i₀ i-end out to i = length leaders - i
 
 loop-holds : tie.Need-loop-holds Inv-loop μ-loop
 unfolding groupsBytes
@@ -33,7 +33,7 @@ wide-requires : tie.Need-wide-requires Inv-loop μ-loop
 wide-requires c κs = search needs
 
 write-group-requires : tie.Need-write-group-requires Inv-loop μ-loop
-write-group-requires c κs = (c .before .before .before .before .before .before .before .before .before .pre .0, ((omega (arith, c .wide .ensures, c .before .before .before .before .before .before .before .before .before .pre .1 .0 .below (c .before .before .before .before .loop .i) (c .before .before .before .loop-test .taken)), c .before .before .before .before .before .before .before .before .before .pre .1 .0 .rows), rw (c .wide .ensures) (flat-room _ _ _ (c .before .before .before .before .loop .inv) (c .before .before .before .before .before .before .before .before .before .pre .1 .1) (c .before .before .before .loop-test .taken))))
+write-group-requires c κs = (c .before .before .before .before .before .before .before .before .before .before .pre .0, ((omega (arith, c .wide .ensures, c .before .before .before .before .before .before .before .before .before .before .pre .1 .0 .0 .below (c .before .before .before .before .loop .i) (c .before .before .before .loop-test .taken)), c .before .before .before .before .before .before .before .before .before .before .pre .1 .0 .0 .rows, c .before .before .before .before .before .before .before .before .before .before .pre .1 .0 .1), rw (c .wide .ensures) (flat-room _ _ _ (c .before .before .before .before .loop .inv) (c .before .before .before .before .before .before .before .before .before .before .pre .1 .1) (c .before .before .before .loop-test .taken))))
 
 add-i : tie.Need-add-i Inv-loop μ-loop
 add-i c = omega arith

@@ -11,7 +11,7 @@ slice-aggregate-group-all-2 : tie.Need-slice-aggregate-group-all-2
 slice-aggregate-group-all-2 c = search needs
 
 group-all-requires : tie.Need-group-all-requires
-group-all-requires c κs = let pre = c .before .before .before .before .before .before .pre in (pre .0, links-none, links-none, pre .1)
+group-all-requires c κs = let pre = c .before .before .before .before .before .before .before .pre in (pre .0, links-none, links-none, pre .1)
 
 same-length : tie.Need-same-length
 same-length c = search needs

@@ -12,7 +12,7 @@ shared-slice-read-if1 : tie.Need-shared-slice-read-if1
 shared-slice-read-if1 c = search needs
 
 returns : tie.Need-returns
-returns c = let pre = c .before .before .before .before .before .pre in (omega arith, none-met _ _ (pre .2) (c .if1 .taken))
+returns c = let pre = c .before .before .before .before .before .before .pre in (omega arith, none-met _ _ _ (pre .3) (c .if1 .taken))
 
 find-alike-requires : tie.Need-find-alike-requires
 find-alike-requires c κs = search needs

@@ -26,18 +26,18 @@ part-row-end c = search needs
 
 find-in-slot-requires : tie.Need-find-in-slot-requires
 find-in-slot-requires c κs =
-    let start = c .before .before .before .before in
+    let start = c .before .before .before .before .before in
     let pre = start .pre in
-    (pre .0, pre .1, pre .2, pre .4, row-part (start .args .edges .now) (start .args .u))
+    (pre .0, pre .1, pre .2, pre .3, pre .5, row-part (start .args .edges .now) (start .args .u))
 
 returns : tie.Need-returns
 returns c = led-open (c .before .find-in-slot .ensures .1) (c .if1 .taken)
 
 find-in-slot-requires-2 : tie.Need-find-in-slot-requires-2
 find-in-slot-requires-2 c κs =
-    let start = c .before .before .before .before .before .before in
+    let start = c .before .before .before .before .before .before .before in
     let pre = start .pre in
-    (pre .0, pre .1, pre .3, pre .5, row-part (start .args .edges .now) (start .args .u))
+    (pre .0, pre .1, pre .2, pre .4, pre .6, row-part (start .args .edges .now) (start .args .u))
 
 returns-2 : tie.Need-returns-2
 returns-2 c =

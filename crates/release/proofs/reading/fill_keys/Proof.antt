@@ -4,7 +4,7 @@ use Rattle.release.proofs.reading.fill_keys.Statement.{statement}
 use Rattle.release.proofs.reading.fill_keys.Tie as tie
 
 key-groups-requires : tie.Need-key-groups-requires
-key-groups-requires c κs = let x = c .before .before .before .before .before .before .before .before .pre in (x .1 (c .before .before .if1 .taken), x .2)
+key-groups-requires c κs = let x = c .before .before .before .before .before .before .before .before .before .pre in (x .1 (c .before .before .if1 .taken), x .2)
 
 same-length : tie.Need-same-length
 same-length c = search needs

@@ -7,11 +7,11 @@ use Rattle.release.proofs.reading.key_groups.Tie as tie
 
 key-groups-requires : tie.Need-key-groups-requires
 key-groups-requires c κs =
-    let x = c .before .before .before .before .before .before .before .pre in
+    let x = c .before .before .before .before .before .before .before .before .pre in
     (compressed-led (x .0 .exact .compressed), x .0 .exact .compressed .groups, x .0 .cubed, x .1)
 
 adopt-hidden-requires : tie.Need-adopt-hidden-requires
-adopt-hidden-requires c κs = let x = c .before .before .before .before .before .before .before .before .before .before .before .pre .0 in filled-visible _ (x .exact) (x .edges-of)
+adopt-hidden-requires c κs = let x = c .before .before .before .before .before .before .before .before .before .before .before .before .pre .0 in filled-visible _ (x .exact) (x .edges-of)
 
 same-length : tie.Need-same-length
 same-length c = search needs
@@ -21,7 +21,7 @@ same-length-2 c = search needs
 
 returns : tie.Need-returns
 returns c =
-    let x = c .before .before .before .before .before .before .before .before .before .before .before .before .before .before .pre .0 in
+    let x = c .before .before .before .before .before .before .before .before .before .before .before .before .before .before .before .pre .0 in
     record { least = c .before .before .adopt-hidden .ensures; keys-of = grouped-keys _ (x .exact) (x .edges-of) (c .before .before .before .before .before .before .key-groups .ensures (x .joined) (x .exact .compressed) (x .summed)) }
 
 pub key-groups-spec : {M : Type 1} → statement M

@@ -1,6 +1,6 @@
 -- `store::soundness::state_holds` meets its contract.
 use Rattle.buffers.specs.AllLaws.{failed, passed}
-use Rattle.store.specs.JudgeLaws.{edges-fail, marks-tell}
+use Rattle.store.specs.JudgeLaws.{edges-fail, words-tell}
 use borrow.Author.Needs.{needs}
 use Rattle.store.proofs.soundness.state_holds.Statement.{statement}
 use Rattle.store.proofs.soundness.state_holds.Tie as tie
@@ -19,7 +19,7 @@ union-of-requires : tie.Need-union-of-requires
 union-of-requires c κs = search needs
 
 returns-2 : tie.Need-returns-2
-returns-2 c = marks-tell _ _ _ (passed (c .before .before .hold .ensures) (c .before .if1 .left)) (c .union-of .ensures 1)
+returns-2 c = words-tell _ _ _ (passed (c .before .before .hold .ensures) (c .before .if1 .left)) (c .union-of .ensures 9)
 
 pub state-holds-spec : {M : Type 1} → statement M
 state-holds-spec = tie.close (tie.spec hold-requires returns union-of-requires returns-2)
