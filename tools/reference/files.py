@@ -7,10 +7,11 @@ import sys
 from reference import Graph, numbers, release_of
 
 
-def graph(n, edges, hidden=()):
+def graph(n, edges, hidden=(), classes=None):
     found = Graph(n)
     found.edges = {(min(p, q), max(p, q)) for p, q in edges}
     found.hidden = set(hidden)
+    found.classes = classes or found.classes
     return found
 
 
@@ -53,14 +54,21 @@ GRAPHS = {
     'twins300': graph(300, twins(2, 300, 7, 0.5)),
     'dense40': graph(40, drawn(3, 40, 0.5)),
     'dense64-hidden': graph(64, drawn(4, 64, 0.8), range(3, 64, 5)),
+    'pair-classes': graph(2, [], (), [0, 1]),
+    'pair-tied-classes': graph(2, [(0, 1)], (), [255, 0]),
+    'bipartite-classes': graph(6, BIPARTITE, [3], [2, 0, 2, 7, 1, 1]),
+    'clique6-classes': graph(6, [(p, q) for q in range(6) for p in range(q)], (), [1, 2, 1, 0, 2, 255]),
+    'edgeless512-classes': graph(512, [], (), [p % 256 for p in range(512)]),
+    'twins300-classes': graph(300, twins(2, 300, 7, 0.5), range(0, 300, 13), [p % 3 for p in range(300)]),
+    'sparse64-classes': graph(64, drawn(5, 64, 0.02), range(0, 64, 9), [p * p % 5 for p in range(64)]),
 }
 
 
 def file(n, m, g, groups, superedges):
-    """Records as told, right or not: groups are a letter and members."""
+    """Records as told, right or not: groups are a letter, after it a class that is not 0, and members."""
     found = b'HD' + numbers(n, m, g)
-    for kind, *members in groups:
-        found += b'G' + kind.encode() + numbers(len(members), *members)
+    for (letter, *c), *members in groups:
+        found += b'G' + letter.encode() + numbers(len(members), int(''.join(c) or 0), *members)
     for pair in superedges:
         found += b'SE' + numbers(*pair)
     return found + b'EN'
@@ -111,7 +119,16 @@ DAMAGED = {
     'superedge-greater-first': file(6, 6, 4, CUT, [(0, 3), (2, 1), (1, 3)]),
     'superedge-own': file(6, 6, 4, CUT, [(0, 0), (0, 3), (1, 2), (1, 3)]),
     'superedge-4': file(6, 6, 4, CUT, [(0, 3), (1, 2), (1, 4)]),
-    'superedge-before-group': GOOD[:18] + b'SE' + numbers(0, 1) + GOOD[18:28] + b'EN',
+    'superedge-before-group': GOOD[:20] + b'SE' + numbers(0, 1) + GOOD[20:32] + b'EN',
+    'class-256': file(6, 6, 2, [('I256', 0, 1, 2), RIGHT], [(0, 1)]),
+    'class-65535': file(6, 6, 2, [LEFT, ('I65535', 3, 4, 5)], [(0, 1)]),
+    'class-256-lone': file(1, 1, 1, [('I256', 0)], []),
+    'class-256-clique': file(2, 2, 1, [('C256', 0, 1)], []),
+    'classes-missing': GOOD[:12] + GOOD[14:24] + GOOD[26:],
+    'fewer-in-class': file(2, 2, 2, [('I7', 0), ('I7', 1)], []),
+    'fewer-tied-in-class': file(2, 2, 2, [('I255', 0), ('I255', 1)], [(0, 1)]),
+    'fewer-past-class': file(3, 3, 3, [('I1', 0), ('I2', 1), ('I1', 2)], []),
+    'fewer-past-clique': file(4, 4, 3, [('C1', 0, 3), ('I', 1), ('I1', 2)], [(0, 1), (0, 2), (1, 2)]),
 }
 
 

@@ -4,24 +4,25 @@
     reference.py index < SCRIPT             what index_trial prints
     reference.py release FOLDER < SCRIPT    what release_trial prints, run in the folder
 
-An implementation apart from the library: a graph is a set of pairs and a set of hidden nodes, and after each update the groups are
-found anew by Algorithm 1."""
+An implementation apart from the library: a graph is a set of pairs, a set of hidden nodes and a class for each node, and after each
+update the groups are found anew by Algorithm 1."""
 import functools
 import os
 import sys
 
-MOST_NODES, MOST_UPDATES, ROW_WORDS, NODE_NUMBERS, UPDATE_NUMBERS = 512, 4096, 8, 4, 4
-MOST_STATES, NAME_BYTES = 8, 16
+MOST_NODES, MOST_UPDATES, ROW_WORDS, NODE_NUMBERS, UPDATE_NUMBERS = 512, 4096, 8, 5, 4
+MOST_STATES, NAME_BYTES, MOST_CLASS = 8, 16, 255
 NO_CHAIN = 65535
 
 
 class Graph:
-    """n nodes, edges as pairs (lesser, greater), hidden nodes."""
+    """n nodes, edges as pairs (lesser, greater), hidden nodes, the class of each node."""
 
     def __init__(self, n):
         self.n = n
         self.edges = set()
         self.hidden = set()
+        self.classes = [0] * n
 
     def tied(self, p, q):
         return (min(p, q), max(p, q)) in self.edges
@@ -34,8 +35,9 @@ class Graph:
         return [frozenset(s) for s in found]
 
 
-def algorithm1(nodes, neighbourhood):
-    """Algorithm 1 of source document 002, lines 2 to 8: the groups, by least member, members ascending."""
+def algorithm1(nodes, neighbourhood, classes):
+    """Algorithm 1 of source document 002, lines 2 to 8, where nodes of one group have one class: the groups, by least member, members
+    ascending."""
     closed = {u: neighbourhood[u] | {u} for u in nodes}
     done, groups = set(), []
     for u in nodes:
@@ -44,7 +46,8 @@ def algorithm1(nodes, neighbourhood):
         group = [u]
         done.add(u)
         for v in nodes:
-            if v not in done and (neighbourhood[u] == neighbourhood[v] or closed[u] == closed[v]):
+            alike = neighbourhood[u] == neighbourhood[v] or closed[u] == closed[v]
+            if v not in done and alike and classes[u] == classes[v]:
                 group.append(v)
                 done.add(v)
         groups.append(group)
@@ -52,7 +55,7 @@ def algorithm1(nodes, neighbourhood):
 
 
 def groups_of(graph):
-    return algorithm1(range(graph.n), graph.neighbourhoods())
+    return algorithm1(range(graph.n), graph.neighbourhoods(), graph.classes)
 
 
 def edges_of(graph):
@@ -75,14 +78,17 @@ def tables_of(graph):
     for group in groups_of(graph):
         for i, p in enumerate(group):
             following, previous = group[(i + 1) % len(group)], group[i - 1]
-            nodes[4 * p:4 * p + 4] = [group[0], following, previous, marks[p]]
+            nodes[NODE_NUMBERS * p:NODE_NUMBERS * (p + 1)] = [group[0], following, previous, marks[p], graph.classes[p]]
     return [edges_of(graph), nodes, keys]
 
 
-def simple_graph(n, edges, marks):
-    """The graph that an edge table and marks tell, or None where the edges are none of a graph."""
+def simple_graph(n, edges, marks, classes):
+    """The graph that an edge table, marks and classes tell, or None where the edges or the classes are none of a graph."""
+    if any(c > MOST_CLASS for c in classes):
+        return None
     rows = [sum(edges[8 * p + w] << 64 * w for w in range(ROW_WORDS)) for p in range(n)]
     graph = Graph(n)
+    graph.classes = list(classes)
     for p in range(n):
         if rows[p] >> n or rows[p] >> p & 1:
             return None
@@ -99,7 +105,7 @@ def simple_graph(n, edges, marks):
 def graph_of(n, tables):
     """The graph that tables of the right lengths hold, or None."""
     edges, nodes, keys = tables
-    graph = simple_graph(n, edges, nodes[3::NODE_NUMBERS])
+    graph = simple_graph(n, edges, nodes[3::NODE_NUMBERS], nodes[4::NODE_NUMBERS])
     return graph if graph and tables_of(graph) == tables else None
 
 
@@ -116,7 +122,8 @@ def place_of(n, place):
     if place is None:
         return [0] * place_words(n)
     name, graph = place
-    return [1] + [int.from_bytes(half, 'little') for half in (name[:8], name[8:])] + edges_of(graph) + marks_of(graph)
+    halves = [int.from_bytes(half, 'little') for half in (name[:8], name[8:])]
+    return [1] + halves + edges_of(graph) + [mark + 2 * c for mark, c in zip(marks_of(graph), graph.classes)]
 
 
 def store_of(n, places):
@@ -125,11 +132,12 @@ def store_of(n, places):
 
 
 def place_in(n, words):
-    """The place that words tell; False where their edges are none of a graph."""
+    """The place that words tell; False where their edges or classes are none of a graph."""
     if words[0] == 0:
         return None
     name = b''.join(half.to_bytes(8, 'little') for half in words[1:3])
-    graph = simple_graph(n, words[3:3 + ROW_WORDS * n], words[3 + ROW_WORDS * n:])
+    last = words[3 + ROW_WORDS * n:]
+    graph = simple_graph(n, words[3:3 + ROW_WORDS * n], [x % 2 for x in last], [x // 2 for x in last])
     return graph is not None and (name, graph)
 
 
@@ -149,19 +157,21 @@ def updates_of(batch):
 
 
 def subject(graph, kind, u, v):
-    """What an update is about: a set, and the one that is wanted in it or not."""
+    """What an update of an edge or a mark is about: a set, and the one that is wanted in it or not."""
     return (graph.edges, (min(u, v), max(u, v))) if kind == 1 else (graph.hidden, u)
 
 
 def update_refusal(graph, kind, u, v, wanted):
-    if kind not in (1, 2):
+    if kind not in (1, 2, 3):
         return 13
     if u >= graph.n or kind == 1 and v >= graph.n:
         return 14
-    if wanted > 1 or (u == v if kind == 1 else v != 0):
+    if wanted > (0 if kind == 3 else 1) or (u == v, v != 0, v > MOST_CLASS)[kind - 1]:
         return 15
     if kind == 1 and graph.hidden & {u, v}:
         return 24
+    if kind == 3:
+        return 16 if graph.classes[u] == v else 0
     members, one = subject(graph, kind, u, v)
     return 16 if (one in members) == (wanted == 1) else 0
 
@@ -172,11 +182,11 @@ def update(graph, kind, u, v, wanted):
     if refused:
         return refused
     before = len(groups_of(graph))
-    members, one = subject(graph, kind, u, v)
-    if wanted:
-        members.add(one)
+    if kind == 3:
+        graph.classes[u] = v
     else:
-        members.remove(one)
+        members, one = subject(graph, kind, u, v)
+        (members.add if wanted else members.remove)(one)
     return len(groups_of(graph)) - before
 
 
@@ -185,15 +195,16 @@ def numbers(*found):
 
 
 def visible_part(graph):
-    """The visible nodes, and the graph of the edges between them."""
+    """The visible nodes, and the graph of the edges between them, with their classes."""
     visible = Graph(graph.n)
+    visible.classes = graph.classes
     visible.edges = {pair for pair in graph.edges if not graph.hidden & set(pair)}
     return [p for p in range(graph.n) if p not in graph.hidden], visible
 
 
 def visible_groups(graph):
     nodes, visible = visible_part(graph)
-    return algorithm1(nodes, visible.neighbourhoods())
+    return algorithm1(nodes, visible.neighbourhoods(), visible.classes)
 
 
 def release_of(graph):
@@ -205,7 +216,7 @@ def release_of(graph):
     file = b'HD' + numbers(graph.n, len(nodes), len(groups))
     for group in groups:
         clique = len(group) > 1 and visible.tied(group[0], group[1])
-        file += (b'GC' if clique else b'GI') + numbers(len(group), *group)
+        file += (b'GC' if clique else b'GI') + numbers(len(group), visible.classes[group[0]], *group)
     for i, j in superedges:
         file += b'SE' + numbers(i, j)
     return file + b'EN', len(nodes), len(groups), len(superedges)
@@ -228,12 +239,15 @@ class Records:
 
 
 def unfolded(n, groups, superedges):
-    """The graph that groups (whether a clique, members) and superedges tell."""
+    """The graph that groups (whether a clique, class, members) and superedges tell."""
     graph = Graph(n)
-    graph.hidden = set(range(n)) - {p for _, members in groups for p in members}
-    pairs = [(p, q) for clique, members in groups if clique for p in members for q in members]
+    graph.hidden = set(range(n)) - {p for _, _, members in groups for p in members}
+    for _, c, members in groups:
+        for p in members:
+            graph.classes[p] = c
+    pairs = [(p, q) for clique, _, members in groups if clique for p in members for q in members]
     for i, j in superedges:
-        pairs += [(p, q) for p in groups[i][1] for q in groups[j][1]]
+        pairs += [(p, q) for p in groups[i][2] for q in groups[j][2]]
     graph.edges = {(min(p, q), max(p, q)) for p, q in pairs if p != q}
     return graph
 
@@ -246,14 +260,15 @@ def graph_of_file(file):
     n, _, _ = records.number(), records.number(), records.number()
     mark = records.mark()
     while mark in (b'GI', b'GC'):
-        groups.append((mark == b'GC', records.numbers(records.number())))
+        count, c = records.number(), records.number()
+        groups.append((mark == b'GC', c, records.numbers(count)))
         mark = records.mark()
     while mark == b'SE':
         superedges.append((records.number(), records.number()))
         mark = records.mark()
     if mark != b'EN' or records.pairs:
         return None
-    if n > MOST_NODES or any(p >= n for _, members in groups for p in members):
+    if n > MOST_NODES or any(c > MOST_CLASS or p >= n for _, c, members in groups for p in members):
         return None
     if any(max(pair) >= len(groups) for pair in superedges):
         return None
@@ -460,9 +475,11 @@ def drawn(seed, times, span):
         return x // 65536 % below if below else 0
 
     for _ in range(times):
-        k, u, v, some = draw(8), draw(span), draw(span), draw(16)
-        kind, wanted = ((1, 1), (1, 1), (1, 1), (1, 0), (1, 0), (2, int(some % 3 == 0)), (2, 0), (some % 4, some // 4))[k]
-        found += [kind, u, v if k < 5 or some == 0 else 0, wanted]
+        k, u, v, some = draw(10), draw(span), draw(span), draw(16)
+        mark = 2, int(some % 3 == 0)
+        kind, wanted = ((1, 1), (1, 1), (1, 1), (1, 0), (1, 0), mark, (2, 0), (3, 0), (3, 0), (some % 5, some // 4))[k]
+        second = (256, 255, *[i % 3 for i in range(2, 16)])[some] if k in (7, 8) else v if k < 5 or some == 0 else 0
+        found += [kind, u, second, wanted]
     return found
 
 
@@ -481,7 +498,7 @@ class Script:
     def __init__(self, out):
         self.out = out
         self.calls = Calls()
-        self.whole = [[7] * 4104, [7] * 2052, [7] * 1026]
+        self.whole = [[7] * 4104, [7] * 2565, [7] * 1026]
         self.n = 0
         self.lent = [0, 0, 0]
 
@@ -497,7 +514,7 @@ class Script:
         return result, parts
 
     def size(self, n):
-        self.n, self.lent = n, [8 * n, 4 * n, 2 * n]
+        self.n, self.lent = n, [ROW_WORDS * n, NODE_NUMBERS * n, 2 * n]
 
     def lend(self, edges, nodes, keys):
         self.lent = [edges, nodes, keys]
@@ -597,7 +614,8 @@ class IndexScript(Script):
 
     def dump(self, a, b):
         for p in range(a, b):
-            self.say('node', p, 'holds', *self.whole[1][4 * p:4 * p + 4], 'keys', *self.whole[2][2 * p:2 * p + 2])
+            numbers = self.whole[1][NODE_NUMBERS * p:NODE_NUMBERS * (p + 1)]
+            self.say('node', p, 'holds', *numbers, 'keys', *self.whole[2][2 * p:2 * p + 2])
 
     def flip(self, p, q):
         self.whole[0][8 * p + q // 64] ^= 1 << q % 64
@@ -696,7 +714,7 @@ class ReleaseScript(Script):
 
     def tried(self, tally, file, p):
         """One damaged file: read into tables for six nodes, and asked for the neighbours of p and its distance from node 0."""
-        tables = [[7] * 48, [7] * 24, [7] * 12]
+        tables = [[7] * (6 * ROW_WORDS), [7] * (6 * NODE_NUMBERS), [7] * 12]
         result = self.calls.read(6, tables, file)
         h = fold_tables(fold_all(tally[1], [result]), tables)
         return tally[0] + (result == 0), self.asked_twice(h, file, p)

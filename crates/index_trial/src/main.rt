@@ -3,6 +3,7 @@
 mod calls;
 mod sweep;
 
+use rows::Graph;
 use trial::batch;
 use trial::pokes;
 use trial::script;
@@ -161,7 +162,7 @@ fn main() {
     let n = io::read_full(0, &mut text);
     let mut set = [0u64; 7];
     let mut edges = [7u64; 4104];
-    let mut nodes = [7u16; 2052];
+    let mut nodes = [7u16; 513 * Graph::NODE_NUMBERS];
     let mut keys = [7u32; 1026];
     let mut store = [7u64; 36897];
     let mut batch = [0u16; 16400];

@@ -4,6 +4,7 @@ mod calls;
 mod files;
 mod sweep;
 
+use rows::Graph;
 use trial::script;
 use trial::script::within;
 use trial::sizes;
@@ -125,7 +126,7 @@ fn main() {
     let n = io::read_full(0, &mut text);
     let mut set = [0u64; 7];
     let mut edges = [7u64; 4104];
-    let mut nodes = [7u16; 2052];
+    let mut nodes = [7u16; 513 * Graph::NODE_NUMBERS];
     let mut keys = [7u32; 1026];
     let mut file = [0u8; 65536];
     run(

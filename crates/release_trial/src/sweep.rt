@@ -1,4 +1,5 @@
 // Many calls for one line.
+use rows::Graph;
 use trial::digest::fold;
 use trial::digest::fold_bytes;
 use trial::digest::fold_numbers;
@@ -98,7 +99,7 @@ fn counted(read: u64, result: u16) -> u64 {
 // A file read into tables for six nodes, filled with 7, and asked for the neighbours of p and its distance from node 0.
 fn attempt(t: Tally, file: &[u8], p: u16) -> Tally {
     let mut edges = [7u64; 48];
-    let mut nodes = [7u16; 24];
+    let mut nodes = [7u16; 6 * Graph::NODE_NUMBERS];
     let mut keys = [7u32; 12];
     let r = release::read(6, &mut edges, &mut nodes, &mut keys, file);
     let d = fold_tables(fold(t.digest, wide(r)), &edges, &nodes, &keys);

@@ -4,6 +4,7 @@ use crate::digest::wide_key;
 use crate::say;
 use crate::script::small;
 use crate::script::within;
+use rows::Graph;
 
 // Node q's bit in node p's row, the other way.
 fn flip(edges: &mut [u64], p: u64, q: u64) {
@@ -71,14 +72,16 @@ fn key_at(keys: &[u32], i: usize) -> u64 {
     0
 }
 
-// The four numbers and the two keys of a node.
+// The five numbers and the two keys of a node.
 fn show_node(nodes: &[u16], keys: &[u32], p: u64) {
     let at = within(p, 600);
+    let a = Graph::NODE_NUMBERS * at;
     say::field(b"node", p);
-    say::field(b" holds", number_at(nodes, 4 * at));
-    say::number(number_at(nodes, 4 * at + 1));
-    say::number(number_at(nodes, 4 * at + 2));
-    say::number(number_at(nodes, 4 * at + 3));
+    say::field(b" holds", number_at(nodes, a));
+    say::number(number_at(nodes, a + 1));
+    say::number(number_at(nodes, a + 2));
+    say::number(number_at(nodes, a + 3));
+    say::number(number_at(nodes, a + 4));
     say::field(b" keys", key_at(keys, 2 * at));
     say::number(key_at(keys, 2 * at + 1));
     say::feed();

@@ -1,5 +1,7 @@
 // What a script has set: the node count, the lengths lent of the three tables, a length of the program's own, and the lengths lent of the
 // store and of names.
+use rows::Graph;
+
 pub const NODES: usize = 0;
 
 pub const EDGES_LENT: usize = 1;
@@ -19,7 +21,7 @@ fn set_size(line: &[u64; 7], set: &mut [u64; 7]) {
     let n = line[1] % 65536;
     set[NODES] = n;
     set[EDGES_LENT] = 8 * n;
-    set[NODES_LENT] = 4 * n;
+    set[NODES_LENT] = (Graph::NODE_NUMBERS as u64) * n;
     set[KEYS_LENT] = 2 * n;
     set[STORE_LENT] = 1 + 8 * (3 + 9 * n);
     set[NAME_LENT] = 16;
