@@ -2,8 +2,8 @@
  *
  * Every call works on tables that the caller lends, for a graph of n nodes (at most 512):
  *   edges  8 * n words: node p's row is the eight words from word 8 * p on, and node q is bit q % 64 of word q / 64 of the row
- *   nodes  4 * n numbers: for each node the least member of its group, the next greater (the greatest is followed by the least),
- *          the previous one, and the mark, 1 for a hidden node
+ *   nodes  5 * n numbers: for each node the least member of its group, the next greater (the greatest is followed by the least),
+ *          the previous one, the mark, 1 for a hidden node, and the class, 0 to 255; nodes of one group have one class
  *   keys   2 * n numbers: for each node the open and the closed key
  * and, to keep up to eight states of that graph under names of 16 bytes, on
  *   store  TEGMULOS_STORE_WORDS(n) words, laid out as docs/STORE.md says; an opening makes it a store without states
@@ -27,17 +27,18 @@ enum {
     TEGMULOS_UPDATES = 4096,     /* updates of a batch */
     TEGMULOS_UPDATE_NUMBERS = 4, /* numbers of an update */
     TEGMULOS_ROW_WORDS = 8,      /* words of a row */
-    TEGMULOS_NODE_NUMBERS = 4,   /* numbers of a node */
+    TEGMULOS_NODE_NUMBERS = 5,   /* numbers of a node */
+    TEGMULOS_CLASSES = 256,      /* classes of nodes, from 0 on */
     TEGMULOS_STATES = 8,         /* states of a store */
     TEGMULOS_NAME_BYTES = 16,    /* bytes of a name */
-    TEGMULOS_FILE_BYTES = 787978 /* no release is longer */
+    TEGMULOS_FILE_BYTES = 789002 /* no release is longer */
 };
 
 /* Words of a store for n nodes. */
 #define TEGMULOS_STORE_WORDS(n) (1 + TEGMULOS_STATES * (3 + (TEGMULOS_ROW_WORDS + 1) * (n)))
 
-/* The kinds of an update: the edge between u and v, or u's mark. */
-enum { TEGMULOS_EDGE = 1, TEGMULOS_MARK = 2 };
+/* The kinds of an update: the edge between u and v, u's mark, or u's class, which v is. */
+enum { TEGMULOS_EDGE = 1, TEGMULOS_MARK = 2, TEGMULOS_CLASS = 3 };
 
 /* The kinds of a group. */
 enum { TEGMULOS_SINGLETON = 0, TEGMULOS_INDEPENDENT = 1, TEGMULOS_CLIQUE = 2 };
@@ -47,9 +48,9 @@ enum {
     TEGMULOS_DONE = 0,
     TEGMULOS_WRONG_SIZE = 11,    /* n over 512, a table, store or name of the wrong length, or a batch not in fours or too long */
     TEGMULOS_NO_GRAPH = 12,      /* the tables hold no graph, or the words are no store for n nodes */
-    TEGMULOS_NO_KIND = 13,       /* an update of a kind other than 1 and 2 */
+    TEGMULOS_NO_KIND = 13,       /* an update of a kind other than 1 to 3 */
     TEGMULOS_NO_NODE = 14,       /* a node n or above; asked of a file, also a hidden one */
-    TEGMULOS_WRONG_VALUE = 15,   /* one node where two are asked; in an update, wanted above 1, or v other than 0 in kind 2 */
+    TEGMULOS_WRONG_VALUE = 15,   /* one node where two are asked; in an update, a wanted or a v that its kind does not allow */
     TEGMULOS_ALREADY_HOLDS = 16, /* what is wanted holds already */
     TEGMULOS_SHORT_BUFFER = 18,  /* a buffer shorter than needed */
     TEGMULOS_NO_RELEASE = 19,    /* the bytes are no graph's release */
@@ -60,7 +61,7 @@ enum {
     TEGMULOS_FROZEN = 24         /* an update of an edge that names a hidden node */
 };
 
-/* A graph of n nodes without edges, none hidden, and a store without states. 0, or 11. */
+/* A graph of n nodes without edges, none hidden, all of class 0, and a store without states. 0, or 11. */
 uint16_t tegmulos_open(size_t n, uint64_t *edges, size_t edges_len, uint16_t *nodes, size_t nodes_len, uint32_t *keys,
                        size_t keys_len, uint64_t *store, size_t store_len);
 
@@ -76,9 +77,10 @@ uint16_t tegmulos_restore(size_t n, uint64_t *edges, size_t edges_len, uint16_t 
 /* The name is struck, and its place cleared. 0, or 11, 12, 21. */
 uint16_t tegmulos_drop(size_t n, uint64_t *store, size_t store_len, const uint8_t *name, size_t name_len);
 
-/* A batch of updates, four numbers each: kind, u, v (0 in kind 2), wanted. What is wanted holds after an accepted one: 1 that the
- * edge is there or the node hidden, 0 that it is not. Each writes one answer: the number of its refusal, tested in the order 13, 14,
- * 15, 24, 16, or how many groups more there are, from -2 to 2. 0, or 11, 12, 18. */
+/* A batch of updates, four numbers each: kind, u, v (0 in kind 2, a class in kind 3), wanted (0 in kind 3). What is wanted holds
+ * after an accepted one: 1 that the edge is there or the node hidden, 0 that it is not; in kind 3, that u has the class. Each
+ * writes one answer: the number of its refusal, tested in the order 13, 14 (u alone in kinds 2 and 3), 15, 24 (kind 1), 16, or
+ * how many groups more there are, from -2 to 2. 0, or 11, 12, 18. */
 uint16_t tegmulos_apply(size_t n, uint64_t *edges, size_t edges_len, uint16_t *nodes, size_t nodes_len, uint32_t *keys,
                         size_t keys_len, const uint16_t *batch, size_t batch_len, int16_t *answers, size_t answers_len);
 
@@ -95,12 +97,13 @@ uint16_t tegmulos_tied(size_t n, const uint64_t *edges, size_t edges_len, const 
 uint16_t tegmulos_group(size_t n, const uint64_t *edges, size_t edges_len, const uint16_t *nodes, size_t nodes_len,
                         const uint32_t *keys, size_t keys_len, uint16_t p, uint16_t *least, uint16_t *kind, uint16_t *size);
 
-/* The release of the visible part: its m nodes, g groups, s superedges, and how many bytes it has. 0, or 11, 12, 18. */
+/* The release of the visible part: its m nodes, g groups, s superedges, and how many bytes it has, 10 + 6g + 2m + 6s. A group's
+ * record is its mark, the count of its members, their class, the members. 0, or 11, 12, 18. */
 uint16_t tegmulos_release(size_t n, const uint64_t *edges, size_t edges_len, const uint16_t *nodes, size_t nodes_len,
                           const uint32_t *keys, size_t keys_len, uint8_t *out, size_t out_len, uint16_t *m, uint16_t *g, uint32_t *s,
                           uint32_t *bytes);
 
-/* A release read back into tables for n nodes: nodes that it lacks are hidden and without edges. 0, or 11, 19, 20. */
+/* A release read back into tables for n nodes: nodes that it lacks are hidden, of class 0, without edges. 0, or 11, 19, 20. */
 uint16_t tegmulos_read(size_t n, uint64_t *edges, size_t edges_len, uint16_t *nodes, size_t nodes_len, uint32_t *keys,
                        size_t keys_len, const uint8_t *file, size_t file_len);
 

@@ -1,4 +1,5 @@
-//! Each of 0 1 2 tied to each of 3 4 5; 3 is hidden; the visible part is released, read back and asked; a state is kept and restored.
+//! Each of 0 1 2 tied to each of 3 4 5; 3 is hidden; the visible part is released, read back and asked; a state is kept and restored;
+//! 5 gets a class of its own.
 
 #[path = "tegmulos.rs"]
 mod tegmulos;
@@ -40,6 +41,11 @@ fn main() -> Result<(), Refusal> {
     }
     index.restore(&store, &FIRST)?;
     println!("restored, 0 and 3 tied: {}", index.tied(0, 3)?);
+    println!("5 of class 1: {:?}", index.apply(&[Update::Class { u: 5, class: 1 }, Update::Class { u: 5, class: 1 }])?);
+    println!("group of 4: {:?}", index.group(4)?);
+    let classes = index.release()?;
+    println!("groups {} superedges {} bytes {}", classes.groups, classes.superedges, classes.file.len());
+    println!("released again, the same: {}", Index::read(6, &classes.file)?.release()? == classes);
     store.drop_state(&FIRST)?;
     if let Err(refusal) = index.restore(&store, &FIRST) {
         println!("dropped, then restored: {}", refusal);

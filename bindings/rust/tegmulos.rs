@@ -8,6 +8,9 @@ pub mod calls;
 /// At most so many nodes has a graph.
 pub const NODES: usize = 512;
 
+/// So many numbers has a node in its table.
+const NODE_NUMBERS: usize = 5;
+
 /// At most so many states has a store.
 pub const STATES: usize = 8;
 
@@ -52,11 +55,12 @@ fn done<T>(result: u16, value: T) -> Result<T, Refusal> {
     }
 }
 
-/// What is to hold: whether the edge between u and v is there, or whether u is hidden.
+/// What is to hold: whether the edge between u and v is there, whether u is hidden, or which class u has.
 #[derive(Clone, Copy, Debug, PartialEq, Eq)]
 pub enum Update {
     Edge { u: u16, v: u16, wanted: bool },
     Mark { u: u16, wanted: bool },
+    Class { u: u16, class: u8 },
 }
 
 impl Update {
@@ -64,6 +68,7 @@ impl Update {
         match self {
             Update::Edge { u, v, wanted } => [1, u, v, u16::from(wanted)],
             Update::Mark { u, wanted } => [2, u, 0, u16::from(wanted)],
+            Update::Class { u, class } => [3, u, u16::from(class), 0],
         }
     }
 }
@@ -132,10 +137,10 @@ impl Index {
     /// Tables for n nodes that hold nothing yet; empty ones if n is too large, which the calls then refuse.
     fn unfilled(n: usize) -> Index {
         let size = if n <= NODES { n } else { 0 };
-        Index { n, edges: vec![0; 8 * size], nodes: vec![0; 4 * size], keys: vec![0; 2 * size] }
+        Index { n, edges: vec![0; 8 * size], nodes: vec![0; NODE_NUMBERS * size], keys: vec![0; 2 * size] }
     }
 
-    /// A graph of n nodes without edges, none hidden, and a store for its states.
+    /// A graph of n nodes without edges, none hidden, all of class 0, and a store for its states.
     pub fn open(n: usize) -> Result<(Index, Store), Refusal> {
         let mut t = Index::unfilled(n);
         let mut words = vec![0; store_words(n.min(NODES))];
@@ -153,7 +158,7 @@ impl Index {
         done(calls::restore(self.n, &mut self.edges, &mut self.nodes, &mut self.keys, &store.words, name), ())
     }
 
-    /// The graph of a release, for n nodes: nodes that it lacks are hidden and without edges.
+    /// The graph of a release, for n nodes: nodes that it lacks are hidden, of class 0 and without edges.
     pub fn read(n: usize, file: &[u8]) -> Result<Index, Refusal> {
         let mut t = Index::unfilled(n);
         let result = calls::read(n, &mut t.edges, &mut t.nodes, &mut t.keys, file);
@@ -198,7 +203,7 @@ impl Index {
 
     /// The release of the visible part.
     pub fn release(&self) -> Result<Release, Refusal> {
-        let mut file = vec![0; 10 + 6 * self.n + 3 * self.n * self.n.saturating_sub(1)];
+        let mut file = vec![0; 10 + 8 * self.n + 3 * self.n * self.n.saturating_sub(1)];
         let mut counts = calls::Counts::default();
         let result = calls::release(self.n, &self.edges, &self.nodes, &self.keys, &mut file, &mut counts);
         file.truncate(counts.bytes as usize);
