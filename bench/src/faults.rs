@@ -3,27 +3,34 @@
 
 use crate::calls::{self, Counts, Member};
 use crate::graphs::{self, Lent, Random, Shape, Tables};
-use crate::lent::{self, UPDATES, UPDATE_NUMBERS};
+use crate::lent::{self, NODE_NUMBERS, UPDATES, UPDATE_NUMBERS};
 use std::collections::BTreeMap;
 use std::time::{Duration, Instant};
 
 const SHAPES: [Shape; 4] = [Shape::Sparse, Shape::Dense, Shape::Twins, Shape::Threshold];
+const CLASSES: [usize; 3] = [1, 3, 256];
 
 #[derive(Default, Debug)]
 struct Tally {
     graphs: u64,
+    /// How many graphs had so many classes to draw from.
+    classes: BTreeMap<usize, u64>,
     batches: u64,
     updates: u64,
     /// How often batches gave each number.
     batch_results: BTreeMap<u16, u64>,
     /// How often updates gave each answer.
     answers: BTreeMap<i16, u64>,
+    /// How often updates of classes did.
+    class_answers: BTreeMap<i16, u64>,
     damaged_tables: u64,
     refused_tables: u64,
     /// Pairs of tables alike in what is visible, given one batch.
     pairs: u64,
     /// How many of their updates were refused, by the same number in both.
     refused_alike: u64,
+    /// How many were of a hidden node's class, which one of the two had already.
+    refused_apart: u64,
     /// How many were accepted with other answers, which count groups of the whole graph.
     answered_apart: u64,
     queries: u64,
@@ -65,14 +72,33 @@ fn few(random: &mut Random) -> u16 {
     }
 }
 
+/// Mostly one of three, now and then any, the greatest, or one that is none.
+fn class(random: &mut Random) -> u16 {
+    match random.below(12) {
+        0 => [255, 256, 257, u16::MAX][random.below(4)],
+        1 => random.next() as u16,
+        2 | 3 => random.below(256) as u16,
+        _ => random.below(3) as u16,
+    }
+}
+
 /// Each of its numbers may be one that is refused, alone or with others. One mark in four hides, so that most nodes stay visible.
 fn update(n: usize, random: &mut Random) -> [u16; UPDATE_NUMBERS] {
     let mut node = || if random.below(40) == 0 { random.next() as u16 } else { random.below(n + 1) as u16 };
     let (u, v) = (node(), node());
-    let kind = if random.below(8) == 0 { few(random) } else { [1, 1, 2][random.below(3)] };
-    let v = if kind != 1 && random.below(8) > 0 { 0 } else { v };
+    let kind = if random.below(8) == 0 { few(random) } else { [1, 1, 1, 2, 3][random.below(5)] };
+    let v = match kind {
+        1 => v,
+        3 => class(random),
+        _ if random.below(8) > 0 => 0,
+        _ => v,
+    };
     let one_in = if kind == 1 { 2 } else { 4 };
-    let wanted = if random.below(5) == 0 { few(random) } else { u16::from(random.below(one_in) == 0) };
+    let wanted = match random.below(5) {
+        0 => few(random),
+        _ if kind == 3 => 0,
+        _ => u16::from(random.below(one_in) == 0),
+    };
     [kind, u, v, wanted]
 }
 
@@ -102,7 +128,12 @@ fn apply(t: &mut Tables, random: &mut Random, tally: &mut Tally) {
     tally.updates += count as u64;
     *tally.batch_results.entry(a).or_default() += 1;
     if a == 0 {
-        x[..count].iter().for_each(|&answer| *tally.answers.entry(answer).or_default() += 1);
+        for (&answer, update) in x.iter().zip(batch.chunks(UPDATE_NUMBERS)) {
+            *tally.answers.entry(answer).or_default() += 1;
+            if update[0] == 3 {
+                *tally.class_answers.entry(answer).or_default() += 1;
+            }
+        }
     }
 }
 
@@ -117,7 +148,7 @@ fn answers_to(t: &mut Tables, batch: &[u16]) -> (u16, Vec<i16>) {
     (result, answers)
 }
 
-/// Tables alike in what is visible: the hidden nodes revealed, some of their edges flipped, and hidden again.
+/// Tables alike in what is visible: the hidden nodes revealed, some of their edges flipped, hidden again, and given other classes.
 fn alike(t: &Tables, hidden: &[u16], random: &mut Random) -> Tables {
     let mark = |wanted| hidden.iter().flat_map(move |&p| [2, p, 0, wanted]);
     let mut batch: Vec<u16> = mark(0).collect();
@@ -128,6 +159,7 @@ fn alike(t: &Tables, hidden: &[u16], random: &mut Random) -> Tables {
         }
     }
     batch.extend(mark(1));
+    batch.extend(hidden.iter().flat_map(|&p| [3, p, class(random), 0]));
     let mut other = t.clone();
     assert_eq!(answers_to(&mut other, &batch).0, 0);
     other
@@ -146,18 +178,22 @@ fn whole_release(t: &Tables) -> (u16, Counts, Vec<u8>) {
     (result, counts, file)
 }
 
-/// One batch on two tables alike in what is visible: the same updates refused, by the same numbers, and the same release after it.
+/// One batch on two tables alike in what is visible: the same updates refused, by the same numbers, and the same release after it. Only
+/// an update of a hidden node's class may be 16 in the one and accepted in the other.
 fn compare_alike(t: &Tables, random: &mut Random, tally: &mut Tally) {
     let hidden = hidden_nodes(t);
     let batch = revealing_none(t.n, &hidden, random);
     let (mut a, mut b) = (t.clone(), alike(t, &hidden, random));
     let ((c, x), (d, y)) = (answers_to(&mut a, &batch), answers_to(&mut b, &batch));
     assert_eq!(c, d);
-    for (x, y) in x.into_iter().zip(y) {
+    for ((x, y), update) in x.into_iter().zip(y).zip(batch.chunks(UPDATE_NUMBERS)) {
+        let free = update[0] == 3 && hidden.contains(&update[1]);
+        let apart = free && (x == 16) != (y == 16) && x.min(y) <= 2;
         let refused = x > 2 || y > 2;
-        assert!(x == y || !refused, "{x} {y} {t:?} {batch:?}");
-        tally.refused_alike += u64::from(refused);
-        tally.answered_apart += u64::from(x != y);
+        assert!(x == y || apart || !refused, "{x} {y} {t:?} {batch:?}");
+        tally.refused_apart += u64::from(apart);
+        tally.refused_alike += u64::from(refused && !apart);
+        tally.answered_apart += u64::from(x != y && !refused);
     }
     assert!(whole_release(&a) == whole_release(&b), "{t:?} {batch:?}");
     tally.pairs += 1;
@@ -272,7 +308,7 @@ fn damage_place(n: usize, place: &mut [u64], random: &mut Random) {
         2 => place[word] |= 1,
         3 => place[0] = random.below(3) as u64,
         4 => place.fill(0),
-        5 if n > 0 => place[3 + 8 * n + random.below(n)] = random.below(3) as u64,
+        5 if n > 0 => place[3 + 8 * n + random.below(n)] = [0, 1, 2, 3, 510, 511, 512, 513][random.below(8)],
         6 if n > 0 => flip(place, random.below(n), random.below(512), false),
         7 if n > 0 => flip(place, random.below(n), random.below(n), true),
         8 if n > 0 => {
@@ -338,11 +374,19 @@ fn history(t: &Tables, random: &mut Random, tally: &mut Tally) {
     }
 }
 
+/// Another class for all of a group, which by chance may hold.
+fn damage_group(bad: &mut Tables, random: &mut Random) {
+    let (least, class) = (bad.nodes[NODE_NUMBERS * random.below(bad.n)], class(random));
+    for node in bad.nodes.chunks_mut(NODE_NUMBERS).filter(|node| node[0] == least) {
+        node[4] = class;
+    }
+}
+
 /// Some numbers of the tables changed.
 fn damaged(t: &Tables, random: &mut Random) -> Tables {
     let mut bad = t.clone();
     for _ in 0..1 + random.below(3) {
-        match random.below(5) {
+        match random.below(7) {
             0 | 1 if !bad.edges.is_empty() => {
                 let (p, q) = (random.below(bad.n), random.below(512));
                 bad.edges[8 * p + q / 64] ^= 1 << (q % 64);
@@ -358,6 +402,8 @@ fn damaged(t: &Tables, random: &mut Random) -> Tables {
                 let i = random.below(bad.keys.len());
                 bad.keys[i] = bad.keys[i].wrapping_add(random.below(3) as u32);
             }
+            5 if !bad.nodes.is_empty() => bad.nodes[NODE_NUMBERS * random.below(bad.n) + 4] = class(random),
+            6 if !bad.nodes.is_empty() => damage_group(&mut bad, random),
             _ => {}
         }
     }
@@ -376,7 +422,7 @@ fn damage(t: &Tables, random: &mut Random, tally: &mut Tally) {
 
 /// No release of n nodes is longer.
 fn most_bytes(n: usize) -> usize {
-    10 + 6 * n + 3 * n * n.saturating_sub(1)
+    10 + 8 * n + 3 * n * n.saturating_sub(1)
 }
 
 fn release(t: &Tables, random: &mut Random, tally: &mut Tally) -> Vec<u8> {
@@ -425,13 +471,24 @@ fn number_at(file: &mut [u8], random: &mut Random, most: usize) {
     }
 }
 
+/// Another class in the record of a group, as far as the counts of members tell where it stands.
+fn class_at(file: &mut [u8], random: &mut Random) {
+    let mut at = 8;
+    for _ in 0..random.below(6) {
+        at += if at + 4 <= file.len() { 6 + 2 * usize::from(file[at + 2]) } else { 0 };
+    }
+    if at + 6 <= file.len() {
+        file[at + 4..at + 6].copy_from_slice(&class(random).to_le_bytes());
+    }
+}
+
 /// A file with a byte, a number or a record changed, left out, doubled or moved.
 fn mutated(file: &[u8], n: usize, random: &mut Random) -> Vec<u8> {
     let mut f = file.to_vec();
     for _ in 0..1 + random.below(2) {
         let i = random.below(f.len() + 1);
         let k = 2 * (1 + random.below(4));
-        match random.below(9) {
+        match random.below(11) {
             0 => f.truncate(i),
             1 => f.push(random.next() as u8),
             2 if i < f.len() => f[i] = random.next() as u8,
@@ -445,6 +502,7 @@ fn mutated(file: &[u8], n: usize, random: &mut Random) -> Vec<u8> {
                 f.splice(i..i, part);
             }
             8 if i + 2 * k <= f.len() => f[i..i + 2 * k].rotate_left(k),
+            9 | 10 => class_at(&mut f, random),
             _ => {}
         }
     }
@@ -473,6 +531,7 @@ fn invented(random: &mut Random) -> Vec<u8> {
     for l in &groups {
         f.extend(if l.len() > 1 && random.below(2) == 0 { b"GC" } else { b"GI" });
         f.extend((l.len() as u16).to_le_bytes());
+        f.extend(if random.below(4) == 0 { class(random) } else { 0 }.to_le_bytes());
         l.iter().for_each(|p| f.extend(p.to_le_bytes()));
     }
     for i in 0..groups.len() {
@@ -500,10 +559,13 @@ pub fn run(seed: u64, seconds: u64) {
         let n = size(&mut random);
         let shape = SHAPES[random.below(4)];
         let hide = 1 + random.below(n + 4);
-        let mut t = graphs::build(n, &graphs::edges(shape, n, &mut random), hide);
+        let count = CLASSES[random.below(3)];
+        let edges = graphs::edges(shape, n, &mut random);
+        let mut t = graphs::build(n, &edges, &graphs::classes(count, n, &mut random), hide);
         history(&t, &mut random, &mut tally);
         compare_alike(&t, &mut random, &mut tally);
         tally.graphs += 1;
+        *tally.classes.entry(count).or_default() += 1;
         let turns = if n > 100 { 5 } else { 25 };
         for _ in 0..turns {
             apply(&mut t, &mut random, &mut tally);

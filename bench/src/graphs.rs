@@ -1,7 +1,7 @@
 //! Graphs and batches to measure on, from a seed.
 
 use crate::calls;
-use crate::lent::{self, UPDATES, UPDATE_NUMBERS};
+use crate::lent::{self, NODE_NUMBERS, UPDATES, UPDATE_NUMBERS};
 
 /// The tables of a graph.
 #[derive(Clone, PartialEq, Eq, Debug)]
@@ -14,7 +14,7 @@ pub struct Tables {
 
 impl Tables {
     pub fn filled(n: usize, x: u16) -> Tables {
-        Tables { n, edges: vec![u64::from(x); 8 * n], nodes: vec![x; 4 * n], keys: vec![u32::from(x); 2 * n] }
+        Tables { n, edges: vec![u64::from(x); 8 * n], nodes: vec![x; NODE_NUMBERS * n], keys: vec![u32::from(x); 2 * n] }
     }
 
     pub fn tied(&self, p: usize, q: usize) -> bool {
@@ -22,7 +22,11 @@ impl Tables {
     }
 
     pub fn is_hidden(&self, p: usize) -> bool {
-        self.nodes[4 * p + 3] == 1
+        self.nodes[NODE_NUMBERS * p + 3] == 1
+    }
+
+    pub fn class(&self, p: usize) -> u16 {
+        self.nodes[NODE_NUMBERS * p + 4]
     }
 }
 
@@ -69,15 +73,15 @@ pub enum Shape {
     Threshold,
 }
 
-/// The edges of a random graph: degree 4 on average, half of all pairs, 16 classes of twins, or nested neighbourhoods.
+/// The edges of a random graph: degree 4 on average, half of all pairs, 16 kinds of twins, or nested neighbourhoods.
 pub fn edges(shape: Shape, n: usize, random: &mut Random) -> Vec<(u16, u16)> {
-    let classes: Vec<usize> = (0..n).map(|_| random.below(16)).collect();
+    let kinds: Vec<usize> = (0..n).map(|_| random.below(16)).collect();
     let joined: Vec<bool> = (0..256).map(|_| random.below(2) == 0).collect();
     let weights: Vec<usize> = (0..n).map(|_| random.below(2 * n)).collect();
     let mut list = Vec::new();
     for p in 0..n {
         for q in p + 1..n {
-            let (a, b) = (classes[p].min(classes[q]), classes[p].max(classes[q]));
+            let (a, b) = (kinds[p].min(kinds[q]), kinds[p].max(kinds[q]));
             let there = match shape {
                 Shape::Sparse => random.below(n) < 4,
                 Shape::Dense => random.below(2) == 0,
@@ -92,16 +96,27 @@ pub fn edges(shape: Shape, n: usize, random: &mut Random) -> Vec<(u16, u16)> {
     list
 }
 
+/// A class below `count` for each node.
+pub fn classes(count: usize, n: usize, random: &mut Random) -> Vec<u16> {
+    if count == 1 {
+        return vec![0; n];
+    }
+    (0..n).map(|_| random.below(count) as u16).collect()
+}
+
 /// A name for each number: k and k + 10 agree in the first word.
 pub fn name(k: usize) -> [u8; 16] {
     std::array::from_fn(|j| if j < 8 { k % 10 } else { k / 10 } as u8)
 }
 
 /// The library's tables of a graph, one node in `hide` hidden.
-pub fn build(n: usize, edges: &[(u16, u16)], hide: usize) -> Tables {
+pub fn build(n: usize, edges: &[(u16, u16)], classes: &[u16], hide: usize) -> Tables {
     let Lent { mut t, mut store } = Lent::filled(n, 7);
     assert_eq!(calls::open(n, &mut t.edges, &mut t.nodes, &mut t.keys, &mut store), 0);
     let mut batch: Vec<u16> = edges.iter().flat_map(|&(u, v)| [1, u, v, 1]).collect();
+    for (p, &class) in classes.iter().enumerate().filter(|(_, &class)| class != 0) {
+        batch.extend([3, p as u16, class, 0]);
+    }
     for p in (0..n).step_by(hide) {
         batch.extend([2, p as u16, 0, 1]);
     }
@@ -128,4 +143,20 @@ pub fn there_and_back(t: &Tables, random: &mut Random) -> Vec<u16> {
     }
     let back: Vec<[u16; UPDATE_NUMBERS]> = batch.iter().rev().map(|&[kind, p, q, wanted]| [kind, p, q, 1 - wanted]).collect();
     batch.into_iter().chain(back).flatten().collect()
+}
+
+/// A batch of 4,096 that changes the class of 2,048 nodes and changes them back, so that the graph is the same after it. Classes are
+/// below `count`, or below 2.
+pub fn classes_and_back(t: &Tables, count: usize, random: &mut Random) -> Vec<u16> {
+    let mut classes: Vec<u16> = (0..t.n).map(|p| t.class(p)).collect();
+    let count = count.max(2);
+    let (mut there, mut back) = (Vec::new(), Vec::new());
+    for _ in 0..UPDATES / 2 {
+        let p = random.below(t.n);
+        let class = (usize::from(classes[p]) + 1 + random.below(count - 1)) % count;
+        back.push([3, p as u16, classes[p], 0]);
+        there.push([3, p as u16, class as u16, 0]);
+        classes[p] = class as u16;
+    }
+    there.into_iter().chain(back.into_iter().rev()).flatten().collect()
 }

@@ -7,9 +7,20 @@ pub const NODES: usize = 512;
 pub const UPDATES: usize = 4096;
 /// The numbers of an update: kind, u, v, wanted.
 pub const UPDATE_NUMBERS: usize = 4;
+/// The numbers of a node: the least member of its group, the next, the previous, the mark, the class.
+pub const NODE_NUMBERS: usize = 5;
+/// A class is below.
+pub const CLASSES: u16 = 256;
 const NONE: u16 = u16::MAX;
 
 type Row = [u64; 8];
+type Node = [u16; NODE_NUMBERS];
+
+const LEAST: usize = 0;
+const NEXT: usize = 1;
+const PREVIOUS: usize = 2;
+const MARK: usize = 3;
+const CLASS: usize = 4;
 
 fn row(edges: &[u64], p: usize) -> &Row {
     edges[8 * p..8 * p + 8].try_into().unwrap()
@@ -191,16 +202,22 @@ const ODD: Row = [
 ];
 
 fn sized(n: usize, e: &[u64], v: &[u16], k: &[u32]) -> bool {
-    n <= NODES && e.len() == 8 * n && v.len() == 4 * n && k.len() == 2 * n
+    n <= NODES && e.len() == 8 * n && v.len() == NODE_NUMBERS * n && k.len() == 2 * n
 }
 
-/// Each member's previous one is of its group, less unless the member is the least, and has it as its next.
-fn rings_hold(nodes: &[[u16; 4]]) -> bool {
-    nodes.iter().enumerate().all(|(p, &[least, _, previous, mark])| {
+/// Each member's previous one is of its group and its class, less unless the member is the least, and has it as its next.
+fn rings_hold(nodes: &[Node]) -> bool {
+    nodes.iter().enumerate().all(|(p, &[least, _, previous, mark, class])| {
         let (l, q) = (usize::from(least), usize::from(previous));
         let leads = l == p;
-        q < nodes.len() && mark <= 1 && (leads || q < p) && nodes[q][0] == least && usize::from(nodes[q][1]) == p
+        let fits = mark <= 1 && class < CLASSES;
+        q < nodes.len() && fits && (leads || q < p) && nodes[q][LEAST] == least && usize::from(nodes[q][NEXT]) == p && nodes[q][CLASS] == class
     })
+}
+
+/// A key or a hash, moved by the class: twins of two classes seldom meet.
+fn classed(key: u32, class: u16) -> u32 {
+    key.wrapping_add(u32::from(class).wrapping_mul(0x85EB_CA6B))
 }
 
 fn equal(a: &Row, b: &Row) -> bool {
@@ -214,10 +231,10 @@ fn equal_but(a: &Row, b: &Row, p: usize) -> bool {
 }
 
 /// The group that l leads: whether the other members' rows and keys follow from l's. All members.
-fn followers_hold(rows: &[Row], nodes: &[[u16; 4]], keys: &[[u32; 2]], l: usize) -> Option<Row> {
+fn followers_hold(rows: &[Row], nodes: &[Node], keys: &[[u32; 2]], l: usize) -> Option<Row> {
     let mut members = [0; 8];
     members[l / 64 % 8] |= bit(l);
-    let second = usize::from(nodes[l][1]);
+    let second = usize::from(nodes[l][NEXT]);
     let clique = has(&rows[l], second);
     let mut shared = rows[l];
     shared[l / 64 % 8] |= if clique { bit(l) } else { 0 };
@@ -228,7 +245,7 @@ fn followers_hold(rows: &[Row], nodes: &[[u16; 4]], keys: &[[u32; 2]], l: usize)
             return None;
         }
         members[p / 64 % 8] |= bit(p);
-        p = usize::from(nodes[p][1]);
+        p = usize::from(nodes[p][NEXT]);
     }
     Some(members)
 }
@@ -305,18 +322,20 @@ fn rows_hold(rows: &[Row], keys: &[[u32; 2]], leaders: &[u16]) -> bool {
     leaders.iter().all(|&l| keys[usize::from(l)][0] == sums[usize::from(l)])
 }
 
-/// Whether no two leaders are twins.
-fn leaders_differ(rows: &[Row], keys: &[[u32; 2]], leaders: &[u16]) -> bool {
+/// Whether no two leaders are twins of one class.
+fn leaders_differ(rows: &[Row], nodes: &[Node], keys: &[[u32; 2]], leaders: &[u16]) -> bool {
     let (mut open, mut closed) = ([0; NODES], [0; NODES]);
     for (i, &p) in leaders.iter().enumerate().take(NODES) {
-        [open[i], closed[i]] = keys[usize::from(p)];
+        let class = nodes[usize::from(p)][CLASS];
+        [open[i], closed[i]] = keys[usize::from(p)].map(|key| classed(key, class));
     }
     let (mut met_open, mut met_closed) = (Met::new(), Met::new());
     (0..leaders.len()).all(|i| {
         let p = usize::from(leaders[i]);
         let leader = |j: usize| usize::from(leaders[j]);
-        let open_twin = |j: usize| equal(&rows[leader(j)], &rows[p]);
-        let closed_twin = |j: usize| closed_twins(&rows[leader(j)], leader(j), &rows[p], p);
+        let alike = |j: usize| nodes[leader(j)][CLASS] == nodes[p][CLASS];
+        let open_twin = |j: usize| alike(j) && equal(&rows[leader(j)], &rows[p]);
+        let closed_twin = |j: usize| alike(j) && closed_twins(&rows[leader(j)], leader(j), &rows[p], p);
         !(met_open.meets(open[i]) && meets_twin(&open, i, open_twin)) && !(met_closed.meets(closed[i]) && meets_twin(&closed, i, closed_twin))
     })
 }
@@ -336,13 +355,13 @@ pub fn holds(e: &[u64], v: &[u16], k: &[u32], n: usize) -> bool {
     let mut g = 0;
     for (p, node) in nodes.iter().enumerate() {
         leaders[g] = p as u16;
-        g += usize::from(usize::from(node[0]) == p);
+        g += usize::from(usize::from(node[LEAST]) == p);
     }
     let leaders = &leaders[..g];
     let few = 8 * g <= n;
     let mut groups = Vec::with_capacity(if few { g } else { 0 });
     for &l in leaders {
-        if few || nodes[usize::from(l)][1] != l {
+        if few || nodes[usize::from(l)][NEXT] != l {
             let Some(members) = followers_hold(rows, nodes, keys, usize::from(l)) else {
                 return false;
             };
@@ -351,7 +370,7 @@ pub fn holds(e: &[u64], v: &[u16], k: &[u32], n: usize) -> bool {
             }
         }
     }
-    (if few { leaders_hold(rows, keys, leaders, &groups) } else { rows_hold(rows, keys, leaders) }) && leaders_differ(rows, keys, leaders)
+    (if few { leaders_hold(rows, keys, leaders, &groups) } else { rows_hold(rows, keys, leaders) }) && leaders_differ(rows, nodes, keys, leaders)
 }
 
 fn refusal(n: usize, e: &[u64], v: &[u16], k: &[u32]) -> u16 {
@@ -371,52 +390,47 @@ pub fn open(n: usize, e: &mut [u64], v: &mut [u16], k: &mut [u32], store: &mut [
     store.fill(0);
     store[0] = n as u64 + 1;
     e.fill(0);
-    for p in 0..n {
-        v[4 * p] = 0;
-        v[4 * p + 1] = ((p + 1) % n) as u16;
-        v[4 * p + 2] = ((p + n - 1) % n) as u16;
-        v[4 * p + 3] = 0;
+    for (p, node) in v.as_chunks_mut().0.iter_mut().enumerate() {
+        *node = [0, ((p + 1) % n) as u16, ((p + n - 1) % n) as u16, 0, 0];
         k[2 * p] = 0;
         k[2 * p + 1] = cube(p);
     }
     0
 }
 
-fn take_out(v: &mut [u16], u: usize) -> i16 {
-    let (l, next, prev) = (usize::from(v[4 * u]), usize::from(v[4 * u + 1]), usize::from(v[4 * u + 2]));
+fn take_out(v: &mut [Node], u: usize) -> i16 {
+    let [l, next, prev, ..] = v[u].map(usize::from);
     if next == u {
         return 0;
     }
-    v[4 * prev + 1] = next as u16;
-    v[4 * next + 2] = prev as u16;
+    v[prev][NEXT] = next as u16;
+    v[next][PREVIOUS] = prev as u16;
     if l == u {
         rename(v, next, next);
     }
-    v[4 * u] = u as u16;
-    v[4 * u + 1] = u as u16;
-    v[4 * u + 2] = u as u16;
+    v[u][..MARK].fill(u as u16);
     1
 }
 
-fn rename(v: &mut [u16], from: usize, least: usize) {
+fn rename(v: &mut [Node], from: usize, least: usize) {
     let mut q = from;
     loop {
-        v[4 * q] = least as u16;
-        q = usize::from(v[4 * q + 1]);
+        v[q][LEAST] = least as u16;
+        q = usize::from(v[q][NEXT]);
         if q == from {
             return;
         }
     }
 }
 
-fn joined(e: &[u64], v: &[u16], k: &[u32], u: usize, w: usize, q: usize) -> bool {
-    if q == u || q == w || usize::from(v[4 * q]) != q {
+fn joined(e: &[u64], v: &[Node], k: &[u32], u: usize, w: usize, q: usize) -> bool {
+    if q == u || q == w || usize::from(v[q][LEAST]) != q || v[q][CLASS] != v[u][CLASS] {
         return false;
     }
     (k[2 * q] == k[2 * u] && row(e, q) == row(e, u)) || (k[2 * q + 1] == k[2 * u + 1] && closed_twins(row(e, q), q, row(e, u), u))
 }
 
-fn find(e: &[u64], v: &[u16], k: &[u32], n: usize, u: usize, w: usize) -> Option<usize> {
+fn find(e: &[u64], v: &[Node], k: &[u32], n: usize, u: usize, w: usize) -> Option<usize> {
     let (o, c) = (k[2 * u], k[2 * u + 1]);
     let (chunks, rest) = k[..2 * n].as_chunks::<32>();
     for (i, chunk) in chunks.iter().enumerate() {
@@ -434,35 +448,35 @@ fn find(e: &[u64], v: &[u16], k: &[u32], n: usize, u: usize, w: usize) -> Option
     (n - rest.len() / 2..n).find(|&q| joined(e, v, k, u, w, q))
 }
 
-fn put_back(e: &[u64], v: &mut [u16], k: &[u32], n: usize, u: usize, w: usize) -> i16 {
+fn put_back(e: &[u64], v: &mut [Node], k: &[u32], n: usize, u: usize, w: usize) -> i16 {
     let Some(g) = find(e, v, k, n, u, w) else {
         return 0;
     };
-    let mut after = usize::from(v[4 * g + 2]);
+    let mut after = usize::from(v[g][PREVIOUS]);
     if u > g {
         after = g;
         loop {
-            let next = usize::from(v[4 * after + 1]);
+            let next = usize::from(v[after][NEXT]);
             if next > u || next == g {
                 break;
             }
             after = next;
         }
     }
-    let next = usize::from(v[4 * after + 1]);
-    v[4 * after + 1] = u as u16;
-    v[4 * next + 2] = u as u16;
-    v[4 * u + 1] = next as u16;
-    v[4 * u + 2] = after as u16;
+    let next = usize::from(v[after][NEXT]);
+    v[after][NEXT] = u as u16;
+    v[next][PREVIOUS] = u as u16;
+    v[u][NEXT] = next as u16;
+    v[u][PREVIOUS] = after as u16;
     if u < g {
         rename(v, u, u);
     } else {
-        v[4 * u] = g as u16;
+        v[u][LEAST] = g as u16;
     }
     -1
 }
 
-fn change(e: &mut [u64], v: &mut [u16], k: &mut [u32], n: usize, u: usize, w: usize, wanted: u16) -> i16 {
+fn change(e: &mut [u64], v: &mut [Node], k: &mut [u32], n: usize, u: usize, w: usize, wanted: u16) -> i16 {
     let mut more = take_out(v, u) + take_out(v, w);
     e[8 * u + w / 64] ^= bit(w);
     e[8 * w + u / 64] ^= bit(u);
@@ -475,30 +489,42 @@ fn change(e: &mut [u64], v: &mut [u16], k: &mut [u32], n: usize, u: usize, w: us
     more + put_back(e, v, k, n, u.max(w), u.max(w))
 }
 
-fn update(e: &mut [u64], v: &mut [u16], k: &mut [u32], n: usize, &[kind, u, w, wanted]: &[u16; UPDATE_NUMBERS]) -> i16 {
+fn reclass(e: &[u64], v: &mut [Node], k: &[u32], n: usize, u: usize, class: u16) -> i16 {
+    let more = take_out(v, u);
+    v[u][CLASS] = class;
+    more + put_back(e, v, k, n, u, u)
+}
+
+fn update(e: &mut [u64], v: &mut [Node], k: &mut [u32], n: usize, &[kind, u, w, wanted]: &[u16; UPDATE_NUMBERS]) -> i16 {
     let (p, q) = (usize::from(u), usize::from(w));
     let (beyond, unfit) = match kind {
-        1 => (p >= n || q >= n, p == q),
-        2 => (p >= n, q != 0),
+        1 => (p >= n || q >= n, p == q || wanted > 1),
+        2 => (p >= n, q != 0 || wanted > 1),
+        3 => (p >= n, w >= CLASSES || wanted != 0),
         _ => return 13,
     };
     if beyond {
         return 14;
     }
-    if unfit || wanted > 1 {
+    if unfit {
         return 15;
     }
-    if kind == 1 && v[4 * p + 3] | v[4 * q + 3] == 1 {
+    if kind == 1 && v[p][MARK] | v[q][MARK] == 1 {
         return 24;
     }
-    let there = if kind == 1 { u16::from(has(row(e, p), q)) } else { v[4 * p + 3] };
-    if there == wanted {
+    let there = match kind {
+        1 => u16::from(has(row(e, p), q)) == wanted,
+        2 => v[p][MARK] == wanted,
+        _ => v[p][CLASS] == w,
+    };
+    if there {
         return 16;
     }
-    if kind == 1 {
-        return change(e, v, k, n, p, q, wanted);
+    match kind {
+        1 => return change(e, v, k, n, p, q, wanted),
+        2 => v[p][MARK] = wanted,
+        _ => return reclass(e, v, k, n, p, w),
     }
-    v[4 * p + 3] = wanted;
     0
 }
 
@@ -512,8 +538,9 @@ pub fn apply(n: usize, e: &mut [u64], v: &mut [u16], k: &mut [u32], batch: &[u16
     if answers.len() < batch.len() / UPDATE_NUMBERS {
         return 18;
     }
+    let nodes = &mut v.as_chunks_mut().0[..n];
     for (four, answer) in batch.as_chunks().0.iter().zip(answers) {
-        *answer = update(e, v, k, n, four);
+        *answer = update(e, nodes, k, n, four);
     }
     0
 }
@@ -543,7 +570,7 @@ pub fn neighbours(n: usize, e: &[u64], v: &[u16], k: &[u32], p: u16, out: &mut [
     if usize::from(p) >= n {
         return 14;
     }
-    list(row(e, usize::from(p)), |q| v[4 * q], out, count)
+    list(row(e, usize::from(p)), |q| v[NODE_NUMBERS * q], out, count)
 }
 
 pub fn tied(n: usize, e: &[u64], v: &[u16], k: &[u32], p: u16, q: u16, yes: &mut u16) -> u16 {
@@ -571,14 +598,15 @@ pub fn group(n: usize, e: &[u64], v: &[u16], k: &[u32], p: u16, member: &mut Mem
     if usize::from(p) >= n {
         return 14;
     }
-    let l = v[4 * usize::from(p)];
+    let nodes: &[Node] = v.as_chunks().0;
+    let l = nodes[usize::from(p)][LEAST];
     let mut size = 1;
-    let mut q = v[4 * usize::from(l) + 1];
+    let mut q = nodes[usize::from(l)][NEXT];
     while q != l {
         size += 1;
-        q = v[4 * usize::from(q) + 1];
+        q = nodes[usize::from(q)][NEXT];
     }
-    let second = usize::from(v[4 * usize::from(l) + 1]);
+    let second = usize::from(nodes[usize::from(l)][NEXT]);
     let kind = if size == 1 { 0 } else { 1 + u16::from(has(row(e, usize::from(l)), second)) };
     *member = Member { least: l, kind, size };
     0
@@ -600,6 +628,7 @@ struct Shown {
     /// The position of each node's group.
     group: [u16; NODES],
     leaders: Vec<u16>,
+    classes: Vec<u16>,
     rows: Vec<Row>,
     leads: Row,
     sizes: [u16; NODES],
@@ -607,7 +636,7 @@ struct Shown {
 }
 
 impl Shown {
-    fn new(rows: &[Row], nodes: &[[u16; 4]]) -> Shown {
+    fn new(rows: &[Row], nodes: &[Node]) -> Shown {
         let slots = Slots { open: [NONE; 1024], closed: [NONE; 1024], open_next: [NONE; NODES], closed_next: [NONE; NODES] };
         let room = nodes.len();
         let mut shown = Shown {
@@ -616,20 +645,21 @@ impl Shown {
             visible: [0; 8],
             group: [NONE; NODES],
             leaders: Vec::with_capacity(room),
+            classes: Vec::with_capacity(room),
             rows: Vec::with_capacity(room),
             leads: [0; 8],
             sizes: [0; NODES],
             slots,
         };
         for (x, part) in shown.visible.iter_mut().zip(nodes.chunks(64)) {
-            *x = part.iter().rev().fold(0, |x, node| x << 1 | u64::from(node[3] == 0));
+            *x = part.iter().rev().fold(0, |x, node| x << 1 | u64::from(node[MARK] == 0));
         }
         let visible = shown.visible;
         let mut known = [NONE; NODES];
         each_bit(&visible, |p| {
-            let l = usize::from(nodes[p][0]) % NODES;
+            let l = usize::from(nodes[p][LEAST]) % NODES;
             if known[l] == NONE {
-                known[l] = shown.group_of(&rows[p], p);
+                known[l] = shown.group_of(&rows[p], p, nodes[p][CLASS]);
             }
             shown.group[p] = known[l];
             shown.sizes[usize::from(known[l]) % NODES] += 1;
@@ -639,21 +669,22 @@ impl Shown {
     }
 
     /// The group of a node that has no twin before it in the whole graph: that of another visible twin, or a new one.
-    fn group_of(&mut self, row: &Row, p: usize) -> u16 {
+    fn group_of(&mut self, row: &Row, p: usize, class: u16) -> u16 {
         let mut r = *row;
         r.iter_mut().zip(&self.visible).for_each(|(x, v)| *x &= v);
         let (h, c) = hashes(&r, p);
-        let (h, c) = (h as usize >> 22, c as usize >> 22);
+        let (h, c) = (classed(h, class) as usize >> 22, classed(c, class) as usize >> 22);
         let mut i = self.slots.open[h];
         while i != NONE {
-            if equal(&self.rows[usize::from(i)], &r) {
+            if self.classes[usize::from(i)] == class && equal(&self.rows[usize::from(i)], &r) {
                 return i;
             }
             i = self.slots.open_next[usize::from(i)];
         }
         i = self.slots.closed[c];
         while i != NONE {
-            if closed_twins(&self.rows[usize::from(i)], usize::from(self.leaders[usize::from(i)]), &r, p) {
+            let q = usize::from(self.leaders[usize::from(i)]);
+            if self.classes[usize::from(i)] == class && closed_twins(&self.rows[usize::from(i)], q, &r, p) {
                 return i;
             }
             i = self.slots.closed_next[usize::from(i)];
@@ -665,6 +696,7 @@ impl Shown {
         self.slots.closed[c] = g as u16;
         self.rows.push(r);
         self.leaders.push(p as u16);
+        self.classes.push(class);
         self.leads[p / 64 % 8] |= bit(p);
         g as u16
     }
@@ -691,9 +723,9 @@ impl Shown {
         let mut places = [0; NODES];
         let mut at = 0;
         for (i, place) in places.iter_mut().enumerate().take(self.rows.len()) {
-            out[at..at + 4].copy_from_slice(&(u32::from(INDEPENDENT) | u32::from(self.sizes[i]) << 16).to_le_bytes());
-            *place = at + 4;
-            at += 4 + 2 * usize::from(self.sizes[i]);
+            out[at..at + 6].copy_from_slice(&record_bytes(u32::from(INDEPENDENT) | u32::from(self.sizes[i]) << 16, self.classes[i]));
+            *place = at + 6;
+            at += 6 + 2 * usize::from(self.sizes[i]);
         }
         each_bit(&self.visible, |p| {
             let place = &mut places[usize::from(self.group[p]) % NODES];
@@ -707,10 +739,10 @@ impl Shown {
         let mut at = 0;
         for (i, r) in self.rows.iter().enumerate() {
             let size = usize::from(self.sizes[i]);
-            if size > 1 && has(r, number(out, at + 6)) {
+            if size > 1 && has(r, number(out, at + 8)) {
                 out[at..at + 2].copy_from_slice(&CLIQUE.to_le_bytes());
             }
-            at += 4 + 2 * size;
+            at += 6 + 2 * size;
         }
     }
 
@@ -721,7 +753,7 @@ impl Shown {
             let lead = u32::from(JOIN) | (i as u32) << 16;
             each_bit(&self.later(i), |q| {
                 if let Some(record) = records.next() {
-                    *record = superedge_bytes(lead, self.group[q]);
+                    *record = record_bytes(lead, self.group[q]);
                 }
             });
         }
@@ -779,9 +811,10 @@ fn put_sum(bytes: &mut [u8; 48], a: &[u16; 24], b: &[u16; 24], c: &[u16; 24]) {
     }
 }
 
-fn superedge_bytes(lead: u32, j: u16) -> [u8; 6] {
+/// A mark with a number, and another number.
+fn record_bytes(lead: u32, last: u16) -> [u8; 6] {
     let [a, b, c, d] = lead.to_le_bytes();
-    let [e, f] = j.to_le_bytes();
+    let [e, f] = last.to_le_bytes();
     [a, b, c, d, e, f]
 }
 
@@ -836,7 +869,7 @@ pub fn release(n: usize, e: &[u64], v: &[u16], k: &[u32], out: &mut [u8], counts
     let (rows, nodes) = (e.as_chunks().0, v.as_chunks().0);
     let shown = Shown::new(rows, nodes);
     let (m, g) = (shown.m, shown.rows.len());
-    let start = 8 + 4 * g + 2 * m;
+    let start = 8 + 6 * g + 2 * m;
     let s = shown.superedges();
     let length = start + 6 * s + 2;
     if out.len() < length {
@@ -866,6 +899,7 @@ struct Parts {
     /// The position of each node's group, NONE for a hidden node.
     group: [u16; NODES],
     firsts: [u16; NODES],
+    classes: [u16; NODES],
     /// The cubes' sum of each group's members.
     cubes: [u32; NODES],
     /// Where the members of groups of two or more stand in the file.
@@ -899,6 +933,7 @@ impl Parts {
             g: 0,
             group: [NONE; NODES],
             firsts: [0; NODES],
+            classes: [0; NODES],
             cubes: [0; NODES],
             several: Vec::new(),
             lone: [u64::MAX; 8],
@@ -915,7 +950,7 @@ impl Parts {
             return false;
         }
         (self.n, self.m, self.g) = (number(file, 2), number(file, 4), number(file, 6));
-        let end = 8 + 4 * self.g + 2 * self.m;
+        let end = 8 + 6 * self.g + 2 * self.m;
         if self.n > NODES || self.m > self.n || self.g > self.m || file.len() < end + 2 || (file.len() - end - 2) % 6 != 0 {
             return false;
         }
@@ -929,16 +964,17 @@ impl Parts {
     fn take_groups(&mut self, bytes: &[u8]) -> bool {
         let (mut at, mut low) = (8, 0);
         for i in 0..self.g {
-            let Some(head) = bytes.get(at..).and_then(|b| b.first_chunk::<6>()) else {
+            let Some(head) = bytes.get(at..).and_then(|b| b.first_chunk::<8>()) else {
                 return false;
             };
-            let (mark, count, first) = (short(head, 0), number(head, 2), number(head, 4));
-            if first < low {
+            let (mark, count, class, first) = (short(head, 0), number(head, 2), short(head, 4), number(head, 6));
+            if first < low || class >= CLASSES {
                 return false;
             }
             low = first + 1;
             self.firsts[i] = first as u16;
-            at += 4;
+            self.classes[i] = class;
+            at += 6;
             if mark == INDEPENDENT && count == 1 {
                 if first >= self.n || self.group[first] != NONE {
                     return false;
@@ -1060,15 +1096,16 @@ impl Parts {
     /// Hashes of the open and the closed row of each group.
     fn hashes(&self, open: &mut [u32], closed: &mut [u32]) {
         for i in 0..self.g.min(open.len()).min(closed.len()) {
-            (open[i], closed[i]) = if self.many {
+            let (h, c) = if self.many {
                 hashes(&self.joined[i], usize::from(self.firsts[i]))
             } else {
                 (self.sums[i], self.sums[i].wrapping_add(self.cubes[i]))
             };
+            (open[i], closed[i]) = (classed(h, self.classes[i]), classed(c, self.classes[i]));
         }
     }
 
-    /// Whether no two groups could be one.
+    /// Whether no two groups of one class could be one.
     fn fewest(&self) -> bool {
         let (mut open, mut closed) = ([0; NODES], [0; NODES]);
         self.hashes(&mut open, &mut closed);
@@ -1086,12 +1123,13 @@ impl Parts {
     }
 
     fn open_twins(&self, i: usize, j: usize) -> bool {
-        !has(&self.cliques, j) && equal(&self.joined[i], &self.joined[j])
+        self.classes[i] == self.classes[j] && !has(&self.cliques, j) && equal(&self.joined[i], &self.joined[j])
     }
 
     fn closed_twins(&self, i: usize, j: usize) -> bool {
         let first = |i: usize| usize::from(self.firsts[i]);
-        (has(&self.cliques, j) || has(&self.lone, j)) && closed_twins(&self.joined[i], first(i), &self.joined[j], first(j))
+        let fits = self.classes[i] == self.classes[j] && (has(&self.cliques, j) || has(&self.lone, j));
+        fits && closed_twins(&self.joined[i], first(i), &self.joined[j], first(j))
     }
 
     /// All nodes joined to group i, with its own if they are a clique.
@@ -1165,10 +1203,10 @@ impl Parts {
         }
     }
 
-    /// Hidden nodes join the group without edges, or are one.
+    /// Hidden nodes join the group of class 0 without edges, or are one.
     fn adopt(&mut self) {
         let hidden = self.group[..self.n].iter().position(|&i| i == NONE).unwrap_or(0) as u16;
-        let lonely = (0..self.g).find(|&i| self.sums[i] == 0 && self.joined[i] == [0; 8]);
+        let lonely = (0..self.g).find(|&i| self.sums[i] == 0 && self.classes[i] == 0 && self.joined[i] == [0; 8]);
         let i = lonely.unwrap_or(self.g);
         if lonely.is_none() {
             self.joined.push([0; 8]);
@@ -1184,7 +1222,7 @@ impl Parts {
 /// The members of a group of two or more, which stand at a place, put into a set.
 fn enter_members(set: &mut Row, file: &[u8], at: u16) {
     let at = usize::from(at);
-    for two in file[at..at + 2 * number(file, at - 2)].as_chunks::<2>().0 {
+    for two in file[at..at + 2 * number(file, at - 4)].as_chunks::<2>().0 {
         let p = number(two, 0);
         set[p / 64 % 8] |= bit(p);
     }
@@ -1350,7 +1388,8 @@ pub fn read(n: usize, e: &mut [u64], v: &mut [u16], k: &mut [u32], file: &[u8]) 
     }
     put_rows(&parts, e.as_chunks_mut().0);
     put_keys(&parts, k.as_chunks_mut().0);
-    put_rings(|p| parts.firsts[usize::from(parts.group[p]) % NODES], |p| marks[p], v.as_chunks_mut().0);
+    let group = |p: usize| usize::from(parts.group[p]) % NODES;
+    put_rings(|p| parts.firsts[group(p)], |p| [marks[p], parts.classes[group(p)]], v.as_chunks_mut().0);
     0
 }
 
@@ -1374,17 +1413,17 @@ fn put_keys(parts: &Parts, k: &mut [[u32; 2]]) {
     }
 }
 
-/// Each node is put after the members of its group so far.
-fn put_rings(least: impl Fn(usize) -> u16, mark: impl Fn(usize) -> u16, v: &mut [[u16; 4]]) {
+/// Each node, with its mark and class, is put after the members of its group so far.
+fn put_rings(least: impl Fn(usize) -> u16, own: impl Fn(usize) -> [u16; 2], v: &mut [Node]) {
     for p in 0..v.len().min(NODES) {
-        let l = least(p);
+        let (l, [mark, class]) = (least(p), own(p));
         if usize::from(l) == p {
-            v[p] = [l, l, l, mark(p)];
+            v[p] = [l, l, l, mark, class];
         } else {
-            let last = v[usize::from(l)][2];
-            v[p] = [l, l, last, mark(p)];
-            v[usize::from(last)][1] = p as u16;
-            v[usize::from(l)][2] = p as u16;
+            let last = v[usize::from(l)][PREVIOUS];
+            v[p] = [l, l, last, mark, class];
+            v[usize::from(last)][NEXT] = p as u16;
+            v[usize::from(l)][PREVIOUS] = p as u16;
         }
     }
 }
@@ -1400,18 +1439,18 @@ pub fn store_words(n: usize) -> usize {
     1 + STATES * place_words(n)
 }
 
-/// A place of a store: 0 or 1, the two words of the name, the rows, the marks.
+/// A place of a store: 0 or 1, the two words of the name, the rows, a word for each node: its mark and twice its class.
 struct Place<'a> {
     used: u64,
     name: &'a [u64],
     rows: &'a [Row],
-    marks: &'a [u64],
+    nodes: &'a [u64],
 }
 
 fn place(words: &[u64], n: usize) -> Place<'_> {
     let (head, state) = words.split_at(3);
-    let (edges, marks) = state.split_at(8 * n);
-    Place { used: head[0], name: &head[1..], rows: edges.as_chunks().0, marks }
+    let (edges, nodes) = state.split_at(8 * n);
+    Place { used: head[0], name: &head[1..], rows: edges.as_chunks().0, nodes }
 }
 
 fn places(store: &[u64], n: usize) -> impl Iterator<Item = Place<'_>> + Clone {
@@ -1452,7 +1491,7 @@ fn union(words: &[u64]) -> u64 {
 }
 
 fn state_holds(place: &Place) -> bool {
-    place.used == 1 && union(place.marks) <= 1 && simple(place.rows)
+    place.used == 1 && union(place.nodes) < 2 * u64::from(CLASSES) && simple(place.rows)
 }
 
 fn names_differ(store: &[u64], n: usize) -> bool {
@@ -1510,8 +1549,8 @@ pub fn keep(n: usize, e: &[u64], v: &[u16], k: &[u32], store: &mut [u64], name: 
     words[0] = 1;
     words[1..3].copy_from_slice(&name);
     words[3..3 + 8 * n].copy_from_slice(e);
-    for (x, node) in words[3 + 8 * n..].iter_mut().zip(v.as_chunks::<4>().0) {
-        *x = u64::from(node[3]);
+    for (x, node) in words[3 + 8 * n..].iter_mut().zip(v.as_chunks::<NODE_NUMBERS>().0) {
+        *x = u64::from(node[MARK] | node[CLASS] << 1);
     }
     0
 }
@@ -1542,9 +1581,10 @@ pub fn restore(n: usize, e: &mut [u64], v: &mut [u16], k: &mut [u32], store: &[u
     e.copy_from_slice(place.rows.as_flattened());
     let keys = k.as_chunks_mut().0;
     sum_keys(place.rows, keys);
+    let class = |p: usize| (place.nodes[p] >> 1) as u16;
     let mut leaders = [0; NODES];
-    lead(place.rows, keys, &mut leaders);
-    put_rings(|p| leaders[p], |p| place.marks[p] as u16, v.as_chunks_mut().0);
+    lead(place.rows, keys, class, &mut leaders);
+    put_rings(|p| leaders[p], |p| [place.nodes[p] as u16 & 1, class(p)], v.as_chunks_mut().0);
     0
 }
 
@@ -1564,13 +1604,13 @@ fn sum_keys(rows: &[Row], keys: &mut [[u32; 2]]) {
 }
 
 /// The least member of each node's group: leaders are chained by their keys.
-fn lead(rows: &[Row], keys: &[[u32; 2]], leaders: &mut [u16; NODES]) {
+fn lead(rows: &[Row], keys: &[[u32; 2]], class: impl Fn(usize) -> u16, leaders: &mut [u16; NODES]) {
     let mut slots = Slots { open: [NONE; 1024], closed: [NONE; 1024], open_next: [NONE; NODES], closed_next: [NONE; NODES] };
     let slot = |key: u32| (key.wrapping_mul(0x9E37_79B1) >> 22) as usize;
     for (p, (r, &[open, closed])) in rows.iter().zip(keys).enumerate() {
-        let (h, c) = (slot(open), slot(closed));
-        let open_twin = |q: usize| keys[q][0] == open && equal(&rows[q], r);
-        let closed_twin = |q: usize| keys[q][1] == closed && closed_twins(&rows[q], q, r, p);
+        let (h, c) = (slot(classed(open, class(p))), slot(classed(closed, class(p))));
+        let open_twin = |q: usize| keys[q][0] == open && class(q) == class(p) && equal(&rows[q], r);
+        let closed_twin = |q: usize| keys[q][1] == closed && class(q) == class(p) && closed_twins(&rows[q], q, r, p);
         let found = among(slots.open[h], &slots.open_next, open_twin).or_else(|| among(slots.closed[c], &slots.closed_next, closed_twin));
         leaders[p] = found.unwrap_or(p as u16);
         if found.is_none() {

@@ -11,12 +11,19 @@ mod program;
 use buckets::Buckets;
 use calls::Counts;
 use graphs::{Lent, Random, Shape, Tables};
-use lent::{UPDATES, UPDATE_NUMBERS};
+use lent::{NODE_NUMBERS, UPDATES, UPDATE_NUMBERS};
 use std::hint::black_box;
 use std::time::Instant;
 
 const SHAPES: [(Shape, &str); 3] = [(Shape::Sparse, "sparse"), (Shape::Dense, "dense"), (Shape::Twins, "twin-rich")];
-const FILE_BYTES: usize = 787_978;
+/// Graphs with several classes: sparse and twin-rich ones.
+const CLASSED: [(Shape, usize, &str); 4] = [
+    (Shape::Sparse, 3, "sparse, 3 classes"),
+    (Shape::Sparse, 256, "sparse, 256 classes"),
+    (Shape::Twins, 3, "twin-rich, 3 classes"),
+    (Shape::Twins, 256, "twin-rich, 256 classes"),
+];
+const FILE_BYTES: usize = 789_002;
 const ROUNDS: usize = 41;
 
 /// The medians of the times of two functions, run in turn, in nanoseconds.
@@ -74,26 +81,44 @@ fn bucketed(t: &Tables) -> Buckets {
             }
         }
     }
-    assert_eq!(buckets.groups, (0..t.n).filter(|&p| usize::from(t.nodes[4 * p]) == p).count());
+    assert_eq!(buckets.groups, (0..t.n).filter(|&p| usize::from(t.nodes[NODE_NUMBERS * p]) == p).count());
     buckets
 }
 
-fn updates(t: &Tables, name: &str, random: &mut Random) {
-    let n = t.n;
-    let batch = graphs::there_and_back(t, random);
-    let (mut a, mut b, mut buckets) = (t.clone(), t.clone(), bucketed(t));
+/// A batch that leaves the graph as it was.
+fn batch(t: &Tables, name: &str, what: &str, batch: &[u16]) {
+    let (mut a, mut b) = (t.clone(), t.clone());
     let (mut x, mut y) = (vec![0; UPDATES], vec![0; UPDATES]);
     let times = medians(
-        || assert_eq!(calls::apply(n, &mut a.edges, &mut a.nodes, &mut a.keys, &batch, &mut x), 0),
-        || assert_eq!(lent::apply(n, &mut b.edges, &mut b.nodes, &mut b.keys, &batch, &mut y), 0),
+        || assert_eq!(calls::apply(t.n, &mut a.edges, &mut a.nodes, &mut a.keys, batch, &mut x), 0),
+        || assert_eq!(lent::apply(t.n, &mut b.edges, &mut b.nodes, &mut b.keys, batch, &mut y), 0),
     );
-    line(t, name, "update in a batch of 4,096", times, UPDATES as f64);
+    line(t, name, what, times, UPDATES as f64);
+    assert_eq!((&a, &x), (&b, &y));
+    assert_eq!(&a, t);
+}
+
+/// The paper's method knows no classes.
+fn buckets(t: &Tables, name: &str, batch: &[u16]) {
+    let (mut a, mut x, mut buckets) = (t.clone(), vec![0; UPDATES], bucketed(t));
     let times = medians(
-        || assert_eq!(calls::apply(n, &mut a.edges, &mut a.nodes, &mut a.keys, &batch, &mut x), 0),
+        || assert_eq!(calls::apply(t.n, &mut a.edges, &mut a.nodes, &mut a.keys, batch, &mut x), 0),
         || batch.as_chunks().0.iter().for_each(|&[_, u, v, wanted]| buckets.update(u, v, wanted)),
     );
     line(t, name, "the same, against hash buckets", times, UPDATES as f64);
-    let ones = [&batch[..UPDATE_NUMBERS], &batch[batch.len() - UPDATE_NUMBERS..]];
+}
+
+fn updates(t: &Tables, name: &str, classes: usize, random: &mut Random) {
+    let n = t.n;
+    let edges = graphs::there_and_back(t, random);
+    batch(t, name, "update in a batch of 4,096", &edges);
+    if classes == 1 {
+        buckets(t, name, &edges);
+    }
+    batch(t, name, "class change in a batch of 4,096", &graphs::classes_and_back(t, classes, random));
+    let (mut a, mut b) = (t.clone(), t.clone());
+    let (mut x, mut y) = ([0; 1], [0; 1]);
+    let ones = [&edges[..UPDATE_NUMBERS], &edges[edges.len() - UPDATE_NUMBERS..]];
     let times = medians(
         || ones.iter().for_each(|one| assert_eq!(calls::apply(n, &mut a.edges, &mut a.nodes, &mut a.keys, one, &mut x), 0)),
         || ones.iter().for_each(|one| assert_eq!(lent::apply(n, &mut b.edges, &mut b.nodes, &mut b.keys, one, &mut y), 0)),
@@ -200,21 +225,31 @@ fn states(t: &Tables, name: &str, states: usize, which: &str) {
     on_lent(&x, name, &format!("drop {which}"), first, second, |x| x.place(last).copy_from_slice(&state));
 }
 
+/// The lines of a graph without its states; every eighth node is hidden.
+fn graph(n: usize, shape: Shape, classes: usize, name: &str) -> Tables {
+    let mut random = Random(0x1234_5678_9ABC_DEF1);
+    let edges = graphs::edges(shape, n, &mut random);
+    let t = graphs::build(n, &edges, &graphs::classes(classes, n, &mut random), 8);
+    updates(&t, name, classes, &mut random);
+    queries(&t, name);
+    files(&t, name);
+    t
+}
+
 fn measure() {
     println!("| n | graph | call | library, µs | other, µs | ratio |");
     println!("|---|---|---|---|---|---|");
     for n in [512, 64] {
         for (shape, name) in SHAPES {
-            let mut random = Random(0x1234_5678_9ABC_DEF1);
-            let t = graphs::build(n, &graphs::edges(shape, n, &mut random), 8);
-            updates(&t, name, &mut random);
-            queries(&t, name);
-            files(&t, name);
+            let t = graph(n, shape, 1, name);
             if n == 512 && shape != Shape::Twins {
                 states(&t, name, 1, "one state");
                 states(&t, name, 8, "the eighth state");
             }
         }
+    }
+    for (shape, classes, name) in CLASSED {
+        states(&graph(512, shape, classes, name), name, 1, "one state");
     }
 }
 

@@ -56,9 +56,10 @@ fn text(file: &[u8], counts: &Counts) -> String {
             out += &format!("J {} {}\n", at(i + 2), at(i + 4));
             i += 6;
         } else {
-            let members: Vec<String> = (0..usize::from(at(i + 2))).map(|k| at(i + 4 + 2 * k).to_string()).collect();
+            assert_eq!(at(i + 4), 0);
+            let members: Vec<String> = (0..usize::from(at(i + 2))).map(|k| at(i + 6 + 2 * k).to_string()).collect();
             out += &format!("{} {}\n", char::from(file[i + 1]), members.join(" "));
-            i += 4 + 2 * members.len();
+            i += 6 + 2 * members.len();
         }
     }
     out
