@@ -173,10 +173,10 @@ pub record Faithful (x : Source) (g : Graph) (t : Tables) : Type 0 where
   -- every other division of these nodes into groups of one class that unfolds to the same edges has at least as many groups
   pub fewest : (d : Summary) → Summarises (visible g) d → length (visibleGroups g) ≤ d .count
 
--- what one batch did to tables of two graphs alike in what is visible; whether it leaves the classes of hidden nodes
+-- what one batch did to tables of two graphs alike in what is visible; `leaves` says that it sets no hidden node's class
 pub record AppliedAlike (n : ℕ) (leaves : Type 0) (a b : Applied) : Type 0 where
   pub result : a .result ≡ b .result
-  -- the same updates are refused, by the same numbers
+  -- the same updates are refused, by the same numbers, where it sets none
   pub refusals : leaves → map refusalIn (a .answers) ≡ map refusalIn (b .answers)
   -- and the graphs are alike in what is visible afterwards
   pub after : Alike (graphOf n (a .tables)) (graphOf n (b .tables))
@@ -192,7 +192,7 @@ pub record Demand3 : Type 0 where
   -- marks are not frozen: whoever is hidden can be revealed
   pub revealed : (x : Source) (p : ℕ) → graphOfSource x .hidden p ≡ true → refusal (graphOfSource x) (record { kind = 2; u = p; v = 0; wanted = 0 }) ≡ 0
   -- one batch that reveals nobody does not tell two sources apart that are alike in what is visible, but for the numbers from -2 to 2
-  -- that accepted updates answer: these count groups of the whole graph
+  -- that accepted updates answer, since these count groups of the whole graph, and for 16 where it sets a hidden node's class
   pub batches : (x y : Source) → Alike (graphOfSource x) (graphOfSource y) → (xs : List ℕ) → RevealsNobody (graphOfSource x) (updatesIn xs) → (out : List ℤ)
       → AppliedAlike (graphOfSource x .nodeCount) (LeavesClasses (graphOfSource x) (updatesIn xs)) (applyCall (graphOfSource x .nodeCount) (tablesOfSource x) xs out) (applyCall (graphOfSource y .nodeCount) (tablesOfSource y) xs out)
   -- every batch whose updates are of edges or classes, or to hide, is one that reveals nobody

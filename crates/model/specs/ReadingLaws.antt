@@ -197,15 +197,10 @@ module _ (v : View) (g : Simple v) (asc : Ascending (v .nodes)) where
   members-back [] = refl
   members-back (x ∷ xs) = ap (λ (l : List (List ℕ)). x ∷ l) (members-back xs)
 
-  marks-back : (l : List (List ℕ)) (i : ℕ) → i < length l → getD (map (λ (g : Head × List ℕ). g .0 .clique) (map (marked v) l)) i false ≡ isClique (kindOf (v .edge) (getD l i []))
-  marks-back [] i h = absurd (omega arith)
-  marks-back (x ∷ xs) zero h = refl
-  marks-back (x ∷ xs) (suc i) h = marks-back xs i (omega arith)
-
-  classes-back : (l : List (List ℕ)) (i : ℕ) → i < length l → getD (map (λ (g : Head × List ℕ). g .0 .class) (map (marked v) l)) i 0 ≡ v .class (headOr 0 (getD l i []))
-  classes-back [] i h = absurd (omega arith)
-  classes-back (x ∷ xs) zero h = refl
-  classes-back (x ∷ xs) (suc i) h = classes-back xs i (omega arith)
+  heads-back : {A : Type 0} (f : Head → A) (d : A) (l : List (List ℕ)) (i : ℕ) → i < length l → getD (map (λ (g : Head × List ℕ). f (g .0)) (map (marked v) l)) i d ≡ f (marked v (getD l i []) .0)
+  heads-back f d [] i h = absurd (omega arith)
+  heads-back f d (x ∷ xs) zero h = refl
+  heads-back f d (x ∷ xs) (suc i) h = heads-back f d xs i (omega arith)
 
   abbrev pos : ℕ → ℕ
   pos p = position p gs
@@ -236,7 +231,7 @@ module _ (v : View) (g : Simple v) (asc : Ascending (v .nodes)) where
   read-exact : (p q : ℕ) → p ∈ v .nodes → q ∈ v .nodes → reconstruct told p q ≡ v .edge p q
   unfolding reconstruct summaryBy
   read-exact p q mp mq =
-      rw (members-back gs, position-similar v g asc p q mp mq, marks-back gs (pos p) (position-in v g asc p mp), position-group v g asc p mp)
+      rw (members-back gs, position-similar v g asc p q mp mq, heads-back (λ h. h .clique) false gs (pos p) (position-in v g asc p mp), position-group v g asc p mp)
       (step (decide (r p q)) (decide (eqb p q)))
     where
       step : (r p q ≡ true) ⊎ (r p q ≡ false) → (eqb p q ≡ true) ⊎ (eqb p q ≡ false)
@@ -247,7 +242,7 @@ module _ (v : View) (g : Simple v) (asc : Ascending (v .nodes)) where
 
   read-class-of : (p : ℕ) → p ∈ v .nodes → told .classes (told .groupOf p) ≡ v .class p
   unfolding summaryBy
-  read-class-of p m = rw (members-back gs, classes-back gs (pos p) (position-in v g asc p m)) (position-class v g asc p m)
+  read-class-of p m = rw (members-back gs, heads-back (λ h. h .class) 0 gs (pos p) (position-in v g asc p m)) (position-class v g asc p m)
 
   pub length-marked : (l : List (List ℕ)) → length (map (marked v) l) ≡ length l
   length-marked [] = refl
