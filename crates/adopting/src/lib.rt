@@ -1,4 +1,6 @@
 // Hidden nodes, which have no edges and class 0, put into the group of the nodes of class 0 without edges.
+#![tactic(auto)]
+
 ghost use Rattle.std.specs.Prelude.{◌≡◌, ◌+◌, ◌*◌, ◌≤◌, ◌<◌, length};
 ghost use Rattle.model.specs.Graph.{max_nodes, row_words};
 ghost use Rattle.compressed.specs.Compressed.{class_in};

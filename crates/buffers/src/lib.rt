@@ -1,4 +1,6 @@
 // Words copied, cleared and united. The rest are definitions and laws, in specs/.
+#![tactic(auto)]
+
 ghost use Rattle.std.specs.Prelude.{◌≡◌, ℕ, ◌+◌, ◌^◌, ◌≤◌, ltb, length, replicate, take};
 ghost use Rattle.model.specs.Lists.{all};
 ghost use Rattle.buffers.specs.Union.{United};

@@ -1,4 +1,6 @@
 // The calls for C and Rust: each does what the library's call does, and equals the model's call on every input.
+#![tactic(auto)]
+
 ghost use Rattle.std.specs.Prelude.{◌≡◌, cond};
 ghost use Rattle.model.specs.Calls.{apply_call, drop_call, file_distance_call, file_neighbours_call, group_call, keep_call, neighbours_call, open_call, read_call, release_call, restore_call, tied_call};
 ghost use Rattle.rows.specs.Rows.{lent};

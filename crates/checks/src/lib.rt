@@ -1,4 +1,6 @@
 // The test that lent tables hold a graph: the numbers of the node table are taken as a certificate, nothing is built anew.
+#![tactic(auto)]
+
 ghost use Rattle.std.specs.Prelude.{◌≡◌, ◌+◌, ◌*◌, ◌<◌, ◌≤◌, true, ◌&&◌, length};
 ghost use Rattle.model.specs.Graph.{max_nodes, row_words, node_numbers};
 ghost use Rattle.model.specs.Tables.{holds};

@@ -1,4 +1,5 @@
 // A graph held by its groups: definitions and laws in specs/, the kinds that stand in its arrays, and which graphs are small.
+#![tactic(auto)]
 
 // The kinds of a group: of one node, independent, a clique.
 pub const SINGLE: u16 = 0;

@@ -1,4 +1,6 @@
 // The distance of two nodes of a graph held by its groups: a search over superedges.
+#![tactic(auto)]
+
 ghost use Rattle.std.specs.Prelude.{◌≡◌, true, not, ◌&&◌, ◌<◌, length};
 ghost use Rattle.model.specs.Graph.{row_words};
 ghost use Rattle.model.specs.Tables.{edge_bit};

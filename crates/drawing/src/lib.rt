@@ -1,4 +1,6 @@
 // Bits put into the rows of an edge table.
+#![tactic(auto)]
+
 ghost use Rattle.std.specs.Prelude.{◌+◌, ◌*◌, ◌≤◌, ◌<◌, length};
 ghost use Rattle.model.specs.Graph.{max_nodes, row_words};
 ghost use Rattle.drawing.specs.Drawing.{Added, one_bit, pair_bits, row_to, row_word_to};

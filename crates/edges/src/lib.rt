@@ -1,4 +1,6 @@
 // The test that an edge table is that of a graph: symmetric, without loops, without a bit for a number n or above.
+#![tactic(auto)]
+
 ghost use Rattle.std.specs.Prelude.{◌≡◌, ◌&&◌, ◌*◌, ◌≤◌, ◌<◌, length};
 ghost use Rattle.model.specs.Graph.{max_nodes, row_words};
 ghost use Rattle.symmetry.specs.Symmetry.{symmetric};

@@ -1,1 +1,2 @@
 // The examples of document 01 as one theorem; no code.
+#![tactic(auto)]

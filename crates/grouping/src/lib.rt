@@ -1,4 +1,6 @@
 // The groups of the visible nodes, where hidden ones have no edges, and whether groups are apart: by chains of leaders whose rows have one hash.
+#![tactic(auto)]
+
 ghost use Rattle.std.specs.Prelude.{◌≡◌, ℕ, ◌+◌, ◌*◌, ◌<◌, ◌≤◌, Bool, true, false, length};
 ghost use Rattle.model.specs.Graph.{max_nodes, row_words};
 ghost use Rattle.layout.specs.Truth.{Truth};

@@ -1,4 +1,6 @@
 // The node table kept in place: for each node the least member of its group, the next greater member, the previous one, the mark, the class.
+#![tactic(auto)]
+
 ghost use Rattle.std.specs.Prelude.{◌≡◌, ◌≢◌, ◌+◌, ◌*◌, ◌≤◌, ◌<◌, min, max, length};
 ghost use Rattle.std.proofs.Math.IntN.{sub_ℕ};
 ghost use Rattle.model.specs.Graph.{max_nodes, node_numbers};

@@ -1,4 +1,6 @@
 // What a caller uses on lent tables: open, apply, neighbours, tied, group. Each is the model's call (Calls) on every input.
+#![tactic(auto)]
+
 ghost use Rattle.std.specs.Prelude.{◌≡◌};
 ghost use Rattle.model.specs.Refusals.{first_of};
 ghost use Rattle.model.specs.Calls.{apply_call, apply_reasons, group_call, neighbours_call, open_call, tied_call};

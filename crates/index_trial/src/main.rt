@@ -1,5 +1,7 @@
 // Runs the histories of a script, read from standard input, over the index, and prints a line for each call.
 // tools/reference/README.md has the script's language.
+#![tactic(auto)]
+
 mod calls;
 mod sweep;
 

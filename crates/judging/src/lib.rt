@@ -1,4 +1,6 @@
 // Whether bytes are a release: they read in order, and no two of their groups could be one.
+#![tactic(auto)]
+
 ghost use Rattle.std.specs.Prelude.{◌≡◌, ◌*◌, replicate};
 ghost use Rattle.model.specs.Graph.{max_nodes};
 ghost use Rattle.reader.specs.Decoding.{Blank};

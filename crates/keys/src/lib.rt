@@ -1,4 +1,6 @@
 // Keys: the cubes of neighbours added up, by a walk over the bits of a row, by a table of sums over eight bits, or told by a twin's.
+#![tactic(auto)]
+
 ghost use Rattle.std.specs.Prelude.{◌≡◌, ℕ, ◌+◌, ◌*◌, ◌/◌, ◌%◌, ◌^◌, ◌<◌, ◌≤◌, length, replicate};
 ghost use Rattle.model.specs.Graph.{max_nodes, row_words};
 ghost use Rattle.model.specs.Tables.{keys_of, graph_in};

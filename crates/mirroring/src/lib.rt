@@ -1,4 +1,6 @@
 // The bits below the diagonal of an edge table set above it too: by strips of 64 rows, each transposed.
+#![tactic(auto)]
+
 ghost use Rattle.std.specs.Prelude.{◌≡◌, ◌+◌, ◌*◌, ◌≤◌, ◌<◌, length};
 ghost use Rattle.model.specs.Graph.{max_nodes, row_words};
 ghost use Rattle.drawing.specs.Drawing.{Added};

@@ -14,11 +14,13 @@ all_intro (x ∷ xs) f h = and_true (h x (Memᴰ.head refl)) (all_intro xs f (λ
 
 pub all_elim : (l : List ℕ) (f : ℕ → Bool) → all l f ≡ true → (p : ℕ) → p ∈ l → f p ≡ true
 unfolding all
+all_elim [] f e p x' = elim x' [ ]
 all_elim (x ∷ xs) f e p (Memᴰ.head q) = rw q (and_fst (f x) (all xs f) e)
 all_elim (x ∷ xs) f e p (Memᴰ.tail m) = all_elim xs f (and_snd (f x) (all xs f) e) p m
 
 pub any_intro : (l : List ℕ) (f : ℕ → Bool) (p : ℕ) → p ∈ l → f p ≡ true → any l f ≡ true
 unfolding any
+any_intro [] f p x' e = elim x' [ ]
 any_intro (x ∷ xs) f p (Memᴰ.head q) e = or_left (any xs f) (rw q at e)
 any_intro (x ∷ xs) f p (Memᴰ.tail m) e = or_right (f x) (any_intro xs f p m e)
 
@@ -33,6 +35,7 @@ any_elim (x ∷ xs) f e = step (any_elim xs f) (or_cases (f x) (any xs f) e)
 
 pub filter_intro : (f : ℕ → Bool) (l : List ℕ) (p : ℕ) → p ∈ l → f p ≡ true → p ∈ filter f l
 unfolding filter
+filter_intro f [] p x' e = elim x' [ ]
 filter_intro f (x ∷ xs) p (Memᴰ.head q) e = rw (rw q at e) (Memᴰ.head q)
 filter_intro f (x ∷ xs) p (Memᴰ.tail m) e = step (f x) (filter_intro f xs p m e)
   where
@@ -109,6 +112,7 @@ head_or_in d [] p m = absurd (Memᴰ.not-nil m)
 head_or_in d (x ∷ xs) p m = Memᴰ.head refl
 
 pub head_or-any : (d e : ℕ) (l : List ℕ) (p : ℕ) → p ∈ l → head_or d l ≡ head_or e l
+head_or-any d e [] p m = elim m [ ]
 head_or-any d e (x ∷ xs) p m = refl
 
 pub head_or-le : (d : ℕ) (l : List ℕ) (p : ℕ) → Ascending l → p ∈ l → head_or d l ≤ p
@@ -215,6 +219,7 @@ same_eq (x ∷ xs) [] h = differ h refl
 same_eq (x ∷ xs) (y ∷ ys) h = ap₂ ◌∷◌ (eqb-true x y (and_fst (eqb x y) (same_list xs ys) h)) (same_eq xs ys (and_snd (eqb x y) (same_list xs ys) h))
 
 pub map_in : {A : Type 0} (f : ℕ → A) (l : List ℕ) (p : ℕ) → p ∈ l → Memᴰ (f p) (map f l)
+map_in {A = A} f [] p x' = elim x' [ ]
 map_in f (x ∷ xs) p (Memᴰ.head q) = Memᴰ.head (ap f q)
 map_in f (x ∷ xs) p (Memᴰ.tail m) = Memᴰ.tail (map_in f xs p m)
 

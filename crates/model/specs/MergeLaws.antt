@@ -42,6 +42,9 @@ other_member p (x ∷ y ∷ l) a h = step (decide (eqb p x))
     step (inr t) = (x, Memᴰ.head refl, eqb-false p x t)
 
 pub only_member : (p q : ℕ) (l : List ℕ) → length l ≡ 1 → p ∈ l → q ∈ l → p ≡ q
+only_member p q [] h a b = elim a [ ]
+only_member p q (x ∷ []) h (Memᴰ.head a) (Memᴰ.tail x19) = elim x19 [ ]
+only_member p q (x ∷ []) h (Memᴰ.tail x18) b = elim x18 [ ]
 only_member p q (x ∷ []) h (Memᴰ.head a) (Memᴰ.head b) = a ∙ sym b
 only_member p q (x ∷ y ∷ l) h a b = absurd (omega arith)
 

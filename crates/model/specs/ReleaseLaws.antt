@@ -115,6 +115,7 @@ none_of x (y ∷ ys) h = rw (ne_eqb x y (λ q. h (Memᴰ.head q))) (none_of x ys
 
 pub one_of : (x : ℕ) (l : List ℕ) → Ascending l → x ∈ l → length (filter (eqb x) l) ≡ 1
 unfolding filter
+one_of x [] a x3 = elim x3 [ ]
 one_of x (y ∷ ys) a (Memᴰ.head q) = rw (eq-eqb x y q) (ap suc (none_of x ys (λ m. omega (arith, a.0 x m))))
 one_of x (y ∷ ys) a (Memᴰ.tail m) = rw (ne_eqb x y (λ q. omega (arith, a.0 x m))) (one_of x ys a.1 m)
 

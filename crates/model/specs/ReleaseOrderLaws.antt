@@ -88,6 +88,7 @@ module _ (v : View) (g : Simple v) (asc : Ascending v.nodes) where
       step (inr t) = rw t (two (leb-false (length h) 1 t) (adjacent v.edge h h))
 
   some : (h : List ℕ) (p : ℕ) → p ∈ h → 1 ≤ length h
+  some [] p m = elim m [ ]
   some (x ∷ xs) p m = omega arith
 
   module _ (n : ℕ) (small : (p : ℕ) → p ∈ v.nodes → p < n) (bounded : (p : ℕ) → v.class p < max_classes) where

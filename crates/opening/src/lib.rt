@@ -1,4 +1,6 @@
 // The tables of a graph without edges.
+#![tactic(auto)]
+
 ghost use Rattle.std.specs.Prelude.{◌≡◌, ◌+◌, ◌*◌, ◌≤◌, ◌<◌, length};
 ghost use Rattle.model.specs.Graph.{empty_graph, max_nodes, node_numbers};
 ghost use Rattle.model.specs.Tables.{tables_of};

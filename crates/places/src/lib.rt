@@ -1,4 +1,6 @@
 // The places of a lent store: names, searches, clearing.
+#![tactic(auto)]
+
 ghost use Rattle.std.specs.Prelude.{◌≡◌, not, ◌+◌, ◌*◌, ◌-◌, ◌≤◌, ◌<◌, length, take, drop, replicate};
 ghost use Rattle.model.specs.Lists.{all, nodes};
 ghost use Rattle.model.specs.Graph.{max_nodes};

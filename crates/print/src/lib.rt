@@ -1,4 +1,6 @@
 // The program's output text, written into a lent buffer from a place on; each function hands back the place after it.
+#![tactic(auto)]
+
 ghost use Rattle.std.specs.Prelude.{◌≡◌, [], ◌∷◌, ◌++◌, ◌+◌, ◌≤◌, ◌<◌, nat_abs, length, get_or, drop};
 ghost use Rattle.model.specs.Reading.{after_groups, is_mark, superedges_at, u16_at};
 ghost use Rattle.model.specs.Program.{change_line, change_lines, decimal, open_line, refused_line, signed, spaced, superedge_line};

@@ -1,4 +1,6 @@
 // The program: the bytes of its input to the bytes of its output.
+#![tactic(auto)]
+
 ghost use Rattle.std.specs.Prelude.{◌≡◌, List, ℕ, ◌+◌, ◌≤◌, length, take};
 ghost use Rattle.model.specs.Calls.{onto};
 ghost use Rattle.model.specs.Program.{accepted, max_bytes, printed, program};

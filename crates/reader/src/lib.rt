@@ -1,4 +1,6 @@
 // A release file read record by record into the groups and superedges that it tells.
+#![tactic(auto)]
+
 ghost use Rattle.std.specs.Prelude.{◌≡◌, ◌+◌, ◌*◌, ◌≤◌, ◌<◌, length, replicate};
 ghost use Rattle.model.specs.Graph.{max_nodes, row_words};
 ghost use Rattle.rows.specs.Rows.{no_node};

@@ -1,4 +1,6 @@
 // The records of a release file, each with the place after it, and the head's counts used up one by one.
+#![tactic(auto)]
+
 ghost use Rattle.std.specs.Prelude.{◌≡◌, ◌+◌, ◌*◌, ◌≤◌, ◌<◌, length};
 ghost use Rattle.model.specs.Reading.{u16_at};
 ghost use Rattle.model.specs.Release.{u16_limit};

@@ -1,4 +1,6 @@
 // Releases: written, read back, asked. Each call is the model's (Calls) on every input.
+#![tactic(auto)]
+
 ghost use Rattle.std.specs.Prelude.{◌≡◌, true, length, ◌*◌, ◌≤◌};
 ghost use Rattle.model.specs.Graph.{row_words};
 ghost use Rattle.model.specs.Tables.{graph_of};

@@ -1,5 +1,7 @@
 // Reads files of its folder as releases, releases them again and asks them, as a script on standard input says, and prints
 // a line for each call. tools/reference/README.md has the script's language.
+#![tactic(auto)]
+
 mod calls;
 mod files;
 mod sweep;

@@ -1,1 +1,2 @@
 // Laws of the node table; no code.
+#![tactic(auto)]

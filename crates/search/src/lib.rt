@@ -1,4 +1,6 @@
 // The search for the group that a node joins: by keys, then by rows.
+#![tactic(auto)]
+
 ghost use Rattle.std.specs.Prelude.{◌≡◌, false, ◌+◌, ◌*◌, ◌≤◌, ◌<◌, length};
 ghost use Rattle.model.specs.Graph.{max_nodes, row_words, node_numbers};
 ghost use Rattle.search.specs.Search.{Passed, Ready, Skipped, block, first_from, joins, key_agrees, keys_agree, may_join, meets, own_bit, own_bits, same_class, tried};

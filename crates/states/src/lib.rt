@@ -1,4 +1,6 @@
 // The edges, marks and classes of a graph copied into words, and tables made from such words.
+#![tactic(auto)]
+
 ghost use Rattle.std.specs.Prelude.{◌≡◌, List, ◌++◌, ℕ, ◌*◌, ◌/◌, ◌%◌, ◌≤◌, ◌<◌, get_or, length};
 ghost use Rattle.model.specs.Graph.{max_nodes, node_numbers, row_words};
 ghost use Rattle.model.specs.Tables.{edges_of, graph_of, tables_of};

@@ -1,4 +1,6 @@
 // Graphs kept under names in a lent store, to come back to. Each call is the model's (Calls) on every input.
+#![tactic(auto)]
+
 ghost use Rattle.std.specs.Prelude.{◌≡◌, not, true, [], ◌*◌, ◌≤◌, ◌<◌, length, get_or, set};
 ghost use Rattle.model.specs.Graph.{max_nodes, node_numbers, row_words};
 ghost use Rattle.model.specs.Tables.{tables_of};

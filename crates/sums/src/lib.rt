@@ -1,5 +1,7 @@
 // The keys of a graph held by its groups, from sums of cubes: at a first member those of the groups joined to its own, and in the
 // second half those of its own group.
+#![tactic(auto)]
+
 ghost use Rattle.std.specs.Prelude.{◌≡◌, ℕ, ◌+◌, ◌*◌, ◌<◌, List, length, replicate, ◌≢◌, slice_index};
 ghost use Rattle.model.specs.Graph.{max_nodes};
 ghost use Rattle.model.specs.Tables.{keys_of};

@@ -1,4 +1,6 @@
 // What every call asks of the tables that it is lent: that their lengths are right, and that they hold a graph.
+#![tactic(auto)]
+
 ghost use Rattle.std.specs.Prelude.{◌≡◌, not, []};
 ghost use Rattle.model.specs.Refusals.{first_of, lengths, wrong_size};
 ghost use Rattle.rows.specs.Rows.{lent};

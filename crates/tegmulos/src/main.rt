@@ -1,4 +1,6 @@
 // Prints the program's output for standard input.
+#![tactic(auto)]
+
 fn main() {
     let mut input = program::input_buffer();
     let n = io::read_full(0, &mut input);

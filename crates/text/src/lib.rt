@@ -1,4 +1,6 @@
 // The program's input: n on the first line, then a line for each change.
+#![tactic(auto)]
+
 ghost use Rattle.std.specs.Prelude.{◌≡◌, [], ◌∷◌, ◌+◌, ◌*◌, ◌≤◌, ◌<◌, length, drop};
 ghost use Rattle.model.specs.Graph.{max_updates};
 ghost use Rattle.model.specs.Updates.{update_numbers};

@@ -1,4 +1,6 @@
 // What the test programs share: the lines of a script, digests, and words and numbers on standard output.
+#![tactic(auto)]
+
 pub mod batch;
 pub mod digest;
 pub mod draws;

@@ -1,4 +1,6 @@
 // A batch on tables that hold a graph.
+#![tactic(auto)]
+
 ghost use Rattle.std.specs.Prelude.{◌≡◌, not, ◌%◌, ◌≤◌, length};
 ghost use Rattle.model.specs.Updates.{update_count, update_numbers, wrong_batch};
 ghost use Rattle.rows.specs.Rows.{lent};

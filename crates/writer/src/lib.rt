@@ -1,4 +1,6 @@
 // The release file, written from the least members of the groups, the classes and the edges into a lent buffer.
+#![tactic(auto)]
+
 ghost use Rattle.std.specs.Prelude.{◌≡◌, [], ◌∷◌, ◌+◌, ◌*◌, ◌-◌, ◌≤◌, ◌<◌, length, get_or};
 ghost use Rattle.std.specs.Int.Count.{ones};
 ghost use Rattle.model.specs.Graph.{max_nodes, row_words};
