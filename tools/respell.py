@@ -61,7 +61,7 @@ def mapping():
     defined, proved = declared()
     names = {snake(d) for d in defined if not d[0].isupper()} | KNOWN
     to = {d: snake(d) for d in defined if CAMEL.match(d)}
-    taken = {snake(d) for d in defined}
+    taken = {snake(d) for d in defined} | {"bit_and", "bit_or", "bit_xor"}
     for name in sorted(proved):
         if name in defined:
             continue

@@ -8,7 +8,7 @@ use Rattle.std.specs.Int.Bits.{bit_xor}
 use Rattle.std.proofs.lemmas.Nat.{xor_lt}
 use Rattle.model.specs.Graph.{max_nodes}
 use Rattle.model.specs.Tables.{bit_at, edge_bit}
-use Rattle.rows.specs.BitLaws.{bit_xor, word-bit}
+use Rattle.rows.specs.BitLaws.{bit_xor_lem, word-bit}
 use Rattle.rows.specs.Rows.{Words}
 use Rattle.search.specs.Search.{own_bits}
 use Rattle.search.specs.SearchLaws.{meets_by, meets_words}
@@ -21,7 +21,7 @@ Agree edges closed u q b = xor (edge_bit edges u b) (edge_bit edges q b) ≡ con
 
 module _ (edges : List ℕ) (u q : ℕ) where
   bits_of : (w j : ℕ) → j < 64 → bit_at (bit_xor (get_or edges (8 * u + w) 0) (get_or edges (8 * q + w) 0)) j ≡ xor (edge_bit edges u (64 * w + j)) (edge_bit edges q (64 * w + j))
-  bits_of w j l = bit_xor (get_or edges (8 * u + w) 0) (get_or edges (8 * q + w) 0) j ∙ ap₂ xor (sym (word-bit edges u w j l)) (sym (word-bit edges q w j l))
+  bits_of w j l = bit_xor_lem (get_or edges (8 * u + w) 0) (get_or edges (8 * q + w) 0) j ∙ ap₂ xor (sym (word-bit edges u w j l)) (sym (word-bit edges q w j l))
 
   pub alike_bits : (c : Bool) → alike edges c u q ≡ true → (b : ℕ) → b < max_nodes → Agree edges c u q b
   unfolding alike

@@ -15,10 +15,10 @@ use Rattle.model.specs.Lists.{◌∈◌, any, nodes}
 use Rattle.model.specs.Tables.{bit_at, edge_bit}
 use Rattle.model.specs.TestLaws.{and_fst, and_snd, and_true, decide, differ, iff_eq, or_cases, or_left, or_right}
 use Rattle.model.specs.ListLaws.{any_cong, any_elim, any_intro, nodes_in_lem, nodes_out}
-use Rattle.rows.specs.BitLaws.{bit_and, bit_xor, bit_zero, row-bit}
+use Rattle.rows.specs.BitLaws.{bit_and_lem, bit_xor_lem, bit_zero, row-bit}
 use Rattle.buffers.specs.WordBitsLaws.{cleared_off, lowest_set, lowest_small}
 use Rattle.drawing.specs.Drawing.{Added, Adding, row_to}
-use Rattle.drawing.specs.BitLaws.{added_only, bit_or}
+use Rattle.drawing.specs.BitLaws.{added_only, bit_or_lem}
 use Rattle.drawing.specs.DrawingLaws.{added_none, added_then, adding_done, adding_step}
 use Rattle.unfolding.specs.Filling.{Room, RowRoom}
 use Rattle.unfolding.specs.FillingLaws.{word_room}
@@ -37,7 +37,7 @@ pub record Common (set other : List ℕ) (w common : ℕ) : Type 0 where
 
 module _ (set other : List ℕ) where
   both_bits : (q w : ℕ) → q / 64 ≡ w → (edge_bit set 0 q && edge_bit other 0 q) ≡ bit_at (bit_and (get_or set w 0) (get_or other w 0)) (q % 64)
-  both_bits q w e = ap₂ ◌&&◌ (row_word_lem set q w e) (row_word_lem other q w e) ∙ sym (bit_and (get_or set w 0) (get_or other w 0) (q % 64))
+  both_bits q w e = ap₂ ◌&&◌ (row_word_lem set q w e) (row_word_lem other q w e) ∙ sym (bit_and_lem (get_or set w 0) (get_or other w 0) (q % 64))
 
   pub common_none : Common set other 0 0
   common_none = record { small = omega arith; told = λ k l h. differ h (bit_zero k); kept = λ q l h. absurd (omega arith) }
@@ -45,8 +45,8 @@ module _ (set other : List ℕ) where
   pub common_more : (w common : ℕ) → get_or set w 0 < 2 ^ 64 → Common set other w common → Common set other (w + 1) (bit_or common (bit_and (get_or set w 0) (get_or other w 0)))
   common_more w common fits c = record {
     small = or_lt 64 common x c.small (omega (arith, and_le_l (get_or set w 0) (get_or other w 0)));
-    told = λ k l h. told k l (or_cases (bit_at common k) (bit_at x k) (sym (bit_or common x k) ∙ h));
-    kept = λ q l h. bit_or common x (q % 64) ∙ kept q l h (decide (eqb (q / 64) w));
+    told = λ k l h. told k l (or_cases (bit_at common k) (bit_at x k) (sym (bit_or_lem common x k) ∙ h));
+    kept = λ q l h. bit_or_lem common x (q % 64) ∙ kept q l h (decide (eqb (q / 64) w));
   }
     where
       x : ℕ
@@ -115,8 +115,8 @@ less_more st other {w} {row} l = words_more (bit_xor (bit_or (get_or st w 0) (ge
     bits : (q : ℕ) → q / 64 ≡ w → bit_at (bit_xor (bit_or (get_or st w 0) (get_or other w 0)) (get_or other w 0)) (q % 64) ≡ (edge_bit st 0 q && not (edge_bit other 0 q))
     bits q e =
         rw (row_word_lem st q w e, row_word_lem other q w e)
-        (bit_xor (bit_or (get_or st w 0) (get_or other w 0)) (get_or other w 0) (q % 64)
-        ∙ ap (λ (b : Bool). xor b (bit_at (get_or other w 0) (q % 64))) (bit_or (get_or st w 0) (get_or other w 0) (q % 64))
+        (bit_xor_lem (bit_or (get_or st w 0) (get_or other w 0)) (get_or other w 0) (q % 64)
+        ∙ ap (λ (b : Bool). xor b (bit_at (get_or other w 0) (q % 64))) (bit_or_lem (get_or st w 0) (get_or other w 0) (q % 64))
         ∙ less_bit (bit_at (get_or st w 0) (q % 64)) (bit_at (get_or other w 0) (q % 64)))
 
 -- the nodes joined to one in a set, by parts of the set

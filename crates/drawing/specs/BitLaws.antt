@@ -29,9 +29,9 @@ odd_or : (a b : ℕ) → bit_or a b % 2 ≡ max (a % 2) (b % 2)
 odd_or a b = omega (arith, or_step a b)
 
 -- each bit of `a | b` is that bit of a or of b
-pub bit_or : (a b k : ℕ) → bit_at (bit_or a b) k ≡ (bit_at a k || bit_at b k)
+pub bit_or_lem : (a b k : ℕ) → bit_at (bit_or a b) k ≡ (bit_at a k || bit_at b k)
 unfolding bit_at
-bit_or a b k = rw (or_shr, odd_or (a / 2 ^ k) (b / 2 ^ k)) (max_bits (a / 2 ^ k % 2) (b / 2 ^ k % 2) (omega arith) (omega arith))
+bit_or_lem a b k = rw (or_shr, odd_or (a / 2 ^ k) (b / 2 ^ k)) (max_bits (a / 2 ^ k % 2) (b / 2 ^ k % 2) (omega arith) (omega arith))
 
 -- a word put into a row
 pub word_put : (t : List ℕ) (p w x : ℕ) → w < 8 → 8 * p + 8 ≤ length t → Added (word_to p w x) t (set t (8 * p + w) (bit_or (get_or t (8 * p + w) 0) x))
@@ -47,7 +47,7 @@ word_put t p w x small fits = record { size = length-set t (8 * p + w) y; bits =
         let d : 8 * a + b / 64 ≡ 8 * p + w = eqb-true (8 * a + b / 64) (8 * p + w) h in
         let i : a ≡ p = omega arith in
         let j : b / 64 ≡ w = omega arith in
-        rw (d, get_or-set_same t (8 * p + w) y 0 (omega arith), bit_or, eq-eqb a p i, eq-eqb (b / 64) w j)
+        rw (d, get_or-set_same t (8 * p + w) y 0 (omega arith), bit_or_lem, eq-eqb a p i, eq-eqb (b / 64) w j)
     at a b l (inr h) =
         let d : 8 * a + b / 64 ≡ 8 * p + w → ⊥ = eqb-false (8 * a + b / 64) (8 * p + w) h in
         rw (get_or-set_other t (8 * p + w) (8 * a + b / 64) y 0 d)

@@ -10,7 +10,7 @@ use Rattle.model.specs.TestLaws.{and_fst, and_snd, and_true, decide, differ}
 use Rattle.buffers.specs.FilledLaws.{get_d_zeros}
 use Rattle.search.specs.Search.{own_bit, own_bits, row_in}
 use Rattle.rows.specs.Rows.{Words}
-use Rattle.rows.specs.BitLaws.{bit_xor, bit_zero}
+use Rattle.rows.specs.BitLaws.{bit_xor_lem, bit_zero}
 use Rattle.search.specs.TwinRowLaws.{own_bit_lem, own_bit-lt, own_bits_lem, words_eq, xor_swap}
 use Rattle.search.specs.SearchLaws.{meets-all, meets_differ, meets_words, row-length, row_part_lem}
 use Rattle.compressed.specs.Compressed.{alike}
@@ -41,7 +41,7 @@ module _ (edges : List ℕ) (fit : Words edges) (closed : Bool) (u q : ℕ) wher
       small p = xor_lt 64 (slice_index edges (8 * p + w)) (cond closed (own_bit p w) 0) (fit (8 * p + w)) (own-lt p w)
 
       bits : (p j : ℕ) → j < 64 → bit_at (bit_xor (slice_index edges (8 * p + w)) (cond closed (own_bit p w) 0)) j ≡ xor (bit_at (slice_index edges (8 * p + w)) j) (cond closed (p == 64 * w + j) false)
-      bits p j l = bit_xor (slice_index edges (8 * p + w)) (cond closed (own_bit p w) 0) j ∙ ap (xor (bit_at (slice_index edges (8 * p + w)) j)) (own_at p w j l)
+      bits p j l = bit_xor_lem (slice_index edges (8 * p + w)) (cond closed (own_bit p w) 0) j ∙ ap (xor (bit_at (slice_index edges (8 * p + w)) j)) (own_at p w j l)
 
       both : (c x y : Bool) → cond c (xor x y) false ≡ xor (cond c x false) (cond c y false)
       both true x y = refl
@@ -50,7 +50,7 @@ module _ (edges : List ℕ) (fit : Words edges) (closed : Bool) (u q : ℕ) wher
       rotated : (j : ℕ) → j < 64 → xor (bit_at (slice_index edges (8 * u + w)) j) (cond closed (u == 64 * w + j) false) ≡ xor (bit_at (slice_index edges (8 * q + w)) j) (cond closed (q == 64 * w + j) false)
       rotated j l =
           xor_swap (bit_at (slice_index edges (8 * u + w)) j) (bit_at (slice_index edges (8 * q + w)) j) (cond closed (u == 64 * w + j) false) (cond closed (q == 64 * w + j) false)
-          (sym (bit_xor (slice_index edges (8 * u + w)) (slice_index edges (8 * q + w)) j) ∙ ap (λ (x : ℕ). bit_at x j) h ∙ own_bits_lem closed u q w j l ∙ both closed (u == 64 * w + j) (q == 64 * w + j))
+          (sym (bit_xor_lem (slice_index edges (8 * u + w)) (slice_index edges (8 * q + w)) j) ∙ ap (λ (x : ℕ). bit_at x j) h ∙ own_bits_lem closed u q w j l ∙ both closed (u == 64 * w + j) (q == 64 * w + j))
 
   pub alike_slot : alike edges closed u q ≡ true → row_slot edges closed q ≡ row_slot edges closed u
   unfolding alike row_slot

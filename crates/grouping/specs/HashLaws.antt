@@ -10,7 +10,7 @@ use Rattle.model.specs.Lists.{all, from, nodes}
 use Rattle.model.specs.Tables.{bit_at}
 use Rattle.model.specs.ListLaws.{all_elim, nodes_in_lem}
 use Rattle.search.specs.Search.{own_bit}
-use Rattle.rows.specs.BitLaws.{bit_xor, word_bits, word_cong}
+use Rattle.rows.specs.BitLaws.{bit_xor_lem, word_bits, word_cong}
 use Rattle.grouping.specs.Chains.{hash_of, own_rotated, rotated, row_slot, row_word, slot_for, slot_in, unrotated}
 
 -- numbers with the same bits are equal
@@ -45,7 +45,7 @@ four false false false false = refl
 xor_four : (a b c d : ℕ) → bit_xor (bit_xor a b) (bit_xor c d) ≡ bit_xor (bit_xor a c) (bit_xor b d)
 xor_four a b c d =
     bits_eq (bit_xor (bit_xor a b) (bit_xor c d)) (bit_xor (bit_xor a c) (bit_xor b d))
-    (λ j. bit_xor (bit_xor a b) (bit_xor c d) j ∙ ap₂ xor (bit_xor a b j) (bit_xor c d j) ∙ four (bit_at a j) (bit_at b j) (bit_at c j) (bit_at d j) ∙ sym (bit_xor (bit_xor a c) (bit_xor b d) j ∙ ap₂ xor (bit_xor a c j) (bit_xor b d j)))
+    (λ j. bit_xor_lem (bit_xor a b) (bit_xor c d) j ∙ ap₂ xor (bit_xor_lem a b j) (bit_xor_lem c d j) ∙ four (bit_at a j) (bit_at b j) (bit_at c j) (bit_at d j) ∙ sym (bit_xor_lem (bit_xor a c) (bit_xor b d) j ∙ ap₂ xor (bit_xor_lem a c j) (bit_xor_lem b d j)))
 
 xor_shl : (a b k : ℕ) → bit_xor a b * 2 ^ k ≡ bit_xor (a * 2 ^ k) (b * 2 ^ k)
 xor_shl a b k = sym (ap₂ bit_xor (sym (add-zero (a * 2 ^ k))) (sym (add-zero (b * 2 ^ k))) ∙ xor_block k a b 0 0 (pow_pos k) (pow_pos k) ∙ add-zero (bit_xor a b * 2 ^ k))

@@ -15,7 +15,7 @@ use Rattle.model.specs.Lists.{concat, filter, from}
 use Rattle.model.specs.Tables.{bit_at, edge_bit}
 use Rattle.model.specs.Release.{superedge_record}
 use Rattle.model.specs.TestLaws.{decide, iff_eq}
-use Rattle.rows.specs.BitLaws.{bit_and}
+use Rattle.rows.specs.BitLaws.{bit_and_lem}
 use Rattle.rows.specs.Rows.{leads}
 use Rattle.buffers.specs.FilledLaws.{get_d_zeros}
 use Rattle.buffers.specs.Wrote.{Left, Wrote}
@@ -37,7 +37,7 @@ module _ (edges set : List ℕ) (p q w : ℕ) (at : w ≡ q / 64) where
       let e : (64 * w + k) / 64 ≡ q / 64 = omega arith in
       let f : (64 * w + k) % 64 ≡ k = omega arith in
       let z : 8 * 0 + q / 64 ≡ q / 64 = omega arith in
-      bit_above (bit_and (get_or set (q / 64) 0) (get_or edges (8 * p + q / 64) 0)) (q % 64) k a ∙ bit_and (get_or set (q / 64) 0) (get_or edges (8 * p + q / 64) 0) k ∙ sym (rw (e, f, z))
+      bit_above (bit_and (get_or set (q / 64) 0) (get_or edges (8 * p + q / 64) 0)) (q % 64) k a ∙ bit_and_lem (get_or set (q / 64) 0) (get_or edges (8 * p + q / 64) 0) k ∙ sym (rw (e, f, z))
 
   word-before : (k : ℕ) → k < q % 64 → bit_at (later_word edges set p q) k ≡ false
   unfolding later_word

@@ -19,7 +19,7 @@ use Rattle.model.specs.ReleaseLaws.{alike-visible}
 use Rattle.model.specs.ReadBackLaws.{visible_proper}
 use Rattle.layout.specs.Truth.{Truth}
 use Rattle.layout.specs.Words.{Marking}
-use Rattle.rows.specs.BitLaws.{bit_and, bit_zero}
+use Rattle.rows.specs.BitLaws.{bit_and_lem, bit_zero}
 use Rattle.search.specs.Search.{Within}
 use Rattle.rows.specs.EdgeLaws.{edges_by_bits}
 use Rattle.search.specs.SearchLaws.{ready}
@@ -133,7 +133,7 @@ module _ {n : ℕ} {edges marks mask t after : List ℕ} {i : ℕ} (size : lengt
       word : edge_bit after p q ≡ (edge_bit edges p q && (shown marks p && (ltb q n && shown marks q)))
       word =
           ap (λ (x : ℕ). bit_at x (q % 64)) (m.words p (q / 64) (omega arith) (omega arith))
-          ∙ bit_and (get_or edges (8 * p + q / 64) 0) (kept_word mask marks p (q / 64)) (q % 64)
+          ∙ bit_and_lem (get_or edges (8 * p + q / 64) 0) (kept_word mask marks p (q / 64)) (q % 64)
           ∙ ap (λ (b : Bool). edge_bit edges p q && b) kept
 
   pub masking_done : after ≡ edges_of (visible_part (drawn n edges marks classes))

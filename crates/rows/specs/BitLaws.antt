@@ -49,9 +49,9 @@ differ_bits (suc zero) (suc (suc y)) hx hy = absurd (omega arith)
 differ_bits (suc (suc x)) y hx hy = absurd (omega arith)
 
 -- each bit of `a ^ b` is made of that bit of a and of b
-pub bit_xor : (a b k : ℕ) → bit_at (bit_xor a b) k ≡ xor (bit_at a k) (bit_at b k)
+pub bit_xor_lem : (a b k : ℕ) → bit_at (bit_xor a b) k ≡ xor (bit_at a k) (bit_at b k)
 unfolding bit_at
-bit_xor a b k = rw (xor_shr, odd_xor (a / 2 ^ k) (b / 2 ^ k)) (differ_bits (a / 2 ^ k % 2) (b / 2 ^ k % 2) (omega arith) (omega arith))
+bit_xor_lem a b k = rw (xor_shr, odd_xor (a / 2 ^ k) (b / 2 ^ k)) (differ_bits (a / 2 ^ k % 2) (b / 2 ^ k % 2) (omega arith) (omega arith))
 
 pow_same : (k : ℕ) → bit_at (2 ^ k) k ≡ true
 unfolding bit_at
@@ -156,7 +156,7 @@ module _ (t : List ℕ) (p q : ℕ) (small : q < 512) (fits : 8 * p + 8 ≤ leng
       step : ((8 * a + b / 64 == 8 * p + q / 64) ≡ true) ⊎ ((8 * a + b / 64 == 8 * p + q / 64) ≡ false) → Goal
       step (inl x) =
           let e : 8 * a + b / 64 ≡ 8 * p + q / 64 = eqb-true (8 * a + b / 64) (8 * p + q / 64) x in
-          rw (← same_word a b l e, e, get_or-set_same t (8 * p + q / 64) (bit_xor (slice_index t (8 * p + q / 64)) (2 ^ (q % 64))) 0 (omega arith), bit_xor, bit_pow)
+          rw (← same_word a b l e, e, get_or-set_same t (8 * p + q / 64) (bit_xor (slice_index t (8 * p + q / 64)) (2 ^ (q % 64))) 0 (omega arith), bit_xor_lem, bit_pow)
           (xor_cond (bit_at (slice_index t (8 * p + q / 64)) (b % 64)) (b % 64 == q % 64))
       step (inr x) =
           let d : 8 * a + b / 64 ≡ 8 * p + q / 64 → ⊥ = eqb-false (8 * a + b / 64) (8 * p + q / 64) x in
@@ -218,9 +218,9 @@ min_bits zero (suc (suc y)) hx hy = absurd (omega arith)
 min_bits (suc zero) (suc (suc y)) hx hy = absurd (omega arith)
 min_bits (suc (suc x)) y hx hy = absurd (omega arith)
 
-pub bit_and : (a b k : ℕ) → bit_at (bit_and a b) k ≡ (bit_at a k && bit_at b k)
+pub bit_and_lem : (a b k : ℕ) → bit_at (bit_and a b) k ≡ (bit_at a k && bit_at b k)
 unfolding bit_at
-bit_and a b k =
+bit_and_lem a b k =
     let e : bit_and (a / 2 ^ k) (b / 2 ^ k) % 2 ≡ min (a / 2 ^ k % 2) (b / 2 ^ k % 2) = omega (arith, and_step (a / 2 ^ k) (b / 2 ^ k)) in
     rw (and_shr a b k, e) (min_bits (a / 2 ^ k % 2) (b / 2 ^ k % 2) (omega arith) (omega arith))
 

@@ -17,7 +17,7 @@ use Rattle.model.specs.ListLaws.{nodes_ascending, nodes_in_lem, nodes_out}
 use Rattle.model.specs.TwinLaws.{false_twins_at, false_twins_by, true_twins_at, true_twins_by}
 use Rattle.model.specs.TableLaws.{bit_at-word}
 use Rattle.search.specs.Search.{Ready, key_agrees, own_bit, own_bits}
-use Rattle.rows.specs.BitLaws.{bit_pow, bit_xor, bit_zero, word_bits, word_cong}
+use Rattle.rows.specs.BitLaws.{bit_pow, bit_xor_lem, bit_zero, word_bits, word_cong}
 use Rattle.rows.specs.EdgeLaws.{edges_at, edges_words}
 use Rattle.rows.specs.KeyLaws.{cube-le, cubes_cong, cubes_set, keys_at}
 use Rattle.rows.specs.Rows.{key_of}
@@ -49,7 +49,7 @@ own_bit-lt q i = step (eqb (q / 64) i)
 
 pub own_bits_lem : (c : Bool) (u q i j : ℕ) → j < 64 → bit_at (own_bits c u q i) j ≡ cond c (xor (eqb u (64 * i + j)) (eqb q (64 * i + j))) false
 unfolding own_bits
-own_bits_lem true u q i j l = bit_xor (own_bit u i) (own_bit q i) j ∙ ap₂ xor (own_bit_lem u i j l) (own_bit_lem q i j l)
+own_bits_lem true u q i j l = bit_xor_lem (own_bit u i) (own_bit q i) j ∙ ap₂ xor (own_bit_lem u i j l) (own_bit_lem q i j l)
 own_bits_lem false u q i j l = bit_zero j
 
 pub own_bits-lt : (c : Bool) (u q i : ℕ) → own_bits c u q i < 2 ^ 64
@@ -153,7 +153,7 @@ module _ (n : ℕ) (edges keys : List ℕ) (ready : Ready n edges keys) where
 
     bit-of-words : (w j : ℕ) → w < 8 → j < 64 → bit_at (bit_xor (get_or edges (8 * u + w) 0) (get_or edges (8 * q + w) 0)) j ≡ xor (e u (64 * w + j)) (e q (64 * w + j))
     bit-of-words w j hw hj =
-        bit_xor (get_or edges (8 * u + w) 0) (get_or edges (8 * q + w) 0) j
+        bit_xor_lem (get_or edges (8 * u + w) 0) (get_or edges (8 * q + w) 0) j
         ∙ ap₂ xor (ap (λ (x : ℕ). bit_at x j) (word_at u w hu hw) ∙ bit_at-word 64 (λ i. e u (64 * w + i)) j hj) (ap (λ (x : ℕ). bit_at x j) (word_at q w hq hw) ∙ bit_at-word 64 (λ i. e q (64 * w + i)) j hj)
 
     alike : (c : Bool) → ((w : ℕ) → w < 8 → Meet c w) → (x : ℕ) → x < 512 → Alike c x

@@ -12,7 +12,7 @@ use Rattle.model.specs.TestLaws.{and_fst, and_snd, beq_eq, decide}
 use Rattle.model.specs.TableLaws.{bit_at-word}
 use Rattle.model.specs.ListLaws.{all_elim, nodes_in_lem}
 use Rattle.buffers.specs.WordBitsLaws.{bit_below}
-use Rattle.rows.specs.BitLaws.{bit_and, bit_xor, word_bits, xor_off}
+use Rattle.rows.specs.BitLaws.{bit_and_lem, bit_xor_lem, word_bits, xor_off}
 use Rattle.symmetry.specs.Symmetry.{Crossed, Exchanged, HalvesCrossed, Zeros, with_digits, with_digit}
 use Rattle.symmetry.specs.SymmetryLaws.{bit_shr}
 
@@ -80,11 +80,11 @@ module _ (k mask x y : ℕ) {j : ℕ} (hk : k < 6) (zeros : Zeros k mask) (ej : 
 
   bit-t : (c : ℕ) → c < 64 → bit_at t c ≡ (xor (bit_at x (2 ^ k + c)) (bit_at y c) && eqb (c / 2 ^ k % 2) 0)
   bit-t c hc =
-      bit_and (bit_xor (x / 2 ^ j) y) mask c
-      ∙ ap₂ ◌&&◌ (bit_xor (x / 2 ^ j) y c ∙ ap (λ (b : Bool). xor b (bit_at y c)) (bit_shr x j c ∙ ap (λ (i : ℕ). bit_at x (i + c)) ej)) (zeros c hc)
+      bit_and_lem (bit_xor (x / 2 ^ j) y) mask c
+      ∙ ap₂ ◌&&◌ (bit_xor_lem (x / 2 ^ j) y c ∙ ap (λ (b : Bool). xor b (bit_at y c)) (bit_shr x j c ∙ ap (λ (i : ℕ). bit_at x (i + c)) ej)) (zeros c hc)
 
   pub cross_low : Crossed k x y 0 (bit_xor x (t * 2 ^ j % 2 ^ 64))
-  cross_low f e₀ e₁ c hc = bit_xor x (t * 2 ^ j % 2 ^ 64) c ∙ step (digit c k)
+  cross_low f e₀ e₁ c hc = bit_xor_lem x (t * 2 ^ j % 2 ^ 64) c ∙ step (digit c k)
     where
       below : c / 2 ^ k % 2 ≡ 0 → (ltb c (2 ^ k) ≡ true) ⊎ (ltb c (2 ^ k) ≡ false) → xor (bit_at x c) (bit_at (t * 2 ^ j % 2 ^ 64) c) ≡ bit_at x c
       below d (inl s) =
@@ -108,7 +108,7 @@ module _ (k mask x y : ℕ) {j : ℕ} (hk : k < 6) (zeros : Zeros k mask) (ej : 
           ∙ ap₂ bit_at (sym e₁ ∙ ap f (sym d)) (sym goes)
 
   pub cross_high : Crossed k x y 1 (bit_xor y t)
-  cross_high f e₀ e₁ c hc = bit_xor y t c ∙ ap (xor (bit_at y c)) (bit-t c hc) ∙ step (digit c k)
+  cross_high f e₀ e₁ c hc = bit_xor_lem y t c ∙ ap (xor (bit_at y c)) (bit-t c hc) ∙ step (digit c k)
     where
       step : (c / 2 ^ k % 2 ≡ 0) ⊎ (c / 2 ^ k % 2 ≡ 1) → xor (bit_at y c) (xor (bit_at x (2 ^ k + c)) (bit_at y c) && eqb (c / 2 ^ k % 2) 0) ≡ bit_at (f (c / 2 ^ k % 2)) (with_digit k c 1)
       step (inl d) =

@@ -16,7 +16,7 @@ use Rattle.buffers.specs.StoreLaws.{stored, stored-size}
 use Rattle.search.specs.Search.{own_bit}
 use Rattle.search.specs.TwinRowLaws.{own_bit_lem}
 use Rattle.compressed.specs.Compressed.{Compressed, placed, unfolded, unfolded_edge}
-use Rattle.drawing.specs.BitLaws.{bit_or}
+use Rattle.drawing.specs.BitLaws.{bit_or_lem}
 use Rattle.unfolding.specs.Unfolding.{FirstsFit, NeighbourRow, Spread, SpreadBut, SpreadWord, join_bit, reached}
 
 -- the bit of one first member
@@ -61,7 +61,7 @@ unfolding join_bit
 spread_more {w} {q} {first} row {x} s a b {y} {k} e f = record {
   bits =
       λ j h.
-      bit_or x (y * 2 ^ k % 18446744073709551616) j
+      bit_or_lem x (y * 2 ^ k % 18446744073709551616) j
       ∙ rw (e, s.bits j h, bit_shl (join_bit row (get_or first q 0)) k j (omega arith)) (step j h (decide (eqb j k)));
 }
   where
@@ -122,7 +122,7 @@ unfolding edge_bit
 owned {row} {l} {w} {own} h b x m =
     let y : 8 * 0 + x / 64 ≡ x / 64 = omega arith in
     let z : 64 * (x / 64) + x % 64 ≡ x = omega arith in
-    rw (y, h.words (x / 64) (omega arith), bit_or (get_or row (x / 64) 0) (own_bit l (x / 64)) (x % 64), own_bit_lem l (x / 64) (x % 64) (omega arith), z)
+    rw (y, h.words (x / 64) (omega arith), bit_or_lem (get_or row (x / 64) 0) (own_bit l (x / 64)) (x % 64), own_bit_lem l (x / 64) (x % 64) (omega arith), z)
 
 -- chosen alike, reached alike
 module _ (n : ℕ) (first : List ℕ) (P Q : ℕ → Bool) (fits : FirstsFit n first) (same : (x : ℕ) → x < 512 → P x ≡ Q x) where
