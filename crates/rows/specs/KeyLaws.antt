@@ -44,6 +44,7 @@ cubes_cong (x ∷ xs) f h s = rw (s x (Memᴰ.head refl)) (pick (h x) (cubes_con
 
 pub cubes_set : (l : List ℕ) → Ascending l → (f h : ℕ → Bool) (i : ℕ) → i ∈ l → f i ≡ false → h i ≡ true → ((j : ℕ) → (j ≢ i) → f j ≡ h j) → sum_cubes (filter h l) ≡ cube i + sum_cubes (filter f l)
 unfolding filter sum_cubes
+cubes_set [] asc f h i x5 a b s = elim x5 [ ]
 cubes_set (x ∷ xs) asc f h i (Memᴰ.head q) a b s =
     rw (ap f (sym q) ∙ a, ap h (sym q) ∙ b, q) (ap (λ (n : ℕ). cube x + n) (sym (cubes_cong xs f h (λ j m. s j (λ k. omega (arith, asc.0 j m))))))
 cubes_set (x ∷ xs) asc f h i (Memᴰ.tail m) a b s = rw (s x (λ k. omega (arith, asc.0 i m))) (pick (h x) (cubes_set xs asc.1 f h i m a b s))
