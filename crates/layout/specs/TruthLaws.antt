@@ -182,11 +182,11 @@ module _ (g : Graph) (lst classes edges : List ℕ) (t : Truth g lst classes edg
 
   -- the first two members tell a clique
   module _ (l : ℕ) (m : l ∈ leaders vs r) where
-    first_two : (h : List ℕ) → group vs r l ≡ h → first_two (edge_bit edges) h ≡ is_clique (kind_of (visible g).edge h)
+    first_two_lem : (h : List ℕ) → group vs r l ≡ h → first_two (edge_bit edges) h ≡ is_clique (kind_of (visible g).edge h)
     unfolding first_two kind_of is_clique group
-    first_two [] q = refl
-    first_two (a ∷ []) q = refl
-    first_two (a ∷ b ∷ xs) q =
+    first_two_lem [] q = refl
+    first_two_lem (a ∷ []) q = refl
+    first_two_lem (a ∷ b ∷ xs) q =
         t.edge_is a b (out-vs a ga.0) (out-vs b gb.0)
         ∙ sym (clique_law (visible g) graph asc a b ga.0 gb.0 (λ z. omega (arith, below)) rab)
         ∙ ap (λ (x : List ℕ). is_clique (kind_of (visible g).edge x)) (sym (same_group vs r eq asc l a (l-in l m) ga.0 ga.1) ∙ q)
@@ -212,7 +212,7 @@ module _ (g : Graph) (lst classes edges : List ℕ) (t : Truth g lst classes edg
 
     record_is : group_bytes (edge_bit edges) classes (group vs r l) ≡ group_record (visible g) (group vs r l)
     unfolding group_bytes group_record u16_bytes
-    record_is = rw (first_two (group vs r l) refl, class-of, kind_byte_lem (kind_of (visible g).edge (group vs r l)))
+    record_is = rw (first_two_lem (group vs r l) refl, class-of, kind_byte_lem (kind_of (visible g).edge (group vs r l)))
 
   records-are : concat (map (group_bytes (edge_bit edges) classes) (algorithm1 (visible g))) ≡ concat (map (group_record (visible g)) (algorithm1 (visible g)))
   unfolding concat

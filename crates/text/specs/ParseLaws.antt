@@ -220,12 +220,12 @@ unfolding is_count
 count_none ds h = rw (number_none ds h)
 
 -- refused at the first line, or for its length, with the batch as it was
-refused_at : (input batch : List ℕ) (k : ℕ) → input_of input ≡ refused_at k → ParsedAs (input_of input) batch batch (Refused k)
+refused_at_lem : (input batch : List ℕ) (k : ℕ) → input_of input ≡ refused_at k → ParsedAs (input_of input) batch batch (Refused k)
 unfolding input_in used
-refused_at input batch k e = record { input = sym e; few = omega arith; beyond = refl }
+refused_at_lem input batch k e = record { input = sym e; few = omega arith; beyond = refl }
 
 pub first_long : (input batch : List ℕ) → max_bytes < length input → ParsedAs (input_of input) batch batch (Refused 0)
-first_long input batch h = refused_at input batch 0 (unfold input_of in rw (lt-ltb max_bytes (length input) h))
+first_long input batch h = refused_at_lem input batch 0 (unfold input_of in rw (lt-ltb max_bytes (length input) h))
 
 module _ (input : List ℕ) (small : length input ≤ max_bytes) where
   by_lines : input_of input ≡ first_line (pieces 0x0A input)
@@ -233,16 +233,16 @@ module _ (input : List ℕ) (small : length input ≤ max_bytes) where
   by_lines = rw (le-ltb max_bytes (length input) small)
 
   pub first_open : (batch : List ℕ) (u : ℕ) → u ≡ up_to 0x0A input → u ≡ length input → ParsedAs (input_of input) batch batch (Refused 1)
-  first_open batch u e l = refused_at input batch 1 (by_lines ∙ rw (pieces_one 0x0A input (sym e ∙ l)) (unfold first_line is_none in refl))
+  first_open batch u e l = refused_at_lem input batch 1 (by_lines ∙ rw (pieces_one 0x0A input (sym e ∙ l)) (unfold first_line is_none in refl))
 
   first-line : (u : ℕ) → u ≡ up_to 0x0A input → (u ≡ length input → ⊥) → input_of input ≡ cond (not (is_count (take u input))) (refused_at 1) (lines_from (value_of 0 (take u input)) 2 (pieces 0x0A (drop (u + 1) input)))
   first-line u e l = by_lines ∙ rw (pieces_more 0x0A input (omega (arith, e, l, up_to-le 0x0A input)), ← e) (unfold first_line in rw (pieces_some 0x0A (drop (u + 1) input)))
 
   pub first_ill : {a : Number} (batch : List ℕ) (u : ℕ) → u ≡ up_to 0x0A input → (u ≡ length input → ⊥) → a ≡ number_of (take u input) → a ≡ NoNumber → ParsedAs (input_of input) batch batch (Refused 1)
-  first_ill batch u e l x y = refused_at input batch 1 (first-line u e l ∙ rw (count_none (take u input) (sym x ∙ y)))
+  first_ill batch u e l x y = refused_at_lem input batch 1 (first-line u e l ∙ rw (count_none (take u input) (sym x ∙ y)))
 
   pub first_large : {a : Number} (batch : List ℕ) (u v : ℕ) → u ≡ up_to 0x0A input → (u ≡ length input → ⊥) → a ≡ number_of (take u input) → a ≡ Value v → max_nodes < v → ParsedAs (input_of input) batch batch (Refused 1)
-  first_large batch u v e l x y h = refused_at input batch 1 (first-line u e l ∙ rw (count_is (take u input) v (sym x ∙ y), lt-leb v max_nodes h))
+  first_large batch u v e l x y h = refused_at_lem input batch 1 (first-line u e l ∙ rw (count_is (take u input) v (sym x ∙ y), lt-leb v max_nodes h))
 
   pub first_then : {a : Number} {before after : List ℕ} {r : Parsed} (u v : ℕ) → u ≡ up_to 0x0A input → (u ≡ length input → ⊥) → a ≡ number_of (take u input) → a ≡ Value v → v ≤ max_nodes
       → ParsedAs (lines_from v 2 (pieces 0x0A (drop (u + 1) input))) before after r → ParsedAs (input_of input) before after r
