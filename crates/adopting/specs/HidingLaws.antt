@@ -14,12 +14,12 @@ use Rattle.model.specs.Graph.{Graph, Proper, whole}
 use Rattle.model.specs.Grouping.{least, similar}
 use Rattle.model.specs.Tables.{bit_at, classed_in, edge_bit, word, edges_in, graph_in}
 use Rattle.model.specs.Release.{is_visible, visible}
-use Rattle.model.specs.TestLaws.{and_fst, and_snd, and_true, decide, differ}
-use Rattle.model.specs.ListLaws.{Ascending}
-use Rattle.model.specs.TwinLaws.{similar_refl, similar_sym}
-use Rattle.model.specs.ClassLaws.{Equivalence, least_eq, least_in, least-le, least-least, least_rel}
-use Rattle.model.specs.ReleaseLaws.{visible_ascending}
-use Rattle.model.specs.HiddenLaws.{isolated_similar, least_isolated, least-visible, seen_equivalence, seen_in, seen_out, similar_isolated, similar_seen}
+use Rattle.model.proofs.TestLaws.{and_fst, and_snd, and_true, decide, differ}
+use Rattle.model.proofs.ListLaws.{Ascending}
+use Rattle.model.proofs.TwinLaws.{similar_refl, similar_sym}
+use Rattle.model.proofs.ClassLaws.{Equivalence, least_eq, least_in, least-le, least-least, least_rel}
+use Rattle.model.proofs.ReleaseLaws.{visible_ascending}
+use Rattle.model.proofs.HiddenLaws.{isolated_similar, least_isolated, least-visible, seen_equivalence, seen_in, seen_out, similar_isolated, similar_seen}
 use Rattle.rows.specs.Rows.{leads}
 use Rattle.rows.specs.BitLaws.{bit_zero, word_cong}
 use Rattle.rows.specs.EdgeLaws.{edges_at}

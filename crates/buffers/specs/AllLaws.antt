@@ -3,8 +3,8 @@ use Rattle.std.specs.Prelude.{◌≡◌, Bool, true, false, not, ◌⊎◌, ℕ,
 use Rattle.std.proofs.Common.{sym, ◌∙◌, inl, inr, arith}
 use Rattle.std.proofs.lemmas.Bool.{not-false, not-true}
 use Rattle.model.specs.Lists.{all, nodes}
-use Rattle.model.specs.TestLaws.{decide, differ}
-use Rattle.model.specs.ListLaws.{all_elim, all_intro, nodes_in_lem, nodes_out}
+use Rattle.model.proofs.TestLaws.{decide, differ}
+use Rattle.model.proofs.ListLaws.{all_elim, all_intro, nodes_in_lem, nodes_out}
 
 -- the loop is left at the first that fails
 pub passed : {x b : Bool} → b ≡ x → not b ≡ false → x ≡ true

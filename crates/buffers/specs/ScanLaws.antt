@@ -3,8 +3,8 @@ use Rattle.std.specs.Prelude.{◌≡◌, refl, Bool, true, false, ◌&&◌, cond
 use Rattle.std.proofs.Common.{sym, ap, ◌∙◌, inl, inr, arith, length-append}
 use mathlib.Core.List.Memᴰ
 use Rattle.model.specs.Lists.{◌∈◌, concat, filter, from, nodes}
-use Rattle.model.specs.TestLaws.{decide}
-use Rattle.model.specs.ListLaws.{Ascending, filter_ascending, filter_cong, from_ascending, from_out}
+use Rattle.model.proofs.TestLaws.{decide}
+use Rattle.model.proofs.ListLaws.{Ascending, filter_ascending, filter_cong, from_ascending, from_out}
 use Rattle.buffers.specs.Scan.{Counting, Summing, flat, scan}
 
 from_cons : (p n : ℕ) → p < n → from p (n - p) ≡ p ∷ from (p + 1) (n - (p + 1))

@@ -4,7 +4,7 @@ use Rattle.std.proofs.Common.{sym, ap, subst, ◌∙◌, arith, pow_pos, take_al
 use Rattle.std.proofs.lemmas.Nat.{and_le_l, and_le_r, or_lt}
 use Rattle.std.specs.Int.Bits.{bit_or, or_add_and}
 use Rattle.model.specs.Lists.{all}
-use Rattle.model.specs.TestLaws.{and_fst, and_snd, and_true, iff_eq}
+use Rattle.model.proofs.TestLaws.{and_fst, and_snd, and_true, iff_eq}
 use Rattle.buffers.specs.Union.{United}
 
 or_below : (k a b : ℕ) → ltb (bit_or a b) (2 ^ k) ≡ (ltb a (2 ^ k) && ltb b (2 ^ k))

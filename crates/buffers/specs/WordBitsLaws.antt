@@ -10,7 +10,7 @@ use Rattle.std.specs.Int.Count.{ones, ones_in, ones_step, count_trailing_zeros}
 use Rattle.std.proofs.lemmas.List.{length-map}
 use Rattle.std.proofs.lemmas.Bool.{eqb-false}
 use Rattle.model.specs.Tables.{bit_at}
-use Rattle.model.specs.TestLaws.{decide}
+use Rattle.model.proofs.TestLaws.{decide}
 use Rattle.buffers.specs.Scan.{Counting, scan}
 use Rattle.buffers.specs.ScanLaws.{scan_cong, scan_end, scan_no, scan_skip, scan_yes, upward}
 use Rattle.buffers.specs.WordBits.{bits_from, bits_of}

@@ -8,8 +8,8 @@ use borrow.Author.Tests.{eqb-true}
 use Rattle.model.specs.Graph.{max_nodes, node_numbers, row_words}
 use Rattle.model.specs.Grouping.{cube, open_key}
 use Rattle.model.specs.Tables.{edge_bit, graph_in, keys_of, node_number}
-use Rattle.model.specs.TestLaws.{and_true, differ, fails}
-use Rattle.model.specs.TableLaws.{length_keys}
+use Rattle.model.proofs.TestLaws.{and_true, differ, fails}
+use Rattle.model.proofs.TableLaws.{length_keys}
 use Rattle.rows.specs.Rows.{Words, moved_key}
 use Rattle.search.specs.Search.{Ready, key_agrees, meets, row_in}
 use Rattle.search.specs.SearchLaws.{meets_words}

@@ -11,10 +11,10 @@ use Rattle.model.specs.Lists.{nodes, same_list}
 use Rattle.model.specs.Graph.{Graph, Proper, View, max_classes, max_nodes, node_numbers, row_words, whole}
 use Rattle.model.specs.Grouping.{closed_key, cube, false_twins, open_key, similar, true_twins}
 use Rattle.model.specs.Tables.{Tables, classed_in, edge_bit, edges_in, edges_of, graph_in, graph_of, holds, is_graph, key_pair, keys_of, node_number, nodes_of, simple, tables_of}
-use Rattle.model.specs.TestLaws.{and_fst, and_snd, and_true, decide, differ, iff_eq, or_cases, or_left, or_right}
-use Rattle.model.specs.ListLaws.{all_elim, all_intro, nodes_in_lem, nodes_out, same_eq}
-use Rattle.model.specs.TwinLaws.{Simple, false_twins_by, false_twins_no_edge, similar_N, similar_N+, similar_cases, true_twins_edge}
-use Rattle.model.specs.TableLaws.{held_proper, held_tables, labels_proper, length_keys, mark_at_lem, simple_loop, simple_test}
+use Rattle.model.proofs.TestLaws.{and_fst, and_snd, and_true, decide, differ, iff_eq, or_cases, or_left, or_right}
+use Rattle.model.proofs.ListLaws.{all_elim, all_intro, nodes_in_lem, nodes_out, same_eq}
+use Rattle.model.proofs.TwinLaws.{Simple, false_twins_by, false_twins_no_edge, similar_N, similar_N+, similar_cases, true_twins_edge}
+use Rattle.model.proofs.TableLaws.{held_proper, held_tables, labels_proper, length_keys, mark_at_lem, simple_loop, simple_test}
 use Rattle.rows.specs.Rows.{Words, key_of}
 use Rattle.search.specs.Search.{Ready, classed, first_from, joins, meets, row_in, same_class}
 use Rattle.rows.specs.KeyLaws.{keys_at}

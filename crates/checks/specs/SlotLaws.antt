@@ -8,8 +8,8 @@ use borrow.Author.Tests.{eqb-true, eq-eqb}
 use Rattle.model.specs.Graph.{node_numbers, whole}
 use Rattle.model.specs.Grouping.{false_twins, true_twins}
 use Rattle.model.specs.Tables.{bit_at, node_number, graph_in}
-use Rattle.model.specs.TestLaws.{and_fst, and_snd, decide, differ}
-use Rattle.model.specs.TwinLaws.{similar_cases}
+use Rattle.model.proofs.TestLaws.{and_fst, and_snd, decide, differ}
+use Rattle.model.proofs.TwinLaws.{similar_cases}
 use Rattle.rows.specs.BitLaws.{edge_at}
 use Rattle.search.specs.Search.{Ready, first_from, joins, key_agrees, same_class}
 use Rattle.search.specs.SearchLaws.{first_none, similar_by_class}

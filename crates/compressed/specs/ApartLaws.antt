@@ -12,11 +12,11 @@ use Rattle.model.specs.Grouping.{closed, false_twins, true_twins}
 use Rattle.model.specs.Tables.{edge_bit}
 use Rattle.model.specs.Reading.{Head, has_pair, summary_by}
 use Rattle.model.specs.InOrder.{class_at, clique_at, closed_at, could_merge, group_view, groups_fit, in_order, irreducible, members_at, open_at, superedges_fit}
-use Rattle.model.specs.TestLaws.{decide, differ, fails, iff_eq, or_cases, or_left, or_right}
-use Rattle.model.specs.ListLaws.{all_elim, all_intro, nodes_in_lem, nodes_out}
-use Rattle.model.specs.TwinLaws.{false_twins_at, false_twins_by, true_twins_at, true_twins_by}
-use Rattle.model.specs.InOrderLaws.{in_order_parts, place_of}
-use Rattle.model.specs.MergeLaws.{irreducible_in, irreducible_out}
+use Rattle.model.proofs.TestLaws.{decide, differ, fails, iff_eq, or_cases, or_left, or_right}
+use Rattle.model.proofs.ListLaws.{all_elim, all_intro, nodes_in_lem, nodes_out}
+use Rattle.model.proofs.TwinLaws.{false_twins_at, false_twins_by, true_twins_at, true_twins_by}
+use Rattle.model.proofs.InOrderLaws.{in_order_parts, place_of}
+use Rattle.model.proofs.MergeLaws.{irreducible_in, irreducible_out}
 use Rattle.rows.specs.Rows.{Words, leads}
 use Rattle.search.specs.TwinRowLaws.{or_xor, xor_none, xor_same, xor_swap}
 use Rattle.compressed.specs.Compressed.{Told, alike, apart, clique, first_at, independent, merges}

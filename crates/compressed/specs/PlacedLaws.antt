@@ -5,7 +5,7 @@ use Rattle.std.proofs.Math.Bool.{true, false, not}
 use Rattle.std.proofs.Common.{inl, inr}
 use borrow.Author.Tests.{eqb-false, eqb-true, lt-ltb, ltb-true, ne_eqb}
 use Rattle.model.specs.Release.{is_visible}
-use Rattle.model.specs.TestLaws.{and_fst, decide, differ}
+use Rattle.model.proofs.TestLaws.{and_fst, decide, differ}
 use Rattle.rows.specs.Rows.{no_node}
 use Rattle.compressed.specs.Compressed.{placed, unfolded}
 

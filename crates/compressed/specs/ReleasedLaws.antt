@@ -11,15 +11,15 @@ use Rattle.model.specs.Summary.{position}
 use Rattle.model.specs.Release.{is_visible, visible}
 use Rattle.model.specs.Reading.{Head, graph_by, is_release, summary_by}
 use Rattle.model.specs.InOrder.{file_by, groups_fit, in_order, members_at, superedges_fit}
-use Rattle.model.specs.ListLaws.{Ascending, filter_intro, head_or-any, nodes_in_lem}
-use Rattle.model.specs.TwinLaws.{Simple, similar_refl}
-use Rattle.model.specs.ClassLaws.{group_in_lem}
-use Rattle.model.specs.SummaryLaws.{position-group}
-use Rattle.model.specs.ReleaseLaws.{visible_ascending, visible-simple}
-use Rattle.model.specs.ReadBackLaws.{visible_inside}
-use Rattle.model.specs.InOrderLaws.{in_order_parts, place_of}
-use Rattle.model.specs.ToldGraphLaws.{told_place, told_proper}
-use Rattle.model.specs.MergeLaws.{release_same, released_groups}
+use Rattle.model.proofs.ListLaws.{Ascending, filter_intro, head_or-any, nodes_in_lem}
+use Rattle.model.proofs.TwinLaws.{Simple, similar_refl}
+use Rattle.model.proofs.ClassLaws.{group_in_lem}
+use Rattle.model.proofs.SummaryLaws.{position-group}
+use Rattle.model.proofs.ReleaseLaws.{visible_ascending, visible-simple}
+use Rattle.model.proofs.ReadBackLaws.{visible_inside}
+use Rattle.model.proofs.InOrderLaws.{in_order_parts, place_of}
+use Rattle.model.proofs.ToldGraphLaws.{told_place, told_proper}
+use Rattle.model.proofs.MergeLaws.{release_same, released_groups}
 use Rattle.compressed.specs.Compressed.{first_at, first_member_of}
 use Rattle.compressed.specs.ToldLaws.{first_placed}
 

@@ -11,11 +11,11 @@ use Rattle.model.specs.Summary.{position, reconstruct}
 use Rattle.model.specs.Tables.{edge_bit}
 use Rattle.model.specs.Reading.{Head, graph_by, has_pair, summary_by}
 use Rattle.model.specs.InOrder.{class_at, clique_at, groups_fit, in_order, members_at, superedges_fit}
-use Rattle.model.specs.TestLaws.{and_fst, and_snd, and_true, decide, differ, iff_eq, or_cases, or_left, or_right}
-use Rattle.model.specs.ListLaws.{head_or-le}
-use Rattle.model.specs.InOrderLaws.{first_in, firsts_ascend, in_order_parts, members_ascend, members_below, pair_fits, place_in, place_of_lem, place_of}
-use Rattle.model.specs.ToldGraphLaws.{place_below}
-use Rattle.model.specs.MergeLaws.{only_member}
+use Rattle.model.proofs.TestLaws.{and_fst, and_snd, and_true, decide, differ, iff_eq, or_cases, or_left, or_right}
+use Rattle.model.proofs.ListLaws.{head_or-le}
+use Rattle.model.proofs.InOrderLaws.{first_in, firsts_ascend, in_order_parts, members_ascend, members_below, pair_fits, place_in, place_of_lem, place_of}
+use Rattle.model.proofs.ToldGraphLaws.{place_below}
+use Rattle.model.proofs.MergeLaws.{only_member}
 use Rattle.rows.specs.Rows.{leads, no_node}
 use Rattle.compressed.specs.Compressed.{Compressed, Told, class_in, class_of, clique, first_at, first_member_of, independent, joined_by, kind_in, kind_marked, led_by, placed, single, unfolded, unfolded_edge, with_classes}
 

@@ -4,7 +4,7 @@ use Rattle.model.specs.Lists.{any, nodes}
 use Rattle.model.specs.Graph.{View, max_nodes, row_words}
 use Rattle.model.specs.Summary.{Summary}
 use Rattle.model.specs.Tables.{bit_at, edge_bit}
-use Rattle.model.specs.DistanceLaws.{within}
+use Rattle.model.proofs.DistanceLaws.{within}
 use Rattle.compressed.specs.Compressed.{clique}
 
 -- the nodes with an edge from a chosen one, in row 0 of a table

@@ -9,11 +9,11 @@ use Rattle.model.specs.Summary.{Summary, groups_of, reconstruct}
 use Rattle.model.specs.Tables.{edge_bit}
 use Rattle.model.specs.Release.{visible, visible_edge}
 use Rattle.model.specs.Distance.{Shortest, distance, distance_by, is_joined, unreachable}
-use Rattle.model.specs.TestLaws.{decide, iff_eq, or_same}
-use Rattle.model.specs.ListLaws.{any_elim, any_intro, member_elim, member_intro, nodes_in_lem, nodes_out}
-use Rattle.model.specs.ReadBackLaws.{member-visible}
-use Rattle.model.specs.DistanceLaws.{distance_cong, shortest_distance}
-use Rattle.model.specs.GroupDistanceLaws.{Unfolds, distance_by_groups}
+use Rattle.model.proofs.TestLaws.{decide, iff_eq, or_same}
+use Rattle.model.proofs.ListLaws.{any_elim, any_intro, member_elim, member_intro, nodes_in_lem, nodes_out}
+use Rattle.model.proofs.ReadBackLaws.{member-visible}
+use Rattle.model.proofs.DistanceLaws.{distance_cong, shortest_distance}
+use Rattle.model.proofs.GroupDistanceLaws.{Unfolds, distance_by_groups}
 use Rattle.rows.specs.Rows.{leads}
 use Rattle.compressed.specs.Compressed.{Compressed, clique, placed, unfolded, unfolded_edge}
 use Rattle.compressed.specs.PlacedLaws.{placed_in, placed-lt, placed-visible}

@@ -9,9 +9,9 @@ use borrow.Author.Tests.{eqb-true, eq-eqb, ne_eqb}
 use Rattle.model.specs.Lists.{◌∈◌, nodes}
 use Rattle.model.specs.Tables.{edge_bit}
 use Rattle.model.specs.Distance.{Shortest, walk, unreachable}
-use Rattle.model.specs.TestLaws.{and_fst, and_snd, and_true, decide, differ, fails, iff_eq, or_cases, or_left, or_right}
-use Rattle.model.specs.ListLaws.{any_elim, any_intro, length_from, nodes_in_lem, nodes_out}
-use Rattle.model.specs.DistanceLaws.{walk_short, no_walk, within, within_by, within-walk, within-least, within_more, within_stable, within_step}
+use Rattle.model.proofs.TestLaws.{and_fst, and_snd, and_true, decide, differ, fails, iff_eq, or_cases, or_left, or_right}
+use Rattle.model.proofs.ListLaws.{any_elim, any_intro, length_from, nodes_in_lem, nodes_out}
+use Rattle.model.proofs.DistanceLaws.{walk_short, no_walk, within, within_by, within-walk, within-least, within_more, within_stable, within_step}
 use Rattle.rows.specs.BitLaws.{row-bit}
 use Rattle.drawing.specs.Drawing.{Added, one_bit, row_to}
 use Rattle.drawing.specs.BitLaws.{added_only}

@@ -13,8 +13,8 @@ use Rattle.std.proofs.Math.ListN.{set}
 use borrow.Author.Tests.{eqb-false, eqb-true, eq-eqb, le-ltb, lt-ltb, ltb-false, ltb-true, ne_eqb}
 use Rattle.model.specs.Lists.{◌∈◌, any, nodes}
 use Rattle.model.specs.Tables.{bit_at, edge_bit}
-use Rattle.model.specs.TestLaws.{and_fst, and_snd, and_true, decide, differ, iff_eq, or_cases, or_left, or_right}
-use Rattle.model.specs.ListLaws.{any_cong, any_elim, any_intro, nodes_in_lem, nodes_out}
+use Rattle.model.proofs.TestLaws.{and_fst, and_snd, and_true, decide, differ, iff_eq, or_cases, or_left, or_right}
+use Rattle.model.proofs.ListLaws.{any_cong, any_elim, any_intro, nodes_in_lem, nodes_out}
 use Rattle.rows.specs.BitLaws.{bit_and_lem, bit_xor_lem, bit_zero, row-bit}
 use Rattle.buffers.specs.WordBitsLaws.{cleared_off, lowest_set, lowest_small}
 use Rattle.drawing.specs.Drawing.{Added, Adding, row_to}

@@ -11,7 +11,7 @@ use Rattle.std.proofs.lemmas.List.{length-replicate}
 use Rattle.std.proofs.lemmas.Bool.{eqb-false}
 use Rattle.model.specs.Graph.{max_nodes}
 use Rattle.model.specs.Tables.{bit_at, edge_bit}
-use Rattle.model.specs.TestLaws.{and_fst, and_snd, and_true, decide, iff_eq}
+use Rattle.model.proofs.TestLaws.{and_fst, and_snd, and_true, decide, iff_eq}
 use Rattle.rows.specs.BitLaws.{bit_pow}
 use Rattle.drawing.specs.Drawing.{Added, one_bit, row_to, row_word_to, word_to}
 use Rattle.drawing.specs.DrawingLaws.{added_as}

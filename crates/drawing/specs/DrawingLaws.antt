@@ -6,7 +6,7 @@ use Rattle.std.proofs.Math.Bool.{not, or-false}
 use Rattle.std.proofs.Math.ListN.{set}
 use borrow.Author.Tests.{eqb-false, le-ltb, lt-ltb, ltb-false, ltb-true, ne_eqb}
 use Rattle.model.specs.Tables.{edge_bit}
-use Rattle.model.specs.TestLaws.{decide}
+use Rattle.model.proofs.TestLaws.{decide}
 use Rattle.drawing.specs.Drawing.{Added, Adding, one_bit, pair_bits, row_from, row_to, row_word_to}
 
 split : (u v w : Bool) → ((u || v) && w) ≡ ((u && w) || (v && w))

@@ -12,9 +12,9 @@ use Rattle.model.specs.Lists.{all, nodes, same_list}
 use Rattle.model.specs.Graph.{max_nodes, row_words}
 use Rattle.model.specs.Grouping.{cube}
 use Rattle.model.specs.Tables.{bit_at, edge_bit, edges_in, edges_of, graph_in, graph_with, row_of, simple}
-use Rattle.model.specs.TestLaws.{and_fst, and_snd, and_true, decide, differ, eq_beq, fails, iff_eq}
-use Rattle.model.specs.ListLaws.{all_elim, all_intro, nodes_in_lem, nodes_out, same_eq, same_refl}
-use Rattle.model.specs.TableLaws.{edge_bit_lem, simple_edge, simple_loop}
+use Rattle.model.proofs.TestLaws.{and_fst, and_snd, and_true, decide, differ, eq_beq, fails, iff_eq}
+use Rattle.model.proofs.ListLaws.{all_elim, all_intro, nodes_in_lem, nodes_out, same_eq, same_refl}
+use Rattle.model.proofs.TableLaws.{edge_bit_lem, simple_edge, simple_loop}
 use Rattle.rows.specs.Rows.{Words}
 use Rattle.rows.specs.BitLaws.{edge_at}
 use Rattle.rows.specs.EdgeLaws.{edges_by_bits}

@@ -17,8 +17,8 @@ use Rattle.model.specs.Release.{is_visible, visible_edge, visible_class, visible
 use Rattle.model.specs.Reading.{u16_at, u16s, groups_at, after_groups, is_mark, superedges_at, has_pair, summary_by, summary_in, graph_by, decode, is_release}
 use Rattle.model.specs.Calls.{open_reasons, open_call, keep_reasons, keep_call, restore_reasons, restore_call, drop_reasons, drop_call, apply_reasons, apply_call, listing, neighbours_reasons, neighbours_call, tied_reasons, tied_call, group_reasons, group_call, release_reasons, released, release_call, read_reasons, read_call, file_distance_reasons, file_distance_call, file_neighbours_reasons, file_neighbours_call}
 use Rattle.model.specs.Program.{text, before, pieces, is_none, value_of, is_number, edge_line, mark_line, line_of, with_update, with_line, lines_from, is_count, first_line, input_of, digits, decimal, signed, change_line, change_lines, open_line, spaced, group_line, superedge_line, release_lines, printed, program}
-use Rattle.model.specs.TestLaws.{differ, and_fst, and_snd, beq_eq}
-use Rattle.model.specs.ListLaws.{same_eq}
+use Rattle.model.proofs.TestLaws.{differ, and_fst, and_snd, beq_eq}
+use Rattle.model.proofs.ListLaws.{same_eq}
 use Rattle.examples.specs.Examples.{Claim, list, number, groups, kinds, answers, test, Holds, AllHold, one_edge, path3, triangle, path4, three_by_three, deleted03, hidden3, hidden3deleted03, deleted03hidden3, hidden1of2, tied1of2, classed1of2, hidden0of1, classed0of1, hidden2of3, tied2of3, hidden3of4, tied3of4, equal_keys, classes010, triangle010, hidden_class, one_kept, eight_kept, self_tied, examples}
 
 -- lists that are equal by a test of their members

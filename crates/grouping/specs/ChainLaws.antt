@@ -6,7 +6,7 @@ use Rattle.std.proofs.Math.Bool.{and-false, xor}
 use Rattle.std.specs.Int.Bits.{bit_xor, xor_lt}
 use Rattle.std.proofs.lemmas.Bool.{eqb-false}
 use Rattle.model.specs.Tables.{bit_at}
-use Rattle.model.specs.TestLaws.{and_fst, and_snd, and_true, decide, differ}
+use Rattle.model.proofs.TestLaws.{and_fst, and_snd, and_true, decide, differ}
 use Rattle.buffers.specs.FilledLaws.{get_d_zeros}
 use Rattle.search.specs.Search.{own_bit, own_bits, row_in}
 use Rattle.rows.specs.Rows.{Words}

@@ -8,7 +8,7 @@ use Rattle.std.proofs.lemmas.Nat.{xor_block, xor_mod, xor_shr}
 use Rattle.std.proofs.Math.Pow.{pow-lt}
 use Rattle.model.specs.Lists.{all, from, nodes}
 use Rattle.model.specs.Tables.{bit_at}
-use Rattle.model.specs.ListLaws.{all_elim, nodes_in_lem}
+use Rattle.model.proofs.ListLaws.{all_elim, nodes_in_lem}
 use Rattle.search.specs.Search.{own_bit}
 use Rattle.rows.specs.BitLaws.{bit_xor_lem, word_bits, word_cong}
 use Rattle.grouping.specs.Chains.{hash_of, own_rotated, rotated, row_slot, row_word, slot_for, slot_in, unrotated}

@@ -11,11 +11,11 @@ use Rattle.model.specs.Graph.{whole}
 use Rattle.model.specs.Grouping.{group, least, similar}
 use Rattle.model.specs.Tables.{classed_in, edges_in, graph_in}
 use Rattle.model.specs.Release.{is_visible}
-use Rattle.model.specs.TestLaws.{and_fst, and_one, decide, differ}
-use Rattle.model.specs.TableLaws.{length_keys}
-use Rattle.model.specs.ListLaws.{filter_cong, nodes_out}
-use Rattle.model.specs.BoundLaws.{SameAt, similar_cong}
-use Rattle.model.specs.HiddenLaws.{least-visible}
+use Rattle.model.proofs.TestLaws.{and_fst, and_one, decide, differ}
+use Rattle.model.proofs.TableLaws.{length_keys}
+use Rattle.model.proofs.ListLaws.{filter_cong, nodes_out}
+use Rattle.model.proofs.BoundLaws.{SameAt, similar_cong}
+use Rattle.model.proofs.HiddenLaws.{least-visible}
 use Rattle.buffers.specs.FilledLaws.{get_d_zeros}
 use Rattle.search.specs.Search.{Ready, key_agrees}
 use Rattle.search.specs.SearchLaws.{meets_words}

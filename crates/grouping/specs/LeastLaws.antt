@@ -10,13 +10,13 @@ use Rattle.model.specs.Graph.{Graph, View, whole}
 use Rattle.model.specs.Grouping.{closed, false_twins, least, similar, true_twins}
 use Rattle.model.specs.Tables.{edge_bit, keys_of, edges_in, graph_in}
 use Rattle.model.specs.Release.{is_visible, visible}
-use Rattle.model.specs.TestLaws.{and_fst, and_snd, and_true, decide, differ}
-use Rattle.model.specs.ListLaws.{Ascending}
-use Rattle.model.specs.TwinLaws.{similar_N, similar_N+, similar_cases, similar_class, similar_refl}
-use Rattle.model.specs.ClassLaws.{Equivalence, least_eq, least_in, least-le, least-least, least_rel}
-use Rattle.model.specs.ReleaseLaws.{visible_ascending}
-use Rattle.model.specs.ReadBackLaws.{visible_inside}
-use Rattle.model.specs.HiddenLaws.{edge_seen, seen_equivalence, seen_in, seen_out, similar_seen}
+use Rattle.model.proofs.TestLaws.{and_fst, and_snd, and_true, decide, differ}
+use Rattle.model.proofs.ListLaws.{Ascending}
+use Rattle.model.proofs.TwinLaws.{similar_N, similar_N+, similar_cases, similar_class, similar_refl}
+use Rattle.model.proofs.ClassLaws.{Equivalence, least_eq, least_in, least-le, least-least, least_rel}
+use Rattle.model.proofs.ReleaseLaws.{visible_ascending}
+use Rattle.model.proofs.ReadBackLaws.{visible_inside}
+use Rattle.model.proofs.HiddenLaws.{edge_seen, seen_equivalence, seen_in, seen_out, similar_seen}
 use Rattle.layout.specs.Truth.{Truth}
 use Rattle.rows.specs.Rows.{Words}
 use Rattle.search.specs.Search.{Ready}

@@ -5,8 +5,8 @@ use Rattle.std.proofs.Common.{◌∙◌, arith}
 use Rattle.std.proofs.Math.Logic.{inl, inr}
 use borrow.Author.Tests.{eq-eqb, ne_eqb, not-false, not-true}
 use Rattle.model.specs.Lists.{nodes}
-use Rattle.model.specs.TestLaws.{and_fst, and_snd, and_true, decide, differ, or_cases, or_left, or_right}
-use Rattle.model.specs.ListLaws.{all_intro, nodes_out}
+use Rattle.model.proofs.TestLaws.{and_fst, and_snd, and_true, decide, differ, or_cases, or_left, or_right}
+use Rattle.model.proofs.ListLaws.{all_intro, nodes_out}
 use Rattle.buffers.specs.AllLaws.{all_fail, all_pass_lem, failed}
 use Rattle.rows.specs.Rows.{leads}
 use Rattle.compressed.specs.Compressed.{alike, apart, merges}

@@ -7,9 +7,9 @@ use Rattle.model.specs.Graph.{Graph, Proper, max_nodes, node_numbers, row_words,
 use Rattle.model.specs.Grouping.{closed_key, open_key, similar}
 use Rattle.model.specs.Tables.{Tables, edges_of, graph_of, key_pair, keys_of, node_number, row_of, tables_of}
 use Rattle.model.specs.Updates.{Update, answer, updated}
-use Rattle.model.specs.TestLaws.{decide}
-use Rattle.model.specs.TableLaws.{length_edges, length_keys, length-nodes_of, read_back}
-use Rattle.model.specs.UpdateLaws.{apart, proper_updated, u_inside, v_inside}
+use Rattle.model.proofs.TestLaws.{decide}
+use Rattle.model.proofs.TableLaws.{length_edges, length_keys, length-nodes_of, read_back}
+use Rattle.model.proofs.UpdateLaws.{apart, proper_updated, u_inside, v_inside}
 use Rattle.rows.specs.Rows.{Changed, KeysChanged, lent}
 use Rattle.search.specs.Search.{Ready}
 use Rattle.search.specs.SearchLaws.{ready}

@@ -6,10 +6,10 @@ use Rattle.model.specs.Lists.{head_or, nodes}
 use Rattle.model.specs.Graph.{Graph, Proper, node_numbers, whole}
 use Rattle.model.specs.Grouping.{group, least, similar}
 use Rattle.model.specs.Tables.{classed_in, edges_in, edges_of, graph_in, keys_of, tables_of}
-use Rattle.model.specs.TestLaws.{differ}
-use Rattle.model.specs.ListLaws.{filter_cong, nodes_out}
-use Rattle.model.specs.TwinLaws.{similar_split}
-use Rattle.model.specs.TableLaws.{edges_in_lem}
+use Rattle.model.proofs.TestLaws.{differ}
+use Rattle.model.proofs.ListLaws.{filter_cong, nodes_out}
+use Rattle.model.proofs.TwinLaws.{similar_split}
+use Rattle.model.proofs.TableLaws.{edges_in_lem}
 use Rattle.rows.specs.Rows.{lent}
 use Rattle.search.specs.Search.{Within}
 use Rattle.search.specs.SearchLaws.{ready}

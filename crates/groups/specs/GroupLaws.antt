@@ -5,7 +5,7 @@ use Rattle.std.proofs.Math.Bool.{not}
 use Rattle.std.proofs.Math.Decide.{ℕ_discrete}
 use borrow.Author.Tests.{eqb-true, eqb-false, eq-eqb, ne_eqb, not-true}
 use Rattle.model.specs.Tables.{node_number}
-use Rattle.model.specs.TestLaws.{and_fst, and_snd, and_true, differ}
+use Rattle.model.proofs.TestLaws.{and_fst, and_snd, and_true, differ}
 use Rattle.search.specs.Search.{first_from, joins}
 use Rattle.rings.specs.Steps.{Fit}
 use Rattle.rings.specs.UpdateLaws.{Found, at, nowhere}

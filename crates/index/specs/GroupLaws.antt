@@ -12,12 +12,12 @@ use Rattle.model.specs.Graph.{Graph, whole}
 use Rattle.model.specs.Grouping.{similar, group, least, adjacent, kind_of, is_clique, clique, independent}
 use Rattle.model.specs.Tables.{Tables, edge_bit, edges_in, node_number, graph_of, group_in, nodes_of, tables_of}
 use Rattle.model.specs.Queries.{leader_in, kind_number}
-use Rattle.model.specs.TestLaws.{decide}
-use Rattle.model.specs.ListLaws.{Ascending, filter_ascending, nodes_in_lem, nodes_out, nodes_ascending}
-use Rattle.model.specs.TwinLaws.{Simple}
-use Rattle.model.specs.ClassLaws.{Equivalence, group_in_lem, group_out, least_in, least_rel, least-leads, same_group}
-use Rattle.model.specs.SummaryLaws.{equivalence, clique_law}
-use Rattle.model.specs.TableLaws.{proper_simple, least_at, group-told}
+use Rattle.model.proofs.TestLaws.{decide}
+use Rattle.model.proofs.ListLaws.{Ascending, filter_ascending, nodes_in_lem, nodes_out, nodes_ascending}
+use Rattle.model.proofs.TwinLaws.{Simple}
+use Rattle.model.proofs.ClassLaws.{Equivalence, group_in_lem, group_out, least_in, least_rel, least-leads, same_group}
+use Rattle.model.proofs.SummaryLaws.{equivalence, clique_law}
+use Rattle.model.proofs.TableLaws.{proper_simple, least_at, group-told}
 use Rattle.buffers.specs.ScanLaws.{scan-nodes}
 use Rattle.rings.specs.Ring.{up, Best, Table, Of}
 use Rattle.rings.specs.RingLaws.{up_circle}

@@ -10,9 +10,9 @@ use Rattle.model.specs.Store.{no_states, store_of, wrong_store}
 use Rattle.model.specs.Refusals.{first_of, lengths, pair_reasons, wrong_size}
 use Rattle.model.specs.Updates.{update_count, update_numbers, wrong_batch}
 use Rattle.model.specs.Calls.{open_reasons, open_call, apply_reasons, apply_refused, apply_call, neighbours_reasons, list_refused, neighbours_call, tied_reasons, tied_refused, tied_call, group_reasons, group_refused, group_call}
-use Rattle.model.specs.TestLaws.{or_none}
-use Rattle.model.specs.TableLaws.{edge_below, edge_bit_lem, held_tables, held_proper}
-use Rattle.model.specs.RefusalLaws.{call_done, call_refused, first_none}
+use Rattle.model.proofs.TestLaws.{or_none}
+use Rattle.model.proofs.TableLaws.{edge_below, edge_bit_lem, held_tables, held_proper}
+use Rattle.model.proofs.RefusalLaws.{call_done, call_refused, first_none}
 use Rattle.index.specs.Index.{opened, applied, tied_of, grouped}
 use Rattle.rows.specs.PairLaws.{pair_ends}
 use Rattle.tables.specs.Lent.{table_reasons, Held}
@@ -20,7 +20,7 @@ use Rattle.tables.specs.LentLaws.{sized, table_refused, table_rest, table_held, 
 use Rattle.updates.specs.Batch.{BatchApplied}
 use Rattle.updates.specs.BatchLaws.{whole_numbers}
 use Rattle.queries.specs.Query.{Reaches, kind_by, leader_at, led_by, listed, row_nodes, row_told}
-use Rattle.queries.specs.QueryLaws.{leader_first, row-reached, row_told_lem}
+use Rattle.queries.proofs.QueryLaws.{leader_first, row-reached, row_told_lem}
 use Rattle.index.specs.GroupLaws.{l_below, m_below, least_is, leader_told, led_group, kind_told}
 use Rattle.buffers.specs.Scan.{scan}
 use Rattle.model.specs.Grouping.{kind_of}

@@ -9,12 +9,12 @@ use Rattle.model.specs.Refusals.{first_of}
 use Rattle.model.specs.Release.{is_visible, visible}
 use Rattle.model.specs.Reading.{Head, decode, graph_by, is_release, summary_by, u16_at}
 use Rattle.model.specs.InOrder.{file_by, groups_fit, in_order, superedges_fit, told_groups, told_superedges}
-use Rattle.model.specs.InOrderLaws.{in_order_parts}
-use Rattle.model.specs.ReleaseOrderLaws.{release-in_order}
-use Rattle.model.specs.ToldGraphLaws.{decode_file, told_proper}
-use Rattle.model.specs.MergeLaws.{in_order-release}
-use Rattle.model.specs.ReadBackLaws.{visible_inside}
-use Rattle.model.specs.TestLaws.{decide}
+use Rattle.model.proofs.InOrderLaws.{in_order_parts}
+use Rattle.model.proofs.ReleaseOrderLaws.{release-in_order}
+use Rattle.model.proofs.ToldGraphLaws.{decode_file, told_proper}
+use Rattle.model.proofs.MergeLaws.{in_order-release}
+use Rattle.model.proofs.ReadBackLaws.{visible_inside}
+use Rattle.model.proofs.TestLaws.{decide}
 use Rattle.rows.specs.Rows.{Words}
 use Rattle.compressed.specs.Compressed.{Compressed, Told, apart, unfolded}
 use Rattle.compressed.specs.ToldLaws.{told_compressed, told-unfolded}

@@ -7,8 +7,8 @@ use Rattle.model.specs.Lists.{filter, from, nodes}
 use Rattle.model.specs.Graph.{whole}
 use Rattle.model.specs.Grouping.{cube, open_key, sum_cubes}
 use Rattle.model.specs.Tables.{bit_at, edge_bit, edges_in, graph_in}
-use Rattle.model.specs.TestLaws.{decide}
-use Rattle.model.specs.ListLaws.{from_out}
+use Rattle.model.proofs.TestLaws.{decide}
+use Rattle.model.proofs.ListLaws.{from_out}
 use Rattle.buffers.specs.StoreLaws.{stored, stored-size}
 use Rattle.rows.specs.BitLaws.{word-bit}
 use Rattle.rows.specs.KeyLaws.{cube-le, cubes_cong, no_cubes}

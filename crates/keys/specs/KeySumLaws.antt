@@ -5,8 +5,8 @@ use Rattle.std.proofs.lemmas.Bool.{eqb-false}
 use Rattle.model.specs.Graph.{Graph, whole}
 use Rattle.model.specs.Grouping.{cube, open_key}
 use Rattle.model.specs.Tables.{keys_of, graph_in}
-use Rattle.model.specs.TestLaws.{decide}
-use Rattle.model.specs.TableLaws.{length_keys}
+use Rattle.model.proofs.TestLaws.{decide}
+use Rattle.model.proofs.TableLaws.{length_keys}
 use Rattle.search.specs.Search.{Within}
 use Rattle.search.specs.SearchLaws.{within_inside}
 use Rattle.rows.specs.KeyLaws.{keys_at}

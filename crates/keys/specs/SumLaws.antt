@@ -8,7 +8,7 @@ use Rattle.model.specs.Lists.{filter, nodes}
 use Rattle.model.specs.Graph.{whole}
 use Rattle.model.specs.Grouping.{cube, open_key, sum_cubes}
 use Rattle.model.specs.Tables.{edge_bit, edges_in, graph_in}
-use Rattle.model.specs.TestLaws.{differ}
+use Rattle.model.proofs.TestLaws.{differ}
 use Rattle.rows.specs.Rows.{Words}
 use Rattle.buffers.specs.WordBitsLaws.{cleared_less, lowest_small}
 use Rattle.keys.specs.Totals.{sum_of}

@@ -4,7 +4,7 @@ use Rattle.std.proofs.Common.{ap, inl, inr, arith}
 use Rattle.std.specs.Int.Count.{count_trailing_zeros}
 use borrow.Author.Tests.{eqb-true, eqb-false, eq-eqb, ne_eqb, le-ltb, lt-ltb, ltb-true}
 use Rattle.model.specs.Tables.{bit_at, edge_bit}
-use Rattle.model.specs.TestLaws.{decide, iff_eq}
+use Rattle.model.proofs.TestLaws.{decide, iff_eq}
 use Rattle.rows.specs.BitLaws.{bit_zero}
 use Rattle.buffers.specs.WordBitsLaws.{cleared_here, cleared_off, lowest_set, lowest_small}
 use Rattle.keys.specs.Walk.{ahead}

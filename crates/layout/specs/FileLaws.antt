@@ -4,7 +4,7 @@ use Rattle.std.proofs.Common.{sym, ap, ◌∙◌, append_assoc, arith, add-one, 
 use Rattle.model.specs.Lists.{concat, head_or}
 use Rattle.model.specs.Tables.{edge_bit}
 use Rattle.model.specs.Release.{head_record, superedge_record, u16}
-use Rattle.model.specs.ReleaseLaws.{length-u16s}
+use Rattle.model.proofs.ReleaseLaws.{length-u16s}
 use Rattle.rows.specs.Rows.{leads}
 use Rattle.buffers.specs.Wrote.{Left, Wrote}
 use Rattle.buffers.specs.WroteLaws.{left_done, left_put, left_room, left_start, left_step, wrote_before, wrote_length, wrote_then}

@@ -7,7 +7,7 @@ use Prim.Native.Nat.{ℕ, suc, zero, ◌+◌, ◌-◌, ◌≤◌, ◌<◌}
 use Rattle.std.proofs.Math.ListN.{get_or}
 use borrow.Author.Tests.{eqb-true, eqb-false, eq-eqb, ne_eqb, lt-ltb, le-ltb}
 use Rattle.model.specs.Lists.{head_or}
-use Rattle.model.specs.TestLaws.{decide}
+use Rattle.model.proofs.TestLaws.{decide}
 use Rattle.buffers.specs.Scan.{scan}
 use Rattle.buffers.specs.ScanLaws.{scan_end, scan_no, scan_yes, upward}
 use Rattle.rows.specs.Rows.{no_node}

@@ -14,15 +14,15 @@ use Rattle.model.specs.Grouping.{Kind, adjacent, algorithm1, clique, group, inde
 use Rattle.model.specs.Tables.{edge_bit}
 use Rattle.model.specs.Release.{encode, group_record, is_visible, kind_byte, release, superedge_count, superedge_record, superedges, superedges_from, visible, visible_class, visible_groups}
 use Rattle.model.specs.Calls.{release_refused, released}
-use Rattle.model.specs.TestLaws.{decide, iff_eq}
-use Rattle.model.specs.ListLaws.{Ascending, filter_ascending, filter_cong, filter_elim, filter_intro, head_or_in, nodes_in_lem, nodes_out}
-use Rattle.model.specs.TwinLaws.{Simple, similar_refl, similar_sym, similar_trans}
-use Rattle.model.specs.ClassLaws.{Equivalence, group_in_lem, group_out, leader_out, leaders-apart, leaders_ascending, least_eq, least_in, least-le, least_rel, same_group}
-use Rattle.model.specs.SummaryLaws.{adjacent_law, algorithm1-classes, clique_law, equivalence, length_groups}
-use Rattle.model.specs.TableLaws.{map_cong}
-use Rattle.model.specs.ReleaseLaws.{length-concat_groups, length_superedge_records, visible_ascending, visible-simple}
-use Rattle.model.specs.UpdateLaws.{apart}
-use Rattle.model.specs.ReadBackLaws.{visible_inside}
+use Rattle.model.proofs.TestLaws.{decide, iff_eq}
+use Rattle.model.proofs.ListLaws.{Ascending, filter_ascending, filter_cong, filter_elim, filter_intro, head_or_in, nodes_in_lem, nodes_out}
+use Rattle.model.proofs.TwinLaws.{Simple, similar_refl, similar_sym, similar_trans}
+use Rattle.model.proofs.ClassLaws.{Equivalence, group_in_lem, group_out, leader_out, leaders-apart, leaders_ascending, least_eq, least_in, least-le, least_rel, same_group}
+use Rattle.model.proofs.SummaryLaws.{adjacent_law, algorithm1-classes, clique_law, equivalence, length_groups}
+use Rattle.model.proofs.TableLaws.{map_cong}
+use Rattle.model.proofs.ReleaseLaws.{length-concat_groups, length_superedge_records, visible_ascending, visible-simple}
+use Rattle.model.proofs.UpdateLaws.{apart}
+use Rattle.model.proofs.ReadBackLaws.{visible_inside}
 use Rattle.rows.specs.Rows.{leads}
 use Rattle.buffers.specs.Scan.{flat, scan}
 use Rattle.buffers.specs.ScanLaws.{filter_and, flat_end, flat_step, get_d_ascending, get_d_in, scan_end, scan_no, scan-nodes, scan_skip, scan_yes, upward}

@@ -11,7 +11,7 @@ use Rattle.model.specs.Lists.{concat}
 use Rattle.model.specs.Tables.{edge_bit}
 use Rattle.model.specs.Release.{end_record, head_record, superedge_record, u16}
 use Rattle.model.specs.Calls.{onto, release_refused}
-use Rattle.model.specs.TestLaws.{decide}
+use Rattle.model.proofs.TestLaws.{decide}
 use Rattle.rows.specs.Rows.{leads}
 use Rattle.buffers.specs.Wrote.{Wrote}
 use Rattle.buffers.specs.WroteLaws.{sets_onto, wrote_length, wrote_then}

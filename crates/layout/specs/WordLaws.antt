@@ -14,7 +14,7 @@ use Rattle.std.proofs.lemmas.Bool.{eqb-false}
 use Rattle.model.specs.Lists.{concat, filter, from}
 use Rattle.model.specs.Tables.{bit_at, edge_bit}
 use Rattle.model.specs.Release.{superedge_record}
-use Rattle.model.specs.TestLaws.{decide, iff_eq}
+use Rattle.model.proofs.TestLaws.{decide, iff_eq}
 use Rattle.rows.specs.BitLaws.{bit_and_lem}
 use Rattle.rows.specs.Rows.{leads}
 use Rattle.buffers.specs.FilledLaws.{get_d_zeros}

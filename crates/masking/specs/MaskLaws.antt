@@ -13,10 +13,10 @@ use Rattle.model.specs.Grouping.{least, similar}
 use Rattle.model.specs.Tables.{bit_at, edge_bit, edges_in, edges_of}
 use Rattle.model.specs.Release.{is_visible, visible, visible_edge, visible_part}
 use Rattle.model.specs.History.{Alike}
-use Rattle.model.specs.TestLaws.{and_fst, decide}
-use Rattle.model.specs.TableLaws.{edges_in_lem, graph_test}
-use Rattle.model.specs.ReleaseLaws.{alike-visible}
-use Rattle.model.specs.ReadBackLaws.{visible_proper}
+use Rattle.model.proofs.TestLaws.{and_fst, decide}
+use Rattle.model.proofs.TableLaws.{edges_in_lem, graph_test}
+use Rattle.model.proofs.ReleaseLaws.{alike-visible}
+use Rattle.model.proofs.ReadBackLaws.{visible_proper}
 use Rattle.layout.specs.Truth.{Truth}
 use Rattle.layout.specs.Words.{Marking}
 use Rattle.rows.specs.BitLaws.{bit_and_lem, bit_zero}

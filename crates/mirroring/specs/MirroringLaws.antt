@@ -7,7 +7,7 @@ use Rattle.std.specs.Int.Bits.{bit_or}
 use Rattle.std.proofs.Math.Dec.{eqb}
 use borrow.Author.Tests.{eq-eqb, eqb-false, eqb-true, le-ltb, lt-ltb, ltb-true, ne_eqb}
 use Rattle.model.specs.Tables.{bit_at, edge_bit}
-use Rattle.model.specs.TestLaws.{and_snd, and_true, decide, iff_eq, or_cases, or_left, or_right}
+use Rattle.model.proofs.TestLaws.{and_snd, and_true, decide, iff_eq, or_cases, or_left, or_right}
 use Rattle.drawing.specs.BitLaws.{word_put}
 use Rattle.drawing.specs.Drawing.{Added, word_to}
 use Rattle.drawing.specs.DrawingLaws.{added_as, added_none, added_then}

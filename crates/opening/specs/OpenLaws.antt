@@ -12,10 +12,10 @@ use Rattle.model.specs.Lists.{nodes}
 use Rattle.model.specs.Graph.{Graph, empty_graph, max_nodes, row_words, node_numbers, whole}
 use Rattle.model.specs.Grouping.{cube, similar}
 use Rattle.model.specs.Tables.{node_number, nodes_of, keys_of, edges_of, edge_bit, bit_at, tables_of}
-use Rattle.model.specs.TestLaws.{decide}
-use Rattle.model.specs.TwinLaws.{similar_N, false_twins_by}
-use Rattle.model.specs.UpdateLaws.{proper_empty}
-use Rattle.model.specs.TableLaws.{length_keys}
+use Rattle.model.proofs.TestLaws.{decide}
+use Rattle.model.proofs.TwinLaws.{similar_N, false_twins_by}
+use Rattle.model.proofs.UpdateLaws.{proper_empty}
+use Rattle.model.proofs.TableLaws.{length_keys}
 use Rattle.buffers.specs.FilledLaws.{get_d_zeros}
 use Rattle.rows.specs.BitLaws.{bit_zero}
 use Rattle.rows.specs.Rows.{lent, Words}

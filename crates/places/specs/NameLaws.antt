@@ -2,10 +2,10 @@
 use Rattle.std.specs.Prelude.{◌≡◌, true, ◌&&◌, List, ◌++◌, ℕ, suc, ◌+◌, ◌*◌, ◌^◌, ◌<◌, eqb, take, drop}
 use Rattle.std.proofs.Common.{sym, ap, ◌∙◌, arith, drop_at, take_at, pow-add, eqb-true, eq-eqb}
 use Rattle.model.specs.Lists.{same_list}
-use Rattle.model.specs.ListLaws.{same_eq, same_refl}
+use Rattle.model.proofs.ListLaws.{same_eq, same_refl}
 use Rattle.model.specs.Store.{bytes_of, is_name, number}
-use Rattle.model.specs.StoreLaws.{length_bytes, name_back, number_bytes}
-use Rattle.model.specs.TestLaws.{and_fst, and_snd, and_true, iff_eq}
+use Rattle.model.proofs.StoreLaws.{length_bytes, name_back, number_bytes}
+use Rattle.model.proofs.TestLaws.{and_fst, and_snd, and_true, iff_eq}
 
 pub byte_more : (k : ℕ) → 2 ^ (8 * suc k) ≡ 256 * 2 ^ (8 * k)
 byte_more k =

@@ -10,10 +10,10 @@ use Rattle.std.proofs.Math.Seq.{drop-append-add, get_or-drop, get_or-take, take-
 use Rattle.std.proofs.lemmas.Bool.{eqb-false, not-true}
 use Rattle.model.specs.Graph.{Graph}
 use Rattle.model.specs.Lists.{all, concat, from, nodes}
-use Rattle.model.specs.ListLaws.{all_cong, nodes_out, same_eq}
+use Rattle.model.proofs.ListLaws.{all_cong, nodes_out, same_eq}
 use Rattle.model.specs.Store.{Place, are_apart, bytes_of, dropping, free, graph_at, is_free, is_full, is_kept, is_name, is_new, is_under, keeping, kept, kept_graph, number, place_in, place_of, place_words, places_in, state_graph, store_of, words_at}
-use Rattle.model.specs.StoreLaws.{bytes_name, place_at, places_length}
-use Rattle.model.specs.TestLaws.{and_fst, and_snd, decide, differ, or_none}
+use Rattle.model.proofs.StoreLaws.{bytes_name, place_at, places_length}
+use Rattle.model.proofs.TestLaws.{and_fst, and_snd, decide, differ, or_none}
 use Rattle.search.specs.Search.{first_from}
 use Rattle.search.specs.SearchLaws.{first_cong}
 use Rattle.places.specs.NameLaws.{first_word, same_name, second_word}

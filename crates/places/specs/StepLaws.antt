@@ -7,7 +7,7 @@ use Rattle.std.proofs.lemmas.List.{replicate-append-replicate}
 use borrow.Author.Tests.{eq-eqb, eqb-true, le-ltb, lt-ltb, ltb-false, ne_eqb, not-false, not-true}
 use Rattle.model.specs.Lists.{concat}
 use Rattle.model.specs.Store.{free, no_states, number, place_of, place_words, store_of, store_words, words_at, wrong_store}
-use Rattle.model.specs.TestLaws.{or_none}
+use Rattle.model.proofs.TestLaws.{or_none}
 use Rattle.search.specs.Search.{first_from}
 use Rattle.places.specs.NameLaws.{byte_more}
 use Rattle.places.specs.Places.{HighBytes, free_at, new_at, place_word, put_at, under_at}

@@ -2,7 +2,7 @@
 use Rattle.std.specs.Prelude.{◌≡◌, refl, true, false, cond, List, [], ◌∷◌, ◌++◌, ◌⊎◌, ℕ, suc, zero, ◌+◌, ◌/◌, ◌%◌, ◌≤◌, ◌<◌, ltb, length, set}
 use Rattle.std.proofs.Common.{ap, ◌∙◌, inl, inr, arith, length-append, ltb-false, lt-ltb, le-ltb}
 use Rattle.model.specs.Program.{decimal, digits}
-use Rattle.model.specs.TestLaws.{decide}
+use Rattle.model.proofs.TestLaws.{decide}
 use Rattle.buffers.specs.Wrote.{Wrote}
 use Rattle.buffers.specs.WroteLaws.{wrote_then}
 

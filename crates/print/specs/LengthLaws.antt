@@ -6,21 +6,21 @@ use native.Mathlib.Omega.{arith}
 use Rattle.std.proofs.Math.Dec.{eqb}
 use Rattle.std.proofs.Math.ListN.{length-append}
 use Rattle.std.proofs.lemmas.Bool.{eqb-false}
-use Rattle.model.specs.ClassLaws.{group_out}
-use Rattle.model.specs.EdgeLaws.{edge_count, edge_count_batch, edge_count-visible, superedges-le_edges}
+use Rattle.model.proofs.ClassLaws.{group_out}
+use Rattle.model.proofs.EdgeLaws.{edge_count, edge_count_batch, edge_count-visible, superedges-le_edges}
 use Rattle.model.specs.Graph.{Graph, Proper, View, empty_graph, max_nodes, max_updates, whole}
 use Rattle.model.specs.Grouping.{adjacent, group, leaders, least, similar}
-use Rattle.model.specs.ListLaws.{filter_elim, length-filter, map_out, nodes_out}
+use Rattle.model.proofs.ListLaws.{filter_elim, length-filter, map_out, nodes_out}
 use Rattle.model.specs.Lists.{◌∈◌, concat, nodes}
 use Rattle.model.specs.Program.{Input, Line, accepted, change, change_line, change_lines, decimal, first_line, group_line, ill_formed, input_of, is_count, is_none, line_of, lines_from, max_bytes, open_line, pieces, printed, program, refused_at, refused_line, release_lines, signed, spaced, superedge_line, text, value_of, with_line, with_update}
-use Rattle.model.specs.ProgramLaws.{input_small}
+use Rattle.model.proofs.ProgramLaws.{input_small}
 use Rattle.model.specs.Release.{is_visible, superedges, superedges_from, visible, visible_groups}
-use Rattle.model.specs.ReleaseLaws.{length-concat_groups, visible_ascending, visible-simple}
+use Rattle.model.proofs.ReleaseLaws.{length-concat_groups, visible_ascending, visible-simple}
 use Rattle.model.specs.Steps.{Stepped, run}
-use Rattle.model.specs.SummaryLaws.{algorithm1-classes, length_groups}
-use Rattle.model.specs.TableLaws.{length-nodes}
-use Rattle.model.specs.TestLaws.{decide}
-use Rattle.model.specs.UpdateLaws.{answer_near, proper_batch, proper_empty, proper_stepped, refusal_below, update_refused_lem}
+use Rattle.model.proofs.SummaryLaws.{algorithm1-classes, length_groups}
+use Rattle.model.proofs.TableLaws.{length-nodes}
+use Rattle.model.proofs.TestLaws.{decide}
+use Rattle.model.proofs.UpdateLaws.{answer_near, proper_batch, proper_empty, proper_stepped, refusal_below, update_refused_lem}
 use Rattle.model.specs.Updates.{Update, answer, answers, batch_graph, refusal, update}
 use Rattle.print.specs.DecimalLaws.{length_long, length_short}
 use Rattle.print.specs.Lines.{max_text}

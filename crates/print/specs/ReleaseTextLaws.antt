@@ -7,9 +7,9 @@ use Rattle.model.specs.Graph.{Graph, View, empty_graph}
 use Rattle.model.specs.Lists.{concat}
 use Rattle.model.specs.Program.{accepted, change_lines, group_line, open_line, printed, release_lines, superedge_line}
 use Rattle.model.specs.Reading.{u16_at}
-use Rattle.model.specs.ReadingLaws.{body, count_back, groups_after, next, superedges_back, u16s_back}
+use Rattle.model.proofs.ReadingLaws.{body, count_back, groups_after, next, superedges_back, u16s_back}
 use Rattle.model.specs.Release.{encode, end_record, group_record, head_record, release, superedge_record, superedges, u16, visible, visible_groups}
-use Rattle.model.specs.ReleaseLaws.{length-encode}
+use Rattle.model.proofs.ReleaseLaws.{length-encode}
 use Rattle.model.specs.Updates.{Update, answers, batch_graph}
 use Rattle.print.specs.Lines.{file_text, group_text, group_texts, member_texts, superedge_part, superedge_texts, superedges_in}
 

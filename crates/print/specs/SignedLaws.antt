@@ -4,7 +4,7 @@ use Rattle.std.proofs.Common.{ap, ◌∙◌, arith, ltb-true, to_z-of_z, Fits, S
 use Rattle.std.specs.Int.Signed.{lt_z, non_neg}
 use Rattle.std.specs.Int.{w16, w32, w64}
 use Rattle.model.specs.Program.{decimal, signed, text}
-use Rattle.model.specs.TestLaws.{differ}
+use Rattle.model.proofs.TestLaws.{differ}
 use Rattle.buffers.specs.Wrote.{Wrote}
 use Rattle.buffers.specs.WroteLaws.{wrote_then}
 

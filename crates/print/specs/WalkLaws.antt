@@ -5,7 +5,7 @@ use Rattle.std.proofs.Math.ListN.{get_or-eq_default}
 use Rattle.model.specs.Lists.{concat}
 use Rattle.model.specs.Program.{open_line, spaced, superedge_line, text}
 use Rattle.model.specs.Reading.{after_groups, is_mark, superedges_at, u16_at, u16s}
-use Rattle.model.specs.TestLaws.{and_fst, decide}
+use Rattle.model.proofs.TestLaws.{and_fst, decide}
 use Rattle.buffers.specs.Wrote.{Left, Wrote}
 use Rattle.buffers.specs.WroteLaws.{left_done, left_room, left_start, left_step}
 use Rattle.print.specs.Lines.{file_text, group_text, group_texts, member_texts, next_group, superedge_part, superedge_texts, superedges_in}

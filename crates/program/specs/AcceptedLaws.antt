@@ -6,18 +6,18 @@ use mathlib.Core.List.{List, [], ◌∷◌, ◌++◌}
 use Rattle.std.proofs.Math.Seq.{take-append_seam}
 use borrow.Author.Tests.{eq-eqb, le-ltb}
 use Rattle.model.specs.Calls.{Applied, Opened, Released, apply_call, onto, open_call, open_reasons, release_call, released}
-use Rattle.model.specs.DemandLaws.{release-written}
+use Rattle.model.proofs.DemandLaws.{release-written}
 use Rattle.model.specs.Graph.{empty_graph, max_nodes, max_updates, node_numbers, row_words}
 use Rattle.model.specs.History.{Outcome, Plain, State, batch, call_step, plain_step, room_of}
-use Rattle.model.specs.HistoryLaws.{Agrees, Kept, call_told, history-told, lengths_for, size_right}
+use Rattle.model.proofs.HistoryLaws.{Agrees, Kept, call_told, history-told, lengths_for, size_right}
 use Rattle.model.specs.Program.{accepted, change_lines, max_bytes, printed}
-use Rattle.model.specs.ProgramLaws.{fits}
+use Rattle.model.proofs.ProgramLaws.{fits}
 use Rattle.model.specs.Refusals.{first_of, lengths, wrong_size}
 use Rattle.model.specs.Release.{release}
 use Rattle.model.specs.Steps.{run}
 use Rattle.model.specs.Store.{no_states, store_words, wrong_store}
 use Rattle.model.specs.Tables.{Tables}
-use Rattle.model.specs.UpdateLaws.{length-answers, length_updates, proper_batch, proper_empty}
+use Rattle.model.proofs.UpdateLaws.{length-answers, length_updates, proper_batch, proper_empty}
 use Rattle.model.specs.Updates.{answers, update_count, update_numbers, updates_in, wrong_batch}
 use Rattle.rows.specs.Rows.{lent}
 use Rattle.index.specs.Index.{applied, opened}

@@ -5,8 +5,8 @@ use Rattle.std.proofs.Math.Path.{ap}
 use Rattle.model.specs.Calls.{onto}
 use Rattle.model.specs.Graph.{max_updates}
 use Rattle.model.specs.Program.{Input, accepted, input_of, max_bytes, printed, program, refused_line}
-use Rattle.model.specs.ProgramLaws.{input_small}
-use Rattle.model.specs.TestLaws.{decide}
+use Rattle.model.proofs.ProgramLaws.{input_small}
+use Rattle.model.proofs.TestLaws.{decide}
 use Rattle.model.specs.Updates.{update_numbers, updates_in}
 use Rattle.buffers.specs.Wrote.{Wrote}
 use Rattle.buffers.specs.WroteLaws.{sets_onto}

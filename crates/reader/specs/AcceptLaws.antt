@@ -12,10 +12,10 @@ use Rattle.model.specs.Release.{end_record, head_record, superedge_record, u16}
 use Rattle.model.specs.Reading.{is_mark, u16_at, u16s}
 use Rattle.model.specs.Reading as reading
 use Rattle.model.specs.InOrder.{file_by, follows, group_fits, groups_fit, in_order, marked_record, members_fit, members_in, pair_key, superedges_fit}
-use Rattle.model.specs.TestLaws.{and_fst, and_snd, and_true}
-use Rattle.model.specs.ReleaseLaws.{length_superedge_records, length-u16s}
-use Rattle.model.specs.ReadingLaws.{u16s_back}
-use Rattle.model.specs.InOrderLaws.{in_order_parts, members_few}
+use Rattle.model.proofs.TestLaws.{and_fst, and_snd, and_true}
+use Rattle.model.proofs.ReleaseLaws.{length_superedge_records, length-u16s}
+use Rattle.model.proofs.ReadingLaws.{u16s_back}
+use Rattle.model.proofs.InOrderLaws.{in_order_parts, members_few}
 use Rattle.records.specs.declared.Counts.{Counts}
 use Rattle.records.specs.declared.Lessened.TheVariants.{Left}
 use Rattle.records.specs.declared.Record.TheVariants.{Head, Group, Superedge, End}

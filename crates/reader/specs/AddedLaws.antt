@@ -11,8 +11,8 @@ use borrow.Author.Tests.{eq-eqb, eqb-true, ltb-false, ltb-true, ne_eqb}
 use Rattle.model.specs.Graph.{max_nodes}
 use Rattle.model.specs.Reading.{has_pair}
 use Rattle.model.specs.InOrder.{follows, pair_key, superedges_fit}
-use Rattle.model.specs.TestLaws.{and_fst, and_snd, and_true, decide, differ, or_cases, or_left, or_right}
-use Rattle.model.specs.InOrderLaws.{pair_fits}
+use Rattle.model.proofs.TestLaws.{and_fst, and_snd, and_true, decide, differ, or_cases, or_left, or_right}
+use Rattle.model.proofs.InOrderLaws.{pair_fits}
 use Rattle.drawing.specs.Drawing.{one_bit, pair_bits}
 use Rattle.keys.specs.TotalLaws.{total_add, total_cong, total_none, total_one}
 use Rattle.sums.specs.Joined.{PairAdded, SumsAdded, SumsAdding, chosen_cubes, own_cubes, pair_cubes}

@@ -15,8 +15,8 @@ use Rattle.model.specs.Release.{end_record, head_record, superedge_record, u16}
 use Rattle.model.specs.Reading.{is_mark, u16_at, u16s}
 use Rattle.model.specs.Reading as reading
 use Rattle.model.specs.InOrder.{file_by, follows, group_fits, groups_fit, in_order, marked_record, members_fit, members_in, pair_key, superedges_fit, told_groups, told_superedges}
-use Rattle.model.specs.TestLaws.{and_fst, and_snd, and_true, decide, differ}
-use Rattle.model.specs.InOrderLaws.{file_count, file_told_groups, file_told_superedges}
+use Rattle.model.proofs.TestLaws.{and_fst, and_snd, and_true, decide, differ}
+use Rattle.model.proofs.InOrderLaws.{file_count, file_told_groups, file_told_superedges}
 use Rattle.records.specs.declared.Counts.{Counts}
 use Rattle.records.specs.declared.Lessened.{Lessened}
 use Rattle.records.specs.declared.Lessened.TheVariants.{Left, Over}

@@ -12,8 +12,8 @@ use Rattle.model.specs.Graph.{max_nodes}
 use Rattle.model.specs.Reading.{groups_at, is_mark, superedges_at, u16_at}
 use Rattle.model.specs.Reading as reading
 use Rattle.model.specs.InOrder.{follows, pair_key, told_groups, told_superedges}
-use Rattle.model.specs.TestLaws.{and_fst, and_snd, decide, differ}
-use Rattle.model.specs.InOrderLaws.{place_of}
+use Rattle.model.proofs.TestLaws.{and_fst, and_snd, decide, differ}
+use Rattle.model.proofs.InOrderLaws.{place_of}
 use Rattle.records.specs.declared.Counts.{Counts}
 use Rattle.records.specs.declared.Record.{Record}
 use Rattle.records.specs.declared.Record.TheVariants.{Head, Group, Superedge, End, Malformed}

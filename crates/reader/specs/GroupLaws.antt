@@ -16,7 +16,7 @@ use Rattle.model.specs.Graph.{max_classes, max_nodes}
 use Rattle.model.specs.Reading.{after_groups, groups_at, u16_at, u16s}
 use Rattle.model.specs.Reading as reading
 use Rattle.model.specs.InOrder.{members_at}
-use Rattle.model.specs.TestLaws.{decide, differ, and_fst, and_snd, or_cases, or_left}
+use Rattle.model.proofs.TestLaws.{decide, differ, and_fst, and_snd, or_cases, or_left}
 use Rattle.records.specs.declared.Counts.{Counts}
 use Rattle.records.specs.declared.Lessened.{Lessened}
 use Rattle.records.specs.declared.Lessened.TheVariants.{Left, Over}

@@ -10,7 +10,7 @@ use borrow.Author.Tests.{eqb-true, ltb-false, ltb-true}
 use Rattle.model.specs.Graph.{max_nodes, row_words}
 use Rattle.model.specs.Tables.{bit_at, edge_bit}
 use Rattle.model.specs.InOrder.{follows, pair_key}
-use Rattle.model.specs.TestLaws.{and_fst, and_snd, decide, differ, or_cases}
+use Rattle.model.proofs.TestLaws.{and_fst, and_snd, decide, differ, or_cases}
 use Rattle.records.specs.declared.Record.TheVariants.{Superedge}
 use Rattle.records.specs.Records.{item_in}
 use Rattle.drawing.specs.Drawing.{one_bit, pair_bits}

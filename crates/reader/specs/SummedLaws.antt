@@ -5,7 +5,7 @@ use Rattle.std.proofs.Common.{sym, ap, ap₂, ◌∙◌, arith}
 use Rattle.model.specs.Graph.{max_nodes}
 use Rattle.model.specs.Tables.{edge_bit}
 use Rattle.model.specs.InOrder.{follows, pair_key, superedges_fit}
-use Rattle.model.specs.TestLaws.{and_true}
+use Rattle.model.proofs.TestLaws.{and_true}
 use Rattle.drawing.specs.BitLaws.{added_only}
 use Rattle.keys.specs.TotalLaws.{total_cong}
 use Rattle.sums.specs.Joined.{chosen_cubes, own_cubes}

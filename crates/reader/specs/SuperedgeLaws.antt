@@ -9,7 +9,7 @@ use native.Mathlib.Omega.{arith}
 use Rattle.std.proofs.lemmas.Bool.{eqb-false}
 use Rattle.model.specs.Release.{u16_limit}
 use Rattle.model.specs.InOrder.{follows, pair_key}
-use Rattle.model.specs.TestLaws.{and_fst, and_snd, decide, differ, iff_eq}
+use Rattle.model.proofs.TestLaws.{and_fst, and_snd, decide, differ, iff_eq}
 use Rattle.records.specs.declared.Counts.{Counts}
 use Rattle.records.specs.declared.Record.{Record}
 use Rattle.records.specs.declared.Record.TheVariants.{Head, Group, Superedge, End, Malformed}

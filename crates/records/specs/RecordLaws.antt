@@ -9,7 +9,7 @@ use Rattle.std.proofs.Math.ListN.{get_or, length-drop}
 use Rattle.std.proofs.Math.Seq.{get_or-drop}
 use borrow.Author.Tests.{eq-eqb, eqb-true, ne_eqb, leb-true, le-leb, lt-leb, le-ltb, lt-ltb, ltb-false}
 use Rattle.model.specs.Reading.{is_mark, u16_at}
-use Rattle.model.specs.TestLaws.{and_fst, and_snd, and_true, decide, differ, iff_eq}
+use Rattle.model.proofs.TestLaws.{and_fst, and_snd, and_true, decide, differ, iff_eq}
 use Rattle.records.specs.declared.Counts.{Counts}
 use Rattle.records.specs.declared.Lessened.TheVariants.{Left, Over}
 use Rattle.records.specs.declared.Record.{Record}

@@ -15,8 +15,8 @@ use Rattle.model.specs.Reading.{decode, is_release}
 use Rattle.model.specs.Queries.{leader_in, neighbours}
 use Rattle.model.specs.Distance.{distance, unreachable, walk}
 use Rattle.model.specs.Calls.{fill_refused, read_reasons, read_call, file_distance_reasons, file_distance_call, file_neighbours_reasons, file_neighbours_call}
-use Rattle.model.specs.TestLaws.{and_fst, and_snd}
-use Rattle.model.specs.RefusalLaws.{call_refused, first_none}
+use Rattle.model.proofs.TestLaws.{and_fst, and_snd}
+use Rattle.model.proofs.RefusalLaws.{call_refused, first_none}
 use Rattle.reader.specs.declared.Decoded.{Decoded}
 use Rattle.reader.specs.declared.Decoded.TheVariants as answer
 use Rattle.rows.specs.Rows.{no_node}
@@ -24,7 +24,7 @@ use Rattle.compressed.specs.Compressed.{placed, unfolded, unfolded_edge}
 use Rattle.compressed.specs.PlacedLaws.{placed-visible}
 use Rattle.unfolding.specs.Unfolding.{NeighbourRow}
 use Rattle.queries.specs.Query.{Reaches, leader_at, listed, row_nodes, row_told}
-use Rattle.queries.specs.QueryLaws.{row-reached, row_told_lem}
+use Rattle.queries.proofs.QueryLaws.{row-reached, row_told_lem}
 use Rattle.tables.specs.Lent.{filled}
 use Rattle.reader.specs.Decoding.{is_few}
 use Rattle.sums.specs.Sums.{Cubed}

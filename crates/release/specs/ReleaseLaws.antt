@@ -9,7 +9,7 @@ use Rattle.model.specs.Tables.{Tables, graph_of, edge_bit, node_number, edges_in
 use Rattle.model.specs.Refusals.{Reasons, first_of}
 use Rattle.model.specs.Release.{is_visible, release, visible, visible_edge}
 use Rattle.model.specs.Calls.{released, release_reasons, release_refused, release_call}
-use Rattle.model.specs.TestLaws.{decide}
+use Rattle.model.proofs.TestLaws.{decide}
 use Rattle.buffers.specs.Filled.{Filled}
 use Rattle.tables.specs.Lent.{table_reasons, Held}
 use Rattle.tables.specs.LentLaws.{table_refused, table_rest, held_sized}
@@ -17,8 +17,8 @@ use Rattle.masking.specs.Masking.{Drawn, drawn}
 use Rattle.layout.specs.File.{Partition, written_file}
 use Rattle.layout.specs.Truth.{Truth}
 use Rattle.layout.specs.TruthLaws.{truth_partition, written_is}
-use Rattle.model.specs.ReadBackLaws.{visible_inside}
-use Rattle.model.specs.RefusalLaws.{call_done, call_refused}
+use Rattle.model.proofs.ReadBackLaws.{visible_inside}
+use Rattle.model.proofs.RefusalLaws.{call_done, call_refused}
 use Rattle.release.specs.Release.{told}
 
 -- the graph of edges, marks and classes, these in lists of their own, is that of the tables

@@ -5,7 +5,7 @@ use Rattle.std.proofs.Math.Decide.{ℕ_discrete}
 use Rattle.model.specs.Graph.{Graph, node_numbers, whole}
 use Rattle.model.specs.Grouping.{similar}
 use Rattle.model.specs.Tables.{node_number, nodes_of}
-use Rattle.model.specs.TableLaws.{least_at}
+use Rattle.model.proofs.TableLaws.{least_at}
 use Rattle.rings.specs.Ring.{Of, Parts}
 use Rattle.rings.specs.Steps.{Built, Follows, Leading, LeastAndLabels, Linked, LabelsKept, Rings, Stored}
 use Rattle.rings.specs.StoreLaws.{at, off, beside, size}

@@ -3,7 +3,7 @@ use Rattle.std.specs.Prelude.{◌≡◌, true, false, ◌⊎◌, List, ℕ, suc,
 use Rattle.std.proofs.Common.{sym, subst, ◌∙◌, ap, inl, inr, ⊎_elim, arith, le_antisymm, ltb-true, ltb-false}
 use Rattle.std.proofs.Math.Decide.{ℕ_discrete}
 use Rattle.model.specs.Tables.{node_number}
-use Rattle.model.specs.TestLaws.{decide}
+use Rattle.model.proofs.TestLaws.{decide}
 use Rattle.rings.specs.Ring.{up, Parts, Table}
 use Rattle.rings.specs.Steps.{Follows}
 use Rattle.rings.specs.RingLaws.{Way, inverse, over, round, up_circle, way}

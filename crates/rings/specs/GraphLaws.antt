@@ -16,12 +16,12 @@ use Rattle.model.specs.Graph.{Graph, Proper, node_numbers, whole}
 use Rattle.model.specs.Grouping.{leaders, least, similar}
 use Rattle.model.specs.Tables.{node_number, nodes_of}
 use Rattle.model.specs.Updates.{Update, answer, group_count, on_class, on_edge, on_mark, refusal, updated}
-use Rattle.model.specs.TestLaws.{decide}
-use Rattle.model.specs.ListLaws.{nodes_ascending}
-use Rattle.model.specs.SummaryLaws.{length_groups}
-use Rattle.model.specs.TableLaws.{class_at_lem, least_at, length-nodes_of, mark_at_lem, proper_simple}
-use Rattle.model.specs.BoundLaws.{SameAt, similar_cong, view_with}
-use Rattle.model.specs.UpdateLaws.{answer-accepted, apart, class_kept, classes_kept, edges_kept, marks_kept, proper_updated, same_at, u_inside, v_inside, wanted_bit}
+use Rattle.model.proofs.TestLaws.{decide}
+use Rattle.model.proofs.ListLaws.{nodes_ascending}
+use Rattle.model.proofs.SummaryLaws.{length_groups}
+use Rattle.model.proofs.TableLaws.{class_at_lem, least_at, length-nodes_of, mark_at_lem, proper_simple}
+use Rattle.model.proofs.BoundLaws.{SameAt, similar_cong, view_with}
+use Rattle.model.proofs.UpdateLaws.{answer-accepted, apart, class_kept, classes_kept, edges_kept, marks_kept, proper_updated, same_at, u_inside, v_inside, wanted_bit}
 use Rattle.rings.specs.Ring.{Table, Of}
 use Rattle.rings.specs.Steps.{Back, OthersLeft, Stored, Taken}
 use Rattle.rings.specs.StoreLaws.{at, beside, off, size}

@@ -10,10 +10,10 @@ use Rattle.model.specs.Lists.{◌∈◌, filter, head_or, last_or, nodes}
 use Rattle.model.specs.Graph.{Graph, Proper, node_numbers, whole}
 use Rattle.model.specs.Grouping.{group, least, similar}
 use Rattle.model.specs.Tables.{group_in, next_in, node_number, node_of, nodes_of, prev_in}
-use Rattle.model.specs.TestLaws.{decide}
-use Rattle.model.specs.ListLaws.{Ascending, filter_ascending, filter_elim, filter_intro, head_or_in, head_or-le, nodes_ascending, nodes_in_lem, nodes_out}
-use Rattle.model.specs.TwinLaws.{similar_refl, similar_sym, similar_trans}
-use Rattle.model.specs.TableLaws.{class_at_lem, length-nodes_of, mark_at_lem, number_at, proper_simple}
+use Rattle.model.proofs.TestLaws.{decide}
+use Rattle.model.proofs.ListLaws.{Ascending, filter_ascending, filter_elim, filter_intro, head_or_in, head_or-le, nodes_ascending, nodes_in_lem, nodes_out}
+use Rattle.model.proofs.TwinLaws.{similar_refl, similar_sym, similar_trans}
+use Rattle.model.proofs.TableLaws.{class_at_lem, length-nodes_of, mark_at_lem, number_at, proper_simple}
 use Rattle.rings.specs.Steps.{Labelled}
 use Rattle.rings.specs.Ring.{up, Parts, Best, Table, Of}
 use Rattle.rings.specs.RingLaws.{Circle, Way, over, reversed, round, up_circle, way}

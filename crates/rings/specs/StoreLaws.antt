@@ -4,7 +4,7 @@ use Rattle.std.proofs.Common.{sym, subst, ◌∙◌, inl, inr, arith, ltb-true, 
 use Rattle.std.proofs.Math.Decide.{ℕ_discrete, dec_lt}
 use Rattle.model.specs.Graph.{node_numbers}
 use Rattle.model.specs.Tables.{node_number}
-use Rattle.model.specs.TestLaws.{decide}
+use Rattle.model.proofs.TestLaws.{decide}
 use Rattle.rings.specs.Steps.{Before, lower, wrapped, Taken, Put, Sound, NewLeast, passes, none, Linked, Renamed, Stored, rising}
 
 module _ {q j v : ℕ} {t t' : List ℕ} (e : Stored q j v t t') where

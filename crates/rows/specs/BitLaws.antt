@@ -9,7 +9,7 @@ use Rattle.std.proofs.Math.Pow.{pow-lt}
 use mir.Val.{bool_byte}
 use Rattle.std.proofs.lemmas.Bool.{eqb-false}
 use Rattle.model.specs.Tables.{bit_at, edge_bit, word}
-use Rattle.model.specs.TestLaws.{and_fst, decide, iff_eq}
+use Rattle.model.proofs.TestLaws.{and_fst, decide, iff_eq}
 use Rattle.rows.specs.Rows.{Words, Flipped, Changed}
 
 -- `q >> 6` and `q & 63` are document 01's word q/64 and bit q mod 64, for every number, all of 16 bits among them

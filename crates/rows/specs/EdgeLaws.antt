@@ -9,9 +9,9 @@ use Rattle.model.specs.Lists.{nodes}
 use Rattle.model.specs.Graph.{Graph, Proper}
 use Rattle.model.specs.Tables.{bit_at, edge_bit, edges_of, row_of, word}
 use Rattle.model.specs.Updates.{Update, is_pair, on_edge, refusal, updated}
-use Rattle.model.specs.TestLaws.{and_fst, and_snd, decide, or_cases}
-use Rattle.model.specs.TableLaws.{edge_bit_lem, get_d_blocks, get_d_nodes, length_edges, length-nodes, length-row, row_at}
-use Rattle.model.specs.UpdateLaws.{edge_before}
+use Rattle.model.proofs.TestLaws.{and_fst, and_snd, decide, or_cases}
+use Rattle.model.proofs.TableLaws.{edge_bit_lem, get_d_blocks, get_d_nodes, length_edges, length-nodes, length-row, row_at}
+use Rattle.model.proofs.UpdateLaws.{edge_before}
 use Rattle.rows.specs.Rows.{Words, Changed}
 use Rattle.rows.specs.BitLaws.{word_bits, word_cong, word_lt}
 

@@ -9,10 +9,10 @@ use Rattle.model.specs.Graph.{Graph, Proper}
 use Rattle.model.specs.Grouping.{closed_key, cube, open_key, sum_cubes}
 use Rattle.model.specs.Tables.{key_pair, keys_of}
 use Rattle.model.specs.Updates.{Update, is_pair, on_edge, refusal, updated}
-use Rattle.model.specs.TestLaws.{decide}
-use Rattle.model.specs.ListLaws.{Ascending, nodes_ascending, nodes_in_lem}
-use Rattle.model.specs.TableLaws.{get_d_blocks, get_d_nodes, length_keys, length-nodes}
-use Rattle.model.specs.UpdateLaws.{apart, edge_before, rows_kept, u_inside, updated-count, v_inside}
+use Rattle.model.proofs.TestLaws.{decide}
+use Rattle.model.proofs.ListLaws.{Ascending, nodes_ascending, nodes_in_lem}
+use Rattle.model.proofs.TableLaws.{get_d_blocks, get_d_nodes, length_keys, length-nodes}
+use Rattle.model.proofs.UpdateLaws.{apart, edge_before, rows_kept, u_inside, updated-count, v_inside}
 use Rattle.rows.specs.Rows.{KeysChanged, KeysMoved, key_of, moved_key}
 use Rattle.rows.specs.EdgeLaws.{updated_edge}
 

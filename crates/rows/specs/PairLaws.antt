@@ -3,8 +3,8 @@ use Rattle.std.specs.Prelude.{◌≡◌, ℕ, ◌<◌, ◌≤◌, not, ◌≢◌
 use Rattle.std.proofs.Common.{sym, ◌∙◌}
 use borrow.Author.Tests.{eqb-false, eq-eqb, ne_eqb, ltb-true, lt-ltb, le-ltb, not-false}
 use Rattle.model.specs.Refusals.{first_of, pair_reasons}
-use Rattle.model.specs.RefusalLaws.{first_none}
-use Rattle.model.specs.TestLaws.{or_none}
+use Rattle.model.proofs.RefusalLaws.{first_none}
+use Rattle.model.proofs.TestLaws.{or_none}
 
 module _ (n u v : ℕ) where
   pub first_outside : n ≤ u → 14 ≡ first_of (pair_reasons n u v)

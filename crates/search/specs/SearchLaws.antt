@@ -12,9 +12,9 @@ use borrow.Author.Tests.{eqb-true, eqb-false, eq-eqb, ltb-false, ltb-true, ne_eq
 use Rattle.model.specs.Graph.{Graph, Proper, View, whole}
 use Rattle.model.specs.Grouping.{closed_key, false_twins, open_key, similar, true_twins}
 use Rattle.model.specs.Tables.{edge_bit, edges_in, edges_of, graph_in, key_pair, keys_of, node_number, row_of}
-use Rattle.model.specs.TestLaws.{and_fst, and_snd, and_true, decide, differ, iff_eq, or_left, or_none, or_right}
-use Rattle.model.specs.TwinLaws.{similar_N, similar_N+, similar_cases, similar_split}
-use Rattle.model.specs.TableLaws.{edges_in_lem, edge_bit_lem, length_edges, length_keys}
+use Rattle.model.proofs.TestLaws.{and_fst, and_snd, and_true, decide, differ, iff_eq, or_left, or_none, or_right}
+use Rattle.model.proofs.TwinLaws.{similar_N, similar_N+, similar_cases, similar_split}
+use Rattle.model.proofs.TableLaws.{edges_in_lem, edge_bit_lem, length_edges, length_keys}
 use Rattle.search.specs.Search.{Passed, Ready, Skipped, Within, classed, first_from, joins, key_agrees, keys_agree, may_join, meets, own_bit, own_bits, row_in, same_class, tried}
 use Rattle.search.specs.TwinRowLaws.{false_key, false_meet, keys_apart, meet_false, meet_true, true_key, true_meet}
 

@@ -12,10 +12,10 @@ use Rattle.model.specs.Lists.{filter, nodes}
 use Rattle.model.specs.Graph.{View, whole}
 use Rattle.model.specs.Grouping.{closed, cube, false_twins, sum_cubes, true_twins}
 use Rattle.model.specs.Tables.{bit_at, word, edges_in, graph_in}
-use Rattle.model.specs.TestLaws.{decide, differ, iff_eq, or_right}
-use Rattle.model.specs.ListLaws.{nodes_ascending, nodes_in_lem, nodes_out}
-use Rattle.model.specs.TwinLaws.{false_twins_at, false_twins_by, true_twins_at, true_twins_by}
-use Rattle.model.specs.TableLaws.{bit_at-word}
+use Rattle.model.proofs.TestLaws.{decide, differ, iff_eq, or_right}
+use Rattle.model.proofs.ListLaws.{nodes_ascending, nodes_in_lem, nodes_out}
+use Rattle.model.proofs.TwinLaws.{false_twins_at, false_twins_by, true_twins_at, true_twins_by}
+use Rattle.model.proofs.TableLaws.{bit_at-word}
 use Rattle.search.specs.Search.{Ready, key_agrees, own_bit, own_bits}
 use Rattle.rows.specs.BitLaws.{bit_pow, bit_xor_lem, bit_zero, word_bits, word_cong}
 use Rattle.rows.specs.EdgeLaws.{edges_at, edges_words}

@@ -7,8 +7,8 @@ use Rattle.std.proofs.Math.ListN.{get_or}
 use Rattle.model.specs.Graph.{Graph, node_numbers, row_words}
 use Rattle.model.specs.Tables.{Tables, edges_of, graph_in, graph_of, keys_of, tables_of}
 use Rattle.model.specs.Store.{node_word, node_words, state_graph}
-use Rattle.model.specs.TableLaws.{class_at_lem, length_edges, mark_at_lem}
-use Rattle.model.specs.StoreLaws.{length_words, word_at}
+use Rattle.model.proofs.TableLaws.{class_at_lem, length_edges, mark_at_lem}
+use Rattle.model.proofs.StoreLaws.{length_words, word_at}
 use Rattle.buffers.specs.Filled.{Filled}
 use Rattle.buffers.specs.FilledLaws.{filled_is}
 use Rattle.rows.specs.Rows.{lent}

@@ -1,4 +1,2 @@
 pub mod Judging
-pub mod JudgeLaws
 pub mod Stored
-pub mod StoredLaws

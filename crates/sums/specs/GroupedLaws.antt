@@ -7,7 +7,7 @@ use borrow.Author.Tests.{eq-eqb, eqb-false, eqb-true, ne_eqb}
 use Rattle.model.specs.Graph.{whole}
 use Rattle.model.specs.Grouping.{cube, open_key}
 use Rattle.model.specs.Tables.{edge_bit, keys_of}
-use Rattle.model.specs.TestLaws.{decide}
+use Rattle.model.proofs.TestLaws.{decide}
 use Rattle.rows.specs.Rows.{moved_key}
 use Rattle.keys.specs.Totals.{sum_of, sum_to}
 use Rattle.keys.specs.TotalLaws.{total_add, total_cong, total_cubes, total_mod, total_none, total_one, total_set, total_swap}

@@ -5,7 +5,7 @@ use Rattle.std.proofs.Common.{sym, subst, ◌∙◌, inl, inr, arith, length-set
 use Rattle.std.proofs.lemmas.List.{length-replicate, get_or-replicate}
 use Rattle.std.proofs.lemmas.Bool.{eqb-false}
 use Rattle.model.specs.Grouping.{cube}
-use Rattle.model.specs.TestLaws.{decide}
+use Rattle.model.proofs.TestLaws.{decide}
 use Rattle.rows.specs.KeyLaws.{moved_out}
 use Rattle.keys.specs.Totals.{sum_to}
 use Rattle.compressed.specs.Compressed.{placed}

@@ -8,9 +8,9 @@ use Rattle.std.specs.Int.Bits.{bit_and, bit_xor}
 use Rattle.std.proofs.lemmas.Nat.{shl-shr}
 use Rattle.model.specs.Lists.{all, from, nodes}
 use Rattle.model.specs.Tables.{bit_at}
-use Rattle.model.specs.TestLaws.{and_fst, and_snd, beq_eq, decide}
-use Rattle.model.specs.TableLaws.{bit_at-word}
-use Rattle.model.specs.ListLaws.{all_elim, nodes_in_lem}
+use Rattle.model.proofs.TestLaws.{and_fst, and_snd, beq_eq, decide}
+use Rattle.model.proofs.TableLaws.{bit_at-word}
+use Rattle.model.proofs.ListLaws.{all_elim, nodes_in_lem}
 use Rattle.buffers.specs.WordBitsLaws.{bit_below}
 use Rattle.rows.specs.BitLaws.{bit_and_lem, bit_xor_lem, word_bits, xor_off}
 use Rattle.symmetry.specs.Symmetry.{Crossed, Exchanged, HalvesCrossed, Zeros, with_digits, with_digit}

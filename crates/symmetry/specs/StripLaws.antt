@@ -8,7 +8,7 @@ use Rattle.std.proofs.Math.ListN.{get_or-eq_default}
 use Rattle.std.proofs.lemmas.Bool.{eqb-false}
 use Rattle.model.specs.Graph.{row_words}
 use Rattle.model.specs.Tables.{bit_at, edge_bit}
-use Rattle.model.specs.TestLaws.{decide}
+use Rattle.model.proofs.TestLaws.{decide}
 use Rattle.buffers.specs.FilledLaws.{get_d_zeros}
 use Rattle.buffers.specs.StoreLaws.{stored}
 use Rattle.rows.specs.BitLaws.{word-bit}

@@ -11,8 +11,8 @@ use Rattle.std.proofs.lemmas.Bool.{eqb-false}
 use Rattle.model.specs.Lists.{all, nodes}
 use Rattle.model.specs.Graph.{row_words}
 use Rattle.model.specs.Tables.{bit_at, edge_bit}
-use Rattle.model.specs.TestLaws.{beq_eq, decide, differ, eq_beq}
-use Rattle.model.specs.ListLaws.{all_elim, all_intro, nodes_in_lem, nodes_out}
+use Rattle.model.proofs.TestLaws.{beq_eq, decide, differ, eq_beq}
+use Rattle.model.proofs.ListLaws.{all_elim, all_intro, nodes_in_lem, nodes_out}
 use Rattle.rows.specs.BitLaws.{bit_zero, word-bit}
 use Rattle.search.specs.TwinRowLaws.{words_eq}
 use Rattle.symmetry.specs.Symmetry.{Even, Gathered, Inside, InsideTo, Tells, symmetric}

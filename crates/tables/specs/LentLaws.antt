@@ -7,9 +7,9 @@ use Rattle.std.proofs.Math.ListN.{length}
 use Rattle.std.proofs.lemmas.Bool.{not-true, not-false}
 use Rattle.model.specs.Tables.{Tables, graph_of, holds, tables_of}
 use Rattle.model.specs.Refusals.{Lengths, Reasons, first_of, lengths, wrong_size}
-use Rattle.model.specs.TableLaws.{held_proper, held_tables, length_edges, length_keys, length-nodes_of}
-use Rattle.model.specs.HistoryLaws.{right_size}
-use Rattle.model.specs.RefusalLaws.{first_none}
+use Rattle.model.proofs.TableLaws.{held_proper, held_tables, length_edges, length_keys, length-nodes_of}
+use Rattle.model.proofs.HistoryLaws.{right_size}
+use Rattle.model.proofs.RefusalLaws.{first_none}
 use Rattle.tables.specs.Lent.{Held, Sized, lent_reasons, table_reasons}
 
 -- the sizes that are then right

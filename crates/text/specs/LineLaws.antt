@@ -6,7 +6,7 @@ use Rattle.std.proofs.Math.Dec.{eqb-suc-suc}
 use borrow.Author.Tests.{leb-true, ltb-false, ltb-true, ne_eqb}
 use Rattle.model.specs.Lists.{all, same_list}
 use Rattle.model.specs.Program.{Line as ModelLine, edge_line, field, ill_formed, is_number, line_of, mark_line, pieces, text}
-use Rattle.model.specs.TestLaws.{and_fst, and_one, and_snd, decide}
+use Rattle.model.proofs.TestLaws.{and_fst, and_one, and_snd, decide}
 use Rattle.text.specs.declared.Line.{Line}
 use Rattle.text.specs.declared.Line.TheVariants.{NoChange}
 use Rattle.text.specs.declared.Number.{Number}

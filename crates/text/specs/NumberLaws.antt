@@ -4,7 +4,7 @@ use Rattle.std.proofs.Common.{sym, ap, ◌∙◌, inl, inr, add-one, arith, drop
 use Rattle.std.proofs.lemmas.Bool.{lt-leb}
 use Rattle.model.specs.Lists.{all, head_or}
 use Rattle.model.specs.Program.{is_number, value_of}
-use Rattle.model.specs.TestLaws.{and_fst, and_snd, decide}
+use Rattle.model.proofs.TestLaws.{and_fst, and_snd, decide}
 use Rattle.text.specs.declared.Number.TheVariants.{Value, NoNumber}
 use Rattle.text.specs.Grammar.{digit_of, number_of, shape}
 

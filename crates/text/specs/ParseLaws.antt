@@ -7,7 +7,7 @@ use Rattle.std.proofs.lemmas.List.Edits.{sets, sets-eq}
 use Rattle.std.proofs.lemmas.Bool.{lt-leb}
 use Rattle.model.specs.Graph.{max_nodes, max_updates}
 use Rattle.model.specs.Program.{Input, Line as ModelLine, accepted, change, first_line, ill_formed, input_of, is_count, is_none, is_number, line_of, lines_from, max_bytes, pieces, refused_at, value_of, with_line, with_update}
-use Rattle.model.specs.TestLaws.{decide}
+use Rattle.model.proofs.TestLaws.{decide}
 use Rattle.model.specs.Updates.{Update, update_numbers, updates_in}
 use Rattle.buffers.specs.Wrote.{Wrote}
 use Rattle.buffers.specs.WroteLaws.{wrote_then}

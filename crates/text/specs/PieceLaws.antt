@@ -3,7 +3,7 @@ use Rattle.std.specs.Prelude.{◌≡◌, true, false, cond, List, [], ◌∷◌,
 use Rattle.std.proofs.Math.Path.{refl}
 use Rattle.std.proofs.Common.{inl, inr, add-one, arith, drop_of_length-le, drop-cons, eq-eqb, ltb-false, ltb-true, ne_eqb}
 use Rattle.model.specs.Program.{before, is_none, pieces}
-use Rattle.model.specs.TestLaws.{decide}
+use Rattle.model.proofs.TestLaws.{decide}
 use Rattle.text.specs.Grammar.{up_to}
 
 -- what is found so far

@@ -10,7 +10,7 @@ use Rattle.std.proofs.Math.Dec.{eqb, ltb}
 use Rattle.std.proofs.Math.ListN.{get_or}
 use borrow.Author.Tests.{eqb-false, eqb-true, eq-eqb, le-ltb, lt-ltb, ltb-false, ltb-true, ne_eqb}
 use Rattle.model.specs.Tables.{bit_at, edge_bit}
-use Rattle.model.specs.TestLaws.{and_fst, and_one, and_snd, decide, differ}
+use Rattle.model.proofs.TestLaws.{and_fst, and_one, and_snd, decide, differ}
 use Rattle.rows.specs.BitLaws.{bit_zero, row-bit, word-bit}
 use Rattle.buffers.specs.WordBitsLaws.{cleared_here, cleared_off, lowest_set, lowest_small}
 use Rattle.drawing.specs.Drawing.{Added, Adding, one_bit, row_to}

@@ -10,7 +10,7 @@ use Rattle.std.proofs.Math.ListN.{get_or, length}
 use Rattle.std.proofs.Math.Seq.{get_or-take, length-take-le}
 use borrow.Author.Tests.{eqb-false, eqb-true, eq-eqb, le-ltb, lt-ltb, ltb-false, ltb-true, ne_eqb}
 use Rattle.model.specs.Tables.{bit_at, edge_bit, edges_of}
-use Rattle.model.specs.TestLaws.{decide, differ}
+use Rattle.model.proofs.TestLaws.{decide, differ}
 use Rattle.rows.specs.BitLaws.{xor_cond}
 use Rattle.rows.specs.EdgeLaws.{edges_by_bits}
 use Rattle.rows.specs.Rows.{Flipped, Words, leads}

@@ -10,7 +10,7 @@ use Rattle.std.proofs.Math.Dec.{eqb}
 use mir.Val.{bool_byte}
 use borrow.Author.Tests.{eqb-false, eqb-true, eq-eqb, le-ltb, lt-ltb, ltb-true, ne_eqb}
 use Rattle.model.specs.Tables.{bit_at, edge_bit}
-use Rattle.model.specs.TestLaws.{and_fst, and_one, decide, differ, iff_eq}
+use Rattle.model.proofs.TestLaws.{and_fst, and_one, decide, differ, iff_eq}
 use Rattle.rows.specs.BitLaws.{bit_pow, bit_zero, bool_number, flipped_at, one_shl, row-bit}
 use Rattle.buffers.specs.StoreLaws.{stored, stored-size}
 use Rattle.search.specs.Search.{own_bit}

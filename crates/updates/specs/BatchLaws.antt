@@ -10,8 +10,8 @@ use Rattle.model.specs.Tables.{Tables, tables_of, graph_of}
 use Rattle.model.specs.Updates.{Update, answers, batch_graph, update, update_count, update_numbers, updates_in, wrong_batch}
 use Rattle.model.specs.Steps.{run}
 use Rattle.model.specs.Calls.{onto}
-use Rattle.model.specs.TestLaws.{decide, or_none}
-use Rattle.model.specs.UpdateLaws.{answers_next, batch_next, proper_stepped, updates_next}
+use Rattle.model.proofs.TestLaws.{decide, or_none}
+use Rattle.model.proofs.UpdateLaws.{answers_next, batch_next, proper_stepped, updates_next}
 use Rattle.groups.specs.ChangeLaws.{tables_read}
 use Rattle.groups.specs.Groups.{change}
 use Rattle.tables.specs.Lent.{Held}

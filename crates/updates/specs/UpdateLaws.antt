@@ -11,7 +11,7 @@ use Rattle.model.specs.Release.{u16_limit}
 use Rattle.model.specs.Tables.{Tables, tables_of, graph_of, edge_bit, node_number, edges_in, edges_of, row_of, keys_of, key_pair}
 use Rattle.model.specs.Refusals.{first_of, pair_reasons}
 use Rattle.model.specs.Updates.{Update, update_reasons, refusal, updated, answer, update}
-use Rattle.model.specs.UpdateLaws.{class_below, class_zero, mark_answer, refusal_below, u_inside, update-accepted, update_refused_lem as model-refused}
+use Rattle.model.proofs.UpdateLaws.{class_below, class_zero, mark_answer, refusal_below, u_inside, update-accepted, update_refused_lem as model-refused}
 use Rattle.model.specs.Steps.{Stepped}
 use Rattle.rings.specs.GraphLaws.{mark_nodes}
 use Rattle.rows.specs.BitLaws.{bool_number}

@@ -1,7 +1,7 @@
 -- A member; a leader with keys of its own in its class; or what the search finds.
 use Rattle.std.proofs.Common.{sym, refl, ◌∙◌, arith, rules}
 use borrow.Author.Tests.{not-true}
-use Rattle.model.specs.TestLaws.{or_none}
+use Rattle.model.proofs.TestLaws.{or_none}
 use Rattle.search.specs.SearchLaws.{ready_keys}
 use Rattle.checks.specs.SlotLaws.{alone_fresh, class_place, even_place, seen_leader, seen_member, seen_new}
 use Rattle.checks.specs.StepLaws.{alone_leader, alone-member}

@@ -1,7 +1,7 @@
 -- `grouping::is_apart` meets its contract.
 -- A node that leads no group, an open row met, and what the closed rows tell.
 use Rattle.std.proofs.Common.{refl, arith, rules}
-use Rattle.model.specs.TestLaws.{differ}
+use Rattle.model.proofs.TestLaws.{differ}
 use Rattle.grouping.specs.ChainLaws.{classed_slot_lem, moved_small}
 use Rattle.grouping.specs.SlotLaws.{slots_tell, small_group_slot}
 use Rattle.grouping.specs.PartedLaws.{apart-member, apart_refuted, apart-told, parted_leader, parted_member}

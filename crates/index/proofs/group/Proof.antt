@@ -1,5 +1,5 @@
 use native.Mathlib.Omega.{arith}
-use Rattle.queries.specs.QueryLaws.{scan_small}
+use Rattle.queries.proofs.QueryLaws.{scan_small}
 use Rattle.index.specs.IndexLaws.{group_table, group_outside, group_ends, group_done}
 use Rattle.tables.specs.LentLaws.{table_sized}
 use borrow.Author.Rules.{rules}

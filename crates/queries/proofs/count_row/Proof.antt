@@ -6,7 +6,7 @@ use lib.ListN.{get_or, length}
 use Rattle.buffers.specs.Scan.{scan, Counting}
 use Rattle.buffers.specs.ScanLaws.{counting_start, counting_done}
 use Rattle.model.specs.Tables.{edge_bit}
-use Rattle.queries.specs.QueryLaws.{row_counted}
+use Rattle.queries.proofs.QueryLaws.{row_counted}
 use Rattle.queries.proofs.count_row.Statement.{statement}
 use Rattle.queries.proofs.count_row.Tie as tie
 

@@ -5,7 +5,7 @@ use lib.ListN.{length}
 use Rattle.buffers.specs.Scan.{scan, Counting}
 use Rattle.buffers.specs.ScanLaws.{counting_start, counting_yes, counting_no, counting_done}
 use Rattle.queries.specs.Query.{led_by}
-use Rattle.queries.specs.QueryLaws.{led_yes, led_no}
+use Rattle.queries.proofs.QueryLaws.{led_yes, led_no}
 use Rattle.queries.proofs.group_size.Statement.{statement}
 use Rattle.queries.proofs.group_size.Tie as tie
 use Rattle.queries.proofs.group_size.Reads as reads

@@ -1,5 +1,5 @@
 use mathlib.Core.Path.{sym, ◌∙◌}
-use Rattle.queries.specs.QueryLaws.{kind_single, kind_clique, kind_independent}
+use Rattle.queries.proofs.QueryLaws.{kind_single, kind_clique, kind_independent}
 use borrow.Author.Rules.{rules}
 use Rattle.queries.proofs.kind_of.Statement.{statement}
 use Rattle.queries.proofs.kind_of.Tie as tie

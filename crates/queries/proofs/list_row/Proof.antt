@@ -1,7 +1,7 @@
 -- `queries::list_row` meets its contract.
 use native.Mathlib.Omega.{arith}
 use borrow.Author.Rules.{rules}
-use Rattle.queries.specs.QueryLaws.{row_done, row_short, scan_small}
+use Rattle.queries.proofs.QueryLaws.{row_done, row_short, scan_small}
 use Rattle.queries.proofs.list_row.Statement.{statement}
 use Rattle.queries.proofs.list_row.Tie as tie
 

@@ -8,7 +8,7 @@ use Rattle.buffers.specs.WroteLaws.{left_done, left_start}
 use Rattle.model.specs.Tables.{edge_bit}
 use Rattle.model.specs.Queries.{pairs}
 use Rattle.queries.specs.Query.{Reaches, leader_at, row_nodes}
-use Rattle.queries.specs.QueryLaws.{pairs_none, row-reaches, row_room, row_written}
+use Rattle.queries.proofs.QueryLaws.{pairs_none, row-reaches, row_room, row_written}
 use Rattle.queries.proofs.write_row.Statement.{statement}
 use Rattle.queries.proofs.write_row.Tie as tie
 

@@ -9,7 +9,7 @@ use Rattle.buffers.specs.WordBitsLaws.{cleared_less, from_none, lowest_small}
 use Rattle.buffers.specs.Wrote.{Left}
 use Rattle.buffers.specs.WroteLaws.{left_done, left_start}
 use Rattle.queries.specs.Query.{Reaches, leader_at}
-use Rattle.queries.specs.QueryLaws.{bit-reaches, bit_room, bit-written, pairs_none}
+use Rattle.queries.proofs.QueryLaws.{bit-reaches, bit_room, bit-written, pairs_none}
 use Rattle.queries.proofs.write_word.Statement.{statement}
 use Rattle.queries.proofs.write_word.Tie as tie
 

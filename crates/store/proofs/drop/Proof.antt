@@ -1,7 +1,7 @@
 -- `store::drop` meets its contract.
 use native.Mathlib.Omega.{arith}
-use Rattle.model.specs.StoreLaws.{name-length}
-use Rattle.store.specs.StoredLaws.{drop_done, drop-judged, drop_refused, drop_unknown, found_below}
+use Rattle.model.proofs.StoreLaws.{name-length}
+use Rattle.store.proofs.StoredLaws.{drop_done, drop-judged, drop_refused, drop_unknown, found_below}
 use borrow.Author.Rules.{rules}
 use Rattle.store.proofs.drop.Statement.{statement}
 use Rattle.store.proofs.drop.Tie as tie

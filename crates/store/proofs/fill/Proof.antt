@@ -2,7 +2,7 @@
 use mathlib.Core.Path.{ap, ◌∙◌}
 use native.Mathlib.Omega.{arith}
 use Rattle.model.specs.Tables.{tables_of}
-use Rattle.store.specs.JudgeLaws.{parts_graph, parts_state}
+use Rattle.store.proofs.JudgeLaws.{parts_graph, parts_state}
 use borrow.Author.Rules.{rules}
 use Rattle.store.proofs.fill.Statement.{statement}
 use Rattle.store.proofs.fill.Tie as tie

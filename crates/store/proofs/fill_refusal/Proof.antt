@@ -1,6 +1,6 @@
 -- `store::fill_refusal` meets its contract.
 use borrow.Author.Tests.{not-true, not-false}
-use Rattle.store.specs.StoredLaws.{fill_size, fill_store}
+use Rattle.store.proofs.StoredLaws.{fill_size, fill_store}
 use borrow.Author.Rules.{rules}
 use Rattle.store.proofs.fill_refusal.Statement.{statement}
 use Rattle.store.proofs.fill_refusal.Tie as tie

@@ -1,7 +1,7 @@
 -- `store::is_named` meets its contract.
 use native.Mathlib.Omega.{arith}
 use borrow.Author.Tests.{not-true, not-false}
-use Rattle.store.specs.StoredLaws.{name-length, store_wrong}
+use Rattle.store.proofs.StoredLaws.{name-length, store_wrong}
 use borrow.Author.Rules.{rules}
 use Rattle.store.proofs.is_named.Statement.{statement}
 use Rattle.store.proofs.is_named.Tie as tie

@@ -1,8 +1,8 @@
 -- `store::keep` meets its contract.
 use native.Mathlib.Omega.{arith}
-use Rattle.model.specs.StoreLaws.{name-length}
+use Rattle.model.proofs.StoreLaws.{name-length}
 use Rattle.tables.specs.LentLaws.{held_sized}
-use Rattle.store.specs.StoredLaws.{free_below, keep_done, keep_full, keep_judged, keep_refused, keep_twice}
+use Rattle.store.proofs.StoredLaws.{free_below, keep_done, keep_full, keep_judged, keep_refused, keep_twice}
 use borrow.Author.Rules.{rules}
 use Rattle.store.proofs.keep.Statement.{statement}
 use Rattle.store.proofs.keep.Tie as tie

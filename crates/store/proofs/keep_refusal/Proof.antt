@@ -1,6 +1,6 @@
 -- `store::keep_refusal` meets its contract.
 use borrow.Author.Tests.{not-true, not-false}
-use Rattle.store.specs.StoredLaws.{keep_held, keep_name, keep_none, keep_table, named_by}
+use Rattle.store.proofs.StoredLaws.{keep_held, keep_name, keep_none, keep_table, named_by}
 use borrow.Author.Rules.{rules}
 use Rattle.store.proofs.keep_refusal.Statement.{statement}
 use Rattle.store.proofs.keep_refusal.Tie as tie

@@ -1,7 +1,7 @@
 -- `store::refusal` meets its contract.
 use borrow.Author.Tests.{not-true, not-false}
 use Rattle.tables.specs.LentLaws.{all_held, none_held, size_wrong}
-use Rattle.store.specs.StoredLaws.{named_by}
+use Rattle.store.proofs.StoredLaws.{named_by}
 use borrow.Author.Rules.{rules}
 use Rattle.store.proofs.refusal.Statement.{statement}
 use Rattle.store.proofs.refusal.Tie as tie

@@ -5,9 +5,9 @@ use Prim.Native.Nat.{ℕ}
 use native.Mathlib.Omega.{arith}
 use Rattle.model.specs.Tables.{tables_of}
 use Rattle.model.specs.Store.{graph_at, place_in}
-use Rattle.model.specs.StoreLaws.{name-length}
+use Rattle.model.proofs.StoreLaws.{name-length}
 use Rattle.places.specs.StepLaws.{part_ends, part_words, word_inside}
-use Rattle.store.specs.StoredLaws.{found_below, place_ready, restore_done, restore_judged, restore_refused, restore_unknown}
+use Rattle.store.proofs.StoredLaws.{found_below, place_ready, restore_done, restore_judged, restore_refused, restore_unknown}
 use borrow.Author.Rules.{rules}
 use Rattle.store.proofs.restore.Statement.{statement}
 use Rattle.store.proofs.restore.Tie as tie

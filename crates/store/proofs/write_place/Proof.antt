@@ -1,5 +1,5 @@
 -- `store::write_place` meets its contract.
-use Rattle.store.specs.StoredLaws.{place_written}
+use Rattle.store.proofs.StoredLaws.{place_written}
 use borrow.Author.Rules.{rules}
 use Rattle.store.proofs.write_place.Statement.{statement}
 use Rattle.store.proofs.write_place.Tie as tie

@@ -2,7 +2,7 @@
 use Rattle.std.proofs.Common.{arith}
 use Rattle.buffers.specs.AllLaws.{failed, passed}
 use Rattle.symmetry.specs.Symmetry.{symmetric}
-use Rattle.model.specs.TestLaws.{and_fst, and_snd}
+use Rattle.model.proofs.TestLaws.{and_fst, and_snd}
 use Rattle.checks.specs.DenseLaws.{asymmetric}
 use Rattle.checks.proofs.dense.rows_hold.Statement.{statement}
 use Rattle.checks.proofs.dense.rows_hold.Tie as tie

@@ -1,7 +1,7 @@
 -- `store::soundness::is_store` meets its contract.
 use native.Mathlib.Omega.{arith}
 use Rattle.buffers.specs.AllLaws.{failed, passed}
-use Rattle.store.specs.JudgeLaws.{count_wrong, names_tell, place_fails}
+use Rattle.store.proofs.JudgeLaws.{count_wrong, names_tell, place_fails}
 use borrow.Author.Rules.{rules}
 use Rattle.store.proofs.soundness.is_store.Statement.{statement}
 use Rattle.store.proofs.soundness.is_store.Tie as tie

@@ -2,7 +2,7 @@
 use mathlib.Core.Path.{◌∙◌}
 use native.Mathlib.Omega.{arith}
 use Rattle.buffers.specs.UnionLaws.{is_none}
-use Rattle.store.specs.JudgeLaws.{free_holds, other_fails, used_parts}
+use Rattle.store.proofs.JudgeLaws.{free_holds, other_fails, used_parts}
 use borrow.Author.Rules.{rules}
 use Rattle.store.proofs.soundness.place_holds.Statement.{statement}
 use Rattle.store.proofs.soundness.place_holds.Tie as tie

@@ -9,7 +9,7 @@ use Rattle.model.specs.Store.{max_states, words_at}
 use Rattle.buffers.specs.AllLaws.{all_fail, all_pass_lem, failed, passed}
 use Rattle.places.specs.StepLaws.{part_ends, part_size, part_width, word_inside}
 use Rattle.store.specs.Judging.{place_holds}
-use Rattle.store.specs.JudgeLaws.{part_holds}
+use Rattle.store.proofs.JudgeLaws.{part_holds}
 use Rattle.store.proofs.soundness.places_hold.Statement.{statement}
 use Rattle.store.proofs.soundness.places_hold.Tie as tie
 use Rattle.store.proofs.soundness.places_hold.Reads as reads

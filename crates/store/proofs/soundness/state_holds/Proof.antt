@@ -1,6 +1,6 @@
 -- `store::soundness::state_holds` meets its contract.
 use Rattle.buffers.specs.AllLaws.{failed, passed}
-use Rattle.store.specs.JudgeLaws.{edges_fail, words_tell}
+use Rattle.store.proofs.JudgeLaws.{edges_fail, words_tell}
 use borrow.Author.Rules.{rules}
 use Rattle.store.proofs.soundness.state_holds.Statement.{statement}
 use Rattle.store.proofs.soundness.state_holds.Tie as tie

@@ -11,9 +11,9 @@ use Rattle.model.specs.Steps.{run}
 use Rattle.model.specs.Updates.{LeavesClasses, RevealsNobody, Update, answers, asked, batch_graph, is_frozen, is_pair, on_class, on_edge, on_mark, refusal, refusal_in, update, update_reasons, update_refused, updated}
 use Rattle.model.specs.Release.{is_visible}
 use Rattle.model.specs.History.{Alike, SameHidden}
-use Rattle.model.specs.TestLaws.{and_fst, and_snd, and_true, decide, differ, fails, or_none}
-use Rattle.model.specs.RefusalLaws.{first_same, judged_related}
-use Rattle.model.specs.UpdateLaws.{answer-told, below_u, below_v, not_frozen, proper_stepped, update_cases}
+use Rattle.model.proofs.TestLaws.{and_fst, and_snd, and_true, decide, differ, fails, or_none}
+use Rattle.model.proofs.RefusalLaws.{first_same, judged_related}
+use Rattle.model.proofs.UpdateLaws.{answer-told, below_u, below_v, not_frozen, proper_stepped, update_cases}
 
 -- on graphs with equally many nodes and the same ones hidden
 module _ (a b : Graph) (h : SameHidden a b) (c : Update) where

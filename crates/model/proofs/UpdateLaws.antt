@@ -13,12 +13,12 @@ use Rattle.model.specs.Grouping.{algorithm1}
 use Rattle.model.specs.Refusals.{first_of}
 use Rattle.model.specs.Lists.{all, nodes}
 use Rattle.model.specs.Steps.{Stepped, run}
-use Rattle.model.specs.TestLaws.{and_fst, and_snd, decide, differ, or_cases, or_none}
-use Rattle.model.specs.RefusalLaws.{first_none, first_passes, judged_done, judged_refused, judged_related}
-use Rattle.model.specs.StepLaws.{run_keeps, run_length}
-use Rattle.model.specs.ListLaws.{nodes_ascending}
-use Rattle.model.specs.TableLaws.{proper_simple}
-use Rattle.model.specs.BoundLaws.{SameAt, at_most_one, at_most_two, view_with}
+use Rattle.model.proofs.TestLaws.{and_fst, and_snd, decide, differ, or_cases, or_none}
+use Rattle.model.proofs.RefusalLaws.{first_none, first_passes, judged_done, judged_refused, judged_related}
+use Rattle.model.proofs.StepLaws.{run_keeps, run_length}
+use Rattle.model.proofs.ListLaws.{nodes_ascending}
+use Rattle.model.proofs.TableLaws.{proper_simple}
+use Rattle.model.proofs.BoundLaws.{SameAt, at_most_one, at_most_two, view_with}
 
 pub proper_empty : (n : ℕ) → n ≤ max_nodes → Proper (empty_graph n)
 unfolding empty_graph

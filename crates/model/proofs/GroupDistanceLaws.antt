@@ -10,9 +10,9 @@ use Rattle.model.specs.Lists.{◌∈◌, nodes}
 use Rattle.model.specs.Graph.{View}
 use Rattle.model.specs.Summary.{Summarises, Summary, groups_of, reconstruct}
 use Rattle.model.specs.Distance.{Shortest, distance, distance_by, is_joined, unreachable, walk}
-use Rattle.model.specs.TestLaws.{and_fst, and_snd, and_true, decide, differ, fails}
-use Rattle.model.specs.ListLaws.{any_elim, any_intro, nodes_in_lem, nodes_out}
-use Rattle.model.specs.DistanceLaws.{walk_by, walk_step, distance_shortest, no_walk, shortest_distance}
+use Rattle.model.proofs.TestLaws.{and_fst, and_snd, and_true, decide, differ, fails}
+use Rattle.model.proofs.ListLaws.{any_elim, any_intro, nodes_in_lem, nodes_out}
+use Rattle.model.proofs.DistanceLaws.{walk_by, walk_step, distance_shortest, no_walk, shortest_distance}
 
 -- d unfolds to what is seen; a group without a member may be counted, but has no superedge
 pub record Unfolds (v : View) (d : Summary) : Type 0 where

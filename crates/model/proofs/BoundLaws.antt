@@ -8,11 +8,11 @@ use borrow.Author.Tests.{eqb-true, eqb-false, ne_eqb, not-true}
 use Rattle.model.specs.Lists.{◌∈◌, filter}
 use Rattle.model.specs.Graph.{View}
 use Rattle.model.specs.Grouping.{algorithm1, closed, false_twins, leaders, least, similar, true_twins}
-use Rattle.model.specs.TestLaws.{decide}
-use Rattle.model.specs.ListLaws.{Ascending, all_cong, filter_ascending, filter_elim, pigeonhole, without}
-use Rattle.model.specs.TwinLaws.{Simple, similar_sym, similar_trans}
-use Rattle.model.specs.ClassLaws.{leader_out, leaders-apart, leaders_ascending, least_in, least-leads, least_rel}
-use Rattle.model.specs.SummaryLaws.{equivalence, length_groups}
+use Rattle.model.proofs.TestLaws.{decide}
+use Rattle.model.proofs.ListLaws.{Ascending, all_cong, filter_ascending, filter_elim, pigeonhole, without}
+use Rattle.model.proofs.TwinLaws.{Simple, similar_sym, similar_trans}
+use Rattle.model.proofs.ClassLaws.{leader_out, leaders-apart, leaders_ascending, least_in, least-leads, least_rel}
+use Rattle.model.proofs.SummaryLaws.{equivalence, length_groups}
 
 none_gone : (x : ℕ) (l : List ℕ) → (x ∈ l → ⊥) → length (without x l) ≡ length l
 unfolding filter

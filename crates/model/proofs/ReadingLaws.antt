@@ -14,13 +14,13 @@ use Rattle.model.specs.Grouping.{Kind, adjacent, algorithm1, clique, group, inde
 use Rattle.model.specs.Summary.{Summarises, Summary, position, reconstruct, summary_of}
 use Rattle.model.specs.Release.{encode, end_record, group_record, head_record, kind_byte, superedge_record, superedges, superedges_from, u16}
 use Rattle.model.specs.Reading.{Head, after_groups, groups_at, has_pair, is_mark, summary_by, summary_in, superedges_at, u16_at, u16s}
-use Rattle.model.specs.TestLaws.{and_one, decide, differ, iff_eq}
-use Rattle.model.specs.ListLaws.{Ascending, map_out, member_elim, member_intro}
-use Rattle.model.specs.TwinLaws.{Simple, similar_sym}
-use Rattle.model.specs.ClassLaws.{group_out}
-use Rattle.model.specs.SummaryLaws.{adjacent_law, algorithm1-classes, algorithm1_summarises, clique_law, position_class, position-group, position_in, position-similar}
-use Rattle.model.specs.ReleaseLaws.{length-encode, length-u16s}
-use Rattle.model.specs.UpdateLaws.{apart}
+use Rattle.model.proofs.TestLaws.{and_one, decide, differ, iff_eq}
+use Rattle.model.proofs.ListLaws.{Ascending, map_out, member_elim, member_intro}
+use Rattle.model.proofs.TwinLaws.{Simple, similar_sym}
+use Rattle.model.proofs.ClassLaws.{group_out}
+use Rattle.model.proofs.SummaryLaws.{adjacent_law, algorithm1-classes, algorithm1_summarises, clique_law, position_class, position-group, position_in, position-similar}
+use Rattle.model.proofs.ReleaseLaws.{length-encode, length-u16s}
+use Rattle.model.proofs.UpdateLaws.{apart}
 
 u16_at-u16 : (x : ℕ) (r : List ℕ) → u16_at (u16 x ++ r) 0 ≡ x
 unfolding u16_at u16

@@ -9,14 +9,14 @@ use Rattle.model.specs.Lists.{◌∈◌, nodes}
 use Rattle.model.specs.Graph.{Graph, Proper, whole}
 use Rattle.model.specs.Grouping.{closed, false_twins, least, similar, true_twins}
 use Rattle.model.specs.Release.{is_visible, visible, visible_class, visible_edge}
-use Rattle.model.specs.TestLaws.{decide, differ, iff_eq}
-use Rattle.model.specs.ListLaws.{Ascending, filter_elim, filter_intro, nodes_ascending, nodes_in_lem, nodes_out}
-use Rattle.model.specs.TwinLaws.{Simple, false_twins_at, false_twins_by, similar_N, similar_N+, similar_cases, similar_class, true_twins_at, true_twins_by, true_twins_edge}
-use Rattle.model.specs.ClassLaws.{Equivalence, least_in, least-le, least_rel}
-use Rattle.model.specs.SummaryLaws.{equivalence}
-use Rattle.model.specs.ReleaseLaws.{visible_ascending, visible-simple}
-use Rattle.model.specs.ReadBackLaws.{visible_inside}
-use Rattle.model.specs.TableLaws.{edge_below, proper_simple}
+use Rattle.model.proofs.TestLaws.{decide, differ, iff_eq}
+use Rattle.model.proofs.ListLaws.{Ascending, filter_elim, filter_intro, nodes_ascending, nodes_in_lem, nodes_out}
+use Rattle.model.proofs.TwinLaws.{Simple, false_twins_at, false_twins_by, similar_N, similar_N+, similar_cases, similar_class, true_twins_at, true_twins_by, true_twins_edge}
+use Rattle.model.proofs.ClassLaws.{Equivalence, least_in, least-le, least_rel}
+use Rattle.model.proofs.SummaryLaws.{equivalence}
+use Rattle.model.proofs.ReleaseLaws.{visible_ascending, visible-simple}
+use Rattle.model.proofs.ReadBackLaws.{visible_inside}
+use Rattle.model.proofs.TableLaws.{edge_below, proper_simple}
 
 pub seen_in : (g : Graph) (p : ℕ) → is_visible g p ≡ true → p ∈ (visible g).nodes
 seen_in g p h = filter_intro (is_visible g) (nodes g.node_count) p (nodes_in_lem g.node_count p (visible_inside g p h)) h

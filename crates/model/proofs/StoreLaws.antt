@@ -14,9 +14,9 @@ use Rattle.model.specs.Lists.{all, concat, nodes, same_list}
 use Rattle.model.specs.Graph.{Graph, Proper, max_nodes, row_words}
 use Rattle.model.specs.Tables.{edges_in, edges_of, is_graph}
 use Rattle.model.specs.Store.{Place, are_apart, are_states, bytes_of, dropping, free, graph_at, is_free, is_full, is_kept, is_name, is_new, is_state, is_store, is_under, keeping, kept, kept_graph, max_states, name_bytes, no_states, node_word, node_words, number, place_in, place_of, place_words, places_in, state_graph, store_of, store_words, words_at}
-use Rattle.model.specs.TestLaws.{and_fst, and_snd, and_true, decide, differ, fails, or_none}
-use Rattle.model.specs.ListLaws.{same_eq, same_refl}
-use Rattle.model.specs.TableLaws.{get_d_map_at, get_d_nodes, graph_test, labels_back, labels_proper, length_edges, length-nodes}
+use Rattle.model.proofs.TestLaws.{and_fst, and_snd, and_true, decide, differ, fails, or_none}
+use Rattle.model.proofs.ListLaws.{same_eq, same_refl}
+use Rattle.model.proofs.TableLaws.{get_d_map_at, get_d_nodes, graph_test, labels_back, labels_proper, length_edges, length-nodes}
 
 -- bytes and numbers
 pub number_bytes : (k w : ℕ) → w < 256 ^ k → number (bytes_of k w) ≡ w

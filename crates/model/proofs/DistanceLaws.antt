@@ -9,8 +9,8 @@ use borrow.Author.Tests.{eq-eqb, ltb-true, ltb-false}
 use Rattle.model.specs.Lists.{◌∈◌, any, filter, head_or, nodes}
 use Rattle.model.specs.Graph.{View}
 use Rattle.model.specs.Distance.{walk, unreachable, Shortest, distance}
-use Rattle.model.specs.TestLaws.{and_fst, and_snd, and_true, decide, differ, fails, or_cases, or_left, or_right}
-use Rattle.model.specs.ListLaws.{Ascending, any_cong, any_intro, any_elim, filter_intro, filter_elim, filter_cong, filter_ascending, length-filter, head_or-le, nodes_in_lem, nodes_ascending}
+use Rattle.model.proofs.TestLaws.{and_fst, and_snd, and_true, decide, differ, fails, or_cases, or_left, or_right}
+use Rattle.model.proofs.ListLaws.{Ascending, any_cong, any_intro, any_elim, filter_intro, filter_elim, filter_cong, filter_ascending, length-filter, head_or-le, nodes_in_lem, nodes_ascending}
 
 -- q is at most k edges away from p
 unfoldable pub within : View → ℕ → ℕ → ℕ → Bool

@@ -18,18 +18,18 @@ use Rattle.model.specs.Tables.{is_graph}
 use Rattle.model.specs.Release.{release, superedges, visible}
 use Rattle.model.specs.Reading.{Head, graph_by, has_pair, is_release, summary_by}
 use Rattle.model.specs.InOrder.{class_at, clique_at, closed_at, could_merge, file_by, group_view, groups_fit, in_order, irreducible, members_at, open_at, pair_key, superedges_fit, told_groups}
-use Rattle.model.specs.TestLaws.{and_fst, and_snd, and_true, decide, differ, iff_eq, or_cases, or_left, or_right}
-use Rattle.model.specs.ListLaws.{Ascending, all_elim, all_intro, any_elim, any_intro, filter_ascending, head_or-le, nodes_in_lem, nodes_out, same_ascending, same_eq, same_refl}
-use Rattle.model.specs.TwinLaws.{Simple, false_twins_at, false_twins_by, false_twins_no_edge, similar_N, similar_N+, similar_cases, similar_class, true_twins_at, true_twins_by, true_twins_edge}
-use Rattle.model.specs.ClassLaws.{Equivalence, group_in_lem, group_out, leader_in_lem, leader_out, leaders_ascending, least_in, least-le, least_rel}
-use Rattle.model.specs.SummaryLaws.{algorithm1-classes, equivalence, kind_clique, position-similar}
-use Rattle.model.specs.FewestLaws.{inside_ours}
-use Rattle.model.specs.TableLaws.{graph_test}
-use Rattle.model.specs.ReleaseLaws.{visible_ascending, visible-simple}
-use Rattle.model.specs.ReadingLaws.{all_at, marked, members_back}
-use Rattle.model.specs.InOrderLaws.{clique_two, file_told_groups, first_in, firsts, firsts_ascend, firsts_ascending, firsts_in, firsts_out, groups_by_firsts, groups_by_members, groups_few, in_order_parts, members_ascend, members_one, pair_fits, place_in, place_of_lem, place_of, same_pairs}
-use Rattle.model.specs.ReleaseOrderLaws.{release_file, superedges_fit_lem}
-use Rattle.model.specs.ToldGraphLaws.{decode_file, file_summarises, told_node, told_place, told_proper}
+use Rattle.model.proofs.TestLaws.{and_fst, and_snd, and_true, decide, differ, iff_eq, or_cases, or_left, or_right}
+use Rattle.model.proofs.ListLaws.{Ascending, all_elim, all_intro, any_elim, any_intro, filter_ascending, head_or-le, nodes_in_lem, nodes_out, same_ascending, same_eq, same_refl}
+use Rattle.model.proofs.TwinLaws.{Simple, false_twins_at, false_twins_by, false_twins_no_edge, similar_N, similar_N+, similar_cases, similar_class, true_twins_at, true_twins_by, true_twins_edge}
+use Rattle.model.proofs.ClassLaws.{Equivalence, group_in_lem, group_out, leader_in_lem, leader_out, leaders_ascending, least_in, least-le, least_rel}
+use Rattle.model.proofs.SummaryLaws.{algorithm1-classes, equivalence, kind_clique, position-similar}
+use Rattle.model.proofs.FewestLaws.{inside_ours}
+use Rattle.model.proofs.TableLaws.{graph_test}
+use Rattle.model.proofs.ReleaseLaws.{visible_ascending, visible-simple}
+use Rattle.model.proofs.ReadingLaws.{all_at, marked, members_back}
+use Rattle.model.proofs.InOrderLaws.{clique_two, file_told_groups, first_in, firsts, firsts_ascend, firsts_ascending, firsts_in, firsts_out, groups_by_firsts, groups_by_members, groups_few, in_order_parts, members_ascend, members_one, pair_fits, place_in, place_of_lem, place_of, same_pairs}
+use Rattle.model.proofs.ReleaseOrderLaws.{release_file, superedges_fit_lem}
+use Rattle.model.proofs.ToldGraphLaws.{decode_file, file_summarises, told_node, told_place, told_proper}
 
 -- one of two or more members has another, and of one there is no other
 other_member : (p : ℕ) (l : List ℕ) → Ascending l → 2 ≤ length l → (q : ℕ) × (q ∈ l) × (p ≡ q → ⊥)

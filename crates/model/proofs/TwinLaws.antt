@@ -7,8 +7,8 @@ use borrow.Author.Tests.{eqb-true, eqb-false, eq-eqb}
 use Rattle.model.specs.Lists.{◌∈◌}
 use Rattle.model.specs.Graph.{View}
 use Rattle.model.specs.Grouping.{closed, false_twins, similar, true_twins}
-use Rattle.model.specs.TestLaws.{and_fst, and_snd, and_true, beq_eq, decide, differ, eq_beq, or_cases, or_left, or_right}
-use Rattle.model.specs.ListLaws.{all_elim, all_intro}
+use Rattle.model.proofs.TestLaws.{and_fst, and_snd, and_true, beq_eq, decide, differ, eq_beq, or_cases, or_left, or_right}
+use Rattle.model.proofs.ListLaws.{all_elim, all_intro}
 
 -- edges have no direction, and no node has an edge to itself
 pub record Simple (v : View) : Type 0 where

@@ -13,11 +13,11 @@ use Rattle.model.specs.Graph.{Graph, Proper, View, max_classes}
 use Rattle.model.specs.Grouping.{algorithm1, group, leaders, least, similar}
 use Rattle.model.specs.Release.{encode, end_record, group_record, head_record, is_visible, release, superedge_count, superedge_record, superedges, u16, visible, visible_class, visible_edge, visible_groups}
 use Rattle.model.specs.History.{Alike}
-use Rattle.model.specs.TestLaws.{decide, iff_eq}
-use Rattle.model.specs.ListLaws.{Ascending, filter_ascending, filter_cong, nodes_ascending}
-use Rattle.model.specs.TwinLaws.{Simple, similar_sym}
-use Rattle.model.specs.ClassLaws.{Equivalence, leader_out, leaders_ascending, least_eq, least-leads, least_rel}
-use Rattle.model.specs.SummaryLaws.{algorithm1-classes, equivalence}
+use Rattle.model.proofs.TestLaws.{decide, iff_eq}
+use Rattle.model.proofs.ListLaws.{Ascending, filter_ascending, filter_cong, nodes_ascending}
+use Rattle.model.proofs.TwinLaws.{Simple, similar_sym}
+use Rattle.model.proofs.ClassLaws.{Equivalence, leader_out, leaders_ascending, least_eq, least-leads, least_rel}
+use Rattle.model.proofs.SummaryLaws.{algorithm1-classes, equivalence}
 
 -- graphs alike in what is visible have one release
 module _ (a b : Graph) (h : Alike a b) where

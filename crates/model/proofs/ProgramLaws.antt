@@ -7,9 +7,9 @@ use Rattle.model.specs.Graph.{empty_graph, max_nodes, max_updates}
 use Rattle.model.specs.Updates.{Update, batch_graph}
 use Rattle.model.specs.Release.{release}
 use Rattle.model.specs.Program.{Input, Line, accepted, change, first_line, ill_formed, input_of, is_count, is_none, is_number, line_of, lines_from, max_bytes, pieces, refused_at, value_of, with_line, with_update}
-use Rattle.model.specs.TestLaws.{and_snd, decide, or_none}
-use Rattle.model.specs.UpdateLaws.{proper_batch, proper_empty}
-use Rattle.model.specs.EdgeLaws.{edge_count, edge_count_batch, release-le}
+use Rattle.model.proofs.TestLaws.{and_snd, decide, or_none}
+use Rattle.model.proofs.UpdateLaws.{proper_batch, proper_empty}
+use Rattle.model.proofs.EdgeLaws.{edge_count, edge_count_batch, release-le}
 
 -- refused input is not accepted
 refused_not : {X : Type 0} (k n : ℕ) (cs : List Update) → refused_at k ≡ accepted n cs → X

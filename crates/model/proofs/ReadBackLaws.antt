@@ -11,11 +11,11 @@ use Rattle.model.specs.Tables.{is_graph, simple}
 use Rattle.model.specs.Release.{is_visible, release, visible, visible_class, visible_edge, visible_part}
 use Rattle.model.specs.Reading.{decode, graph_by, is_release}
 use Rattle.model.specs.History.{Alike}
-use Rattle.model.specs.TestLaws.{and_fst, and_snd, and_true, decide, iff_eq}
-use Rattle.model.specs.ListLaws.{filter_elim, filter_intro, member_elim, member_intro, nodes_in_lem, same_eq, same_refl}
-use Rattle.model.specs.TableLaws.{graph_class, graph-simple, graph_test, simple_edge, simple_loop}
-use Rattle.model.specs.ReleaseLaws.{non_interference, visible_ascending, visible-simple}
-use Rattle.model.specs.ReadingLaws.{count-encode, read_class, read_edge, read_placed, summary_encode}
+use Rattle.model.proofs.TestLaws.{and_fst, and_snd, and_true, decide, iff_eq}
+use Rattle.model.proofs.ListLaws.{filter_elim, filter_intro, member_elim, member_intro, nodes_in_lem, same_eq, same_refl}
+use Rattle.model.proofs.TableLaws.{graph_class, graph-simple, graph_test, simple_edge, simple_loop}
+use Rattle.model.proofs.ReleaseLaws.{non_interference, visible_ascending, visible-simple}
+use Rattle.model.proofs.ReadingLaws.{count-encode, read_class, read_edge, read_placed, summary_encode}
 
 pub visible_inside : (b : Graph) (p : ℕ) → is_visible b p ≡ true → p < b.node_count
 unfolding is_visible

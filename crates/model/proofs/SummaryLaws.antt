@@ -10,10 +10,10 @@ use Rattle.model.specs.Lists.{◌∈◌, any, head_or}
 use Rattle.model.specs.Graph.{View}
 use Rattle.model.specs.Grouping.{adjacent, algorithm1, clique, closed, false_twins, group, independent, is_clique, kind_of, leaders, least, similar, true_twins}
 use Rattle.model.specs.Summary.{Share, Summarises, position, reconstruct, summary_of}
-use Rattle.model.specs.TestLaws.{and_one, decide, differ, iff_eq, or_cases, or_left, or_same}
-use Rattle.model.specs.ListLaws.{Ascending, any_elim, any_intro, head_or_in, map_in, map_out}
-use Rattle.model.specs.TwinLaws.{Simple, false_twins_at, false_twins_no_edge, never_mixed, similar_cases, similar_class, similar_refl, similar_sym, similar_trans, true_twins_at, true_twins_edge}
-use Rattle.model.specs.ClassLaws.{Equivalence, class_group, class_in_lem, class_inhabited, classes, greedy-leaders, group_in_lem, group_out, leader_out, least_in, least-leads, least_rel, length-classes, position_same}
+use Rattle.model.proofs.TestLaws.{and_one, decide, differ, iff_eq, or_cases, or_left, or_same}
+use Rattle.model.proofs.ListLaws.{Ascending, any_elim, any_intro, head_or_in, map_in, map_out}
+use Rattle.model.proofs.TwinLaws.{Simple, false_twins_at, false_twins_no_edge, never_mixed, similar_cases, similar_class, similar_refl, similar_sym, similar_trans, true_twins_at, true_twins_edge}
+use Rattle.model.proofs.ClassLaws.{Equivalence, class_group, class_in_lem, class_inhabited, classes, greedy-leaders, group_in_lem, group_out, leader_out, least_in, least-leads, least_rel, length-classes, position_same}
 
 module _ (v : View) (g : Simple v) (asc : Ascending v.nodes) where
   abbrev r : ℕ → ℕ → Bool

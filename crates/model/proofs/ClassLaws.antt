@@ -14,8 +14,8 @@ use borrow.Author.Tests.{eqb-true, eq-eqb, ne_eqb, ltb-true, ltb-false, lt-ltb, 
 use Rattle.model.specs.Lists.{◌∈◌, any, filter, from, member}
 use Rattle.model.specs.Grouping.{greedy, group, leaders, least}
 use Rattle.model.specs.Summary.{position}
-use Rattle.model.specs.TestLaws.{and_snd, and_true, decide, differ, iff_eq, or_cases, or_right}
-use Rattle.model.specs.ListLaws.{Ascending, filter_ascending, filter_cong, filter_elim, filter_intro, from_in, head_or_in, head_or-le, length_from, member_elim, member_intro, pigeonhole}
+use Rattle.model.proofs.TestLaws.{and_snd, and_true, decide, differ, iff_eq, or_cases, or_right}
+use Rattle.model.proofs.ListLaws.{Ascending, filter_ascending, filter_cong, filter_elim, filter_intro, from_in, head_or_in, head_or-le, length_from, member_elim, member_intro, pigeonhole}
 
 pub record Equivalence (vs : List ℕ) (r : ℕ → ℕ → Bool) : Type 0 where
   pub reflexive : (p : ℕ) → r p p ≡ true

@@ -4,7 +4,7 @@ use Rattle.std.proofs.Common.{sym, ap, ◌∙◌, inl, inr, eqb-true, eq-eqb, ne
 use Rattle.std.proofs.lemmas.Bool.{eqb-false}
 use Rattle.model.specs.Lists.{all}
 use Rattle.model.specs.Refusals.{Reasons, first_of, judged}
-use Rattle.model.specs.TestLaws.{and_fst, and_snd, decide}
+use Rattle.model.proofs.TestLaws.{and_fst, and_snd, decide}
 
 -- reasons that do not hold, where nothing is refused
 pub first_none : (t : Bool) (r : ℕ) (ts : Reasons) → eqb r 0 ≡ false → first_of ((t, r) ∷ ts) ≡ 0 → (t ≡ false) × (first_of ts ≡ 0)

@@ -12,15 +12,15 @@ use Rattle.model.specs.Grouping.{Kind, adjacent, algorithm1, clique, group, inde
 use Rattle.model.specs.Release.{encode, end_record, group_record, head_record, is_visible, kind_byte, release, superedge_record, superedges, superedges_from, u16, visible}
 use Rattle.model.specs.Reading.{Head, is_release, u16_at}
 use Rattle.model.specs.InOrder.{file_by, follows, group_fits, groups_fit, in_order, marked_record, members_in, pair_key, superedges_fit, told_groups, told_superedges}
-use Rattle.model.specs.TestLaws.{and_true, decide}
-use Rattle.model.specs.ListLaws.{Ascending, filter_ascending, filter_elim, head_or-any, member_elim, nodes_out}
-use Rattle.model.specs.TwinLaws.{Simple, similar_refl}
-use Rattle.model.specs.ClassLaws.{Equivalence, group_in_lem, group_out, leader_out, leaders_ascending, least_eq, least-le}
-use Rattle.model.specs.SummaryLaws.{algorithm1-classes, equivalence}
-use Rattle.model.specs.ReleaseLaws.{length-concat_groups, visible_ascending, visible-classed, visible-simple}
-use Rattle.model.specs.ReadingLaws.{length_marked, marked, members_back}
-use Rattle.model.specs.ReadBackLaws.{only_releases}
-use Rattle.model.specs.InOrderLaws.{MembersFitting, file_count, file_told_groups, file_told_superedges, fitting_members, groups_few}
+use Rattle.model.proofs.TestLaws.{and_true, decide}
+use Rattle.model.proofs.ListLaws.{Ascending, filter_ascending, filter_elim, head_or-any, member_elim, nodes_out}
+use Rattle.model.proofs.TwinLaws.{Simple, similar_refl}
+use Rattle.model.proofs.ClassLaws.{Equivalence, group_in_lem, group_out, leader_out, leaders_ascending, least_eq, least-le}
+use Rattle.model.proofs.SummaryLaws.{algorithm1-classes, equivalence}
+use Rattle.model.proofs.ReleaseLaws.{length-concat_groups, visible_ascending, visible-classed, visible-simple}
+use Rattle.model.proofs.ReadingLaws.{length_marked, marked, members_back}
+use Rattle.model.proofs.ReadBackLaws.{only_releases}
+use Rattle.model.proofs.InOrderLaws.{MembersFitting, file_count, file_told_groups, file_told_superedges, fitting_members, groups_few}
 
 -- the superedges of groups stand in order
 module _ (e : ℕ → ℕ → Bool) (most : ℕ) (bound : most ≤ 65536) where

@@ -16,14 +16,14 @@ use Rattle.model.specs.Grouping.{adjacent, algorithm1, group, leaders, least, si
 use Rattle.model.specs.Updates.{Update, batch_graph, is_pair, on_edge, update, updated}
 use Rattle.model.specs.Steps.{run}
 use Rattle.model.specs.Release.{is_visible, release, superedge_count, superedges, superedges_from, visible, visible_edge, visible_groups}
-use Rattle.model.specs.TestLaws.{decide}
-use Rattle.model.specs.ListLaws.{Ascending, filter_cong, filter_elim, length-filter, nodes_ascending}
-use Rattle.model.specs.TwinLaws.{Simple}
-use Rattle.model.specs.ClassLaws.{leader_out, leaders-apart, leaders_ascending}
-use Rattle.model.specs.SummaryLaws.{adjacent_law, algorithm1-classes, equivalence, length_groups}
-use Rattle.model.specs.TableLaws.{length-nodes}
-use Rattle.model.specs.ReleaseLaws.{length-release, visible_ascending, visible-simple}
-use Rattle.model.specs.UpdateLaws.{update_cases}
+use Rattle.model.proofs.TestLaws.{decide}
+use Rattle.model.proofs.ListLaws.{Ascending, filter_cong, filter_elim, length-filter, nodes_ascending}
+use Rattle.model.proofs.TwinLaws.{Simple}
+use Rattle.model.proofs.ClassLaws.{leader_out, leaders-apart, leaders_ascending}
+use Rattle.model.proofs.SummaryLaws.{adjacent_law, algorithm1-classes, equivalence, length_groups}
+use Rattle.model.proofs.TableLaws.{length-nodes}
+use Rattle.model.proofs.ReleaseLaws.{length-release, visible_ascending, visible-simple}
+use Rattle.model.proofs.UpdateLaws.{update_cases}
 
 -- the number of edges among the nodes of an ascending list
 unfoldable pub edge_count : (ℕ → ℕ → Bool) → List ℕ → ℕ

@@ -12,10 +12,10 @@ use Rattle.model.specs.Lists.{◌∈◌, all, nodes, same_list}
 use Rattle.model.specs.Graph.{Graph, max_classes, max_nodes, row_words}
 use Rattle.model.specs.Tables.{edges_of, is_graph, simple}
 use Rattle.model.specs.Store.{are_apart, are_states, free, graph_at, is_state, is_store, max_states, node_words, place_in, place_of, place_words, places_in, state_graph, store_of, store_words, words_at}
-use Rattle.model.specs.TestLaws.{and_fst, and_one, and_snd, and_true, decide, differ, iff_eq}
-use Rattle.model.specs.ListLaws.{all_elim, all_intro, nodes_in_lem, nodes_out, same_eq, same_refl}
-use Rattle.model.specs.TableLaws.{length_edges}
-use Rattle.model.specs.StoreLaws.{AllFit, Sound, all_states, length_store, place_at, places_fit, places_length, state_proper, store_ext, store_sound, store_words_lem, words_at_lem}
+use Rattle.model.proofs.TestLaws.{and_fst, and_one, and_snd, and_true, decide, differ, iff_eq}
+use Rattle.model.proofs.ListLaws.{all_elim, all_intro, nodes_in_lem, nodes_out, same_eq, same_refl}
+use Rattle.model.proofs.TableLaws.{length_edges}
+use Rattle.model.proofs.StoreLaws.{AllFit, Sound, all_states, length_store, place_at, places_fit, places_length, state_proper, store_ext, store_sound, store_words_lem, words_at_lem}
 use Rattle.buffers.specs.UnionLaws.{is_none}
 use Rattle.rows.specs.Rows.{Words}
 use Rattle.edges.specs.Edges.{edges_hold}

@@ -7,14 +7,14 @@ use borrow.Author.Tests.{eqb-true, eq-eqb, ne_eqb, lt-ltb, le-ltb, not-true, not
 use Rattle.model.specs.Lists.{all, nodes}
 use Rattle.model.specs.Graph.{Graph, max_nodes}
 use Rattle.model.specs.Tables.{Tables, edges_of, graph_of, holds, tables_of}
-use Rattle.model.specs.TableLaws.{held_proper, held_tables}
+use Rattle.model.proofs.TableLaws.{held_proper, held_tables}
 use Rattle.model.specs.Store.{Place, dropping, free, graph_at, is_full, is_kept, is_name, is_store, keeping, kept, kept_graph, max_states, name_bytes, node_words, number, place_in, place_of, place_words, places_in, store_of, store_words, words_at, wrong_name, wrong_store}
 use Rattle.model.specs.Refusals.{first_of, judged, lengths, wrong_size}
 use Rattle.model.specs.Calls.{drop_call, drop_reasons, fill_refused, keep_call, keep_reasons, restore_call, restore_reasons, store_refused}
-use Rattle.model.specs.TestLaws.{and_fst, and_snd, and_true, decide, or_none}
-use Rattle.model.specs.ListLaws.{all_elim, nodes_in_lem}
-use Rattle.model.specs.RefusalLaws.{call_done, call_refused}
-use Rattle.model.specs.StoreLaws.{fit_at, length_place, places_length, store_sound, store_words_lem}
+use Rattle.model.proofs.TestLaws.{and_fst, and_snd, and_true, decide, or_none}
+use Rattle.model.proofs.ListLaws.{all_elim, nodes_in_lem}
+use Rattle.model.proofs.RefusalLaws.{call_done, call_refused}
+use Rattle.model.proofs.StoreLaws.{fit_at, length_place, places_length, store_sound, store_words_lem}
 use Rattle.rows.specs.Rows.{Words, lent}
 use Rattle.search.specs.Search.{first_from}
 use Rattle.tables.specs.Lent.{Held, Sized, filled, lent_reasons, table_reasons}
@@ -23,7 +23,7 @@ use Rattle.places.specs.Places.{free_at, place_word, put_at, under_at}
 use Rattle.places.specs.PlacesLaws.{dropping_found, full_found, graph_found, keeping_found, kept_found, put_store, word_at}
 use Rattle.places.specs.StepLaws.{part_words, store_sized}
 use Rattle.store.specs.Judging.{place_holds}
-use Rattle.store.specs.JudgeLaws.{passed, place_size, readable}
+use Rattle.store.proofs.JudgeLaws.{passed, place_size, readable}
 use Rattle.store.specs.Stored.{Judged, Put, Written, fill_reasons, kept_reasons, store_reasons, stored}
 
 -- a name is lent as bytes

@@ -8,11 +8,11 @@ use Rattle.model.specs.Lists.{◌∈◌}
 use Rattle.model.specs.Graph.{View}
 use Rattle.model.specs.Grouping.{algorithm1, closed, similar}
 use Rattle.model.specs.Summary.{Summarises, Summary, reconstruct}
-use Rattle.model.specs.TestLaws.{decide}
-use Rattle.model.specs.ListLaws.{Ascending}
-use Rattle.model.specs.TwinLaws.{Simple, false_twins_by, similar_N, similar_N+, true_twins_by}
-use Rattle.model.specs.ClassLaws.{fewest_classes}
-use Rattle.model.specs.SummaryLaws.{algorithm1-classes, equivalence}
+use Rattle.model.proofs.TestLaws.{decide}
+use Rattle.model.proofs.ListLaws.{Ascending}
+use Rattle.model.proofs.TwinLaws.{Simple, false_twins_by, similar_N, similar_N+, true_twins_by}
+use Rattle.model.proofs.ClassLaws.{fewest_classes}
+use Rattle.model.proofs.SummaryLaws.{algorithm1-classes, equivalence}
 
 module _ (v : View) (g : Simple v) (asc : Ascending v.nodes) (d : Summary) (s : Summarises v d) where
   -- a group of any summary lies inside one of ours

@@ -11,9 +11,9 @@ use Rattle.model.specs.Summary.{Summarises, Summary, reconstruct}
 use Rattle.model.specs.Release.{is_visible, visible, visible_class, visible_edge}
 use Rattle.model.specs.Reading.{Head, decode, graph_by, summary_by, summary_in}
 use Rattle.model.specs.InOrder.{class_at, file_by, groups_fit, members_at, told_groups, told_superedges}
-use Rattle.model.specs.TestLaws.{and_fst, decide, iff_eq}
-use Rattle.model.specs.ListLaws.{filter_elim, filter_intro, nodes_in_lem}
-use Rattle.model.specs.InOrderLaws.{class_at_lem, file_count, file_told_groups, file_told_superedges, first_in, members_below, place_in, place_of_lem, place_of}
+use Rattle.model.proofs.TestLaws.{and_fst, decide, iff_eq}
+use Rattle.model.proofs.ListLaws.{filter_elim, filter_intro, nodes_in_lem}
+use Rattle.model.proofs.InOrderLaws.{class_at_lem, file_count, file_told_groups, file_told_superedges, first_in, members_below, place_in, place_of_lem, place_of}
 
 -- what unfolds has no direction and no loops
 pub reconstruct_turn : (d : Summary) (p q : ℕ) → reconstruct d p q ≡ reconstruct d q p

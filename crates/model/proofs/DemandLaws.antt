@@ -21,24 +21,24 @@ use Rattle.model.specs.Distance.{distance, distance_by}
 use Rattle.model.specs.Reading.{decode, is_release, summary_by, summary_in}
 use Rattle.model.specs.Calls.{Filled, Listed, Measured, Released, apply_call, apply_reasons, apply_refused, distance_refused, drop_call, drop_reasons, file_distance_call, file_distance_reasons, file_neighbours_call, file_neighbours_reasons, fill_refused, group_call, group_reasons, keep_call, keep_reasons, list_refused, listing, neighbours_call, neighbours_reasons, onto, open_call, open_reasons, read_call, read_reasons, release_call, release_reasons, release_refused, released, restore_call, restore_reasons, tied_call, tied_reasons}
 use Rattle.model.specs.History.{Alike, CallsTold, Room, Source, StoreTold, by_history, graph_of_source, handed_in, number, opening, room_of, tables_of_source}
-use Rattle.model.specs.TestLaws.{differ, fails}
-use Rattle.model.specs.ListLaws.{Ascending, filter_cong, nodes_ascending, nodes_in_lem}
-use Rattle.model.specs.DistanceLaws.{distance_shortest}
-use Rattle.model.specs.TwinLaws.{Simple, similar_sym}
-use Rattle.model.specs.ClassLaws.{least_in, least-le, least_rel}
-use Rattle.model.specs.HiddenLaws.{seen_equivalence, seen_in}
-use Rattle.model.specs.SummaryLaws.{algorithm1_summarises, share_similar, similar_share}
-use Rattle.model.specs.GroupDistanceLaws.{distance_by_groups, summarises_unfolds}
-use Rattle.model.specs.FewestLaws.{fewest}
-use Rattle.model.specs.TableLaws.{graph_test, groups_told, held_proper, held_tables, proper_simple, read_back}
-use Rattle.model.specs.ReleaseLaws.{alike-visible, length-release, non_interference, visible_ascending, visible-simple, alike_node}
-use Rattle.model.specs.UpdateLaws.{answer-accepted, answer_near, answer-told, asked-holds, class_near, length-answers, mark_answer, proper_batch, reveal_accepted, update_refused_lem}
-use Rattle.model.specs.FrozenLaws.{batch_alike, frozen_refused, reveals_nobody}
-use Rattle.model.specs.HistoryLaws.{Kept, history-told, kept_graph_lem, kept_holds, kept_size, lengths_of, lengths_for, name_stays, opened-size, returned, right_size}
-use Rattle.model.specs.RefusalLaws.{first_passes, judged_refused, judged_related, judged_result}
-use Rattle.model.specs.ReadingLaws.{marked, summary_encode, told-count, told-similar, told_summarises}
-use Rattle.model.specs.ReadBackLaws.{decode-release, only_releases, release_is, visible-alike, visible_proper}
-use Rattle.model.specs.ProgramLaws.{program_fits}
+use Rattle.model.proofs.TestLaws.{differ, fails}
+use Rattle.model.proofs.ListLaws.{Ascending, filter_cong, nodes_ascending, nodes_in_lem}
+use Rattle.model.proofs.DistanceLaws.{distance_shortest}
+use Rattle.model.proofs.TwinLaws.{Simple, similar_sym}
+use Rattle.model.proofs.ClassLaws.{least_in, least-le, least_rel}
+use Rattle.model.proofs.HiddenLaws.{seen_equivalence, seen_in}
+use Rattle.model.proofs.SummaryLaws.{algorithm1_summarises, share_similar, similar_share}
+use Rattle.model.proofs.GroupDistanceLaws.{distance_by_groups, summarises_unfolds}
+use Rattle.model.proofs.FewestLaws.{fewest}
+use Rattle.model.proofs.TableLaws.{graph_test, groups_told, held_proper, held_tables, proper_simple, read_back}
+use Rattle.model.proofs.ReleaseLaws.{alike-visible, length-release, non_interference, visible_ascending, visible-simple, alike_node}
+use Rattle.model.proofs.UpdateLaws.{answer-accepted, answer_near, answer-told, asked-holds, class_near, length-answers, mark_answer, proper_batch, reveal_accepted, update_refused_lem}
+use Rattle.model.proofs.FrozenLaws.{batch_alike, frozen_refused, reveals_nobody}
+use Rattle.model.proofs.HistoryLaws.{Kept, history-told, kept_graph_lem, kept_holds, kept_size, lengths_of, lengths_for, name_stays, opened-size, returned, right_size}
+use Rattle.model.proofs.RefusalLaws.{first_passes, judged_refused, judged_related, judged_result}
+use Rattle.model.proofs.ReadingLaws.{marked, summary_encode, told-count, told-similar, told_summarises}
+use Rattle.model.proofs.ReadBackLaws.{decode-release, only_releases, release_is, visible-alike, visible_proper}
+use Rattle.model.proofs.ProgramLaws.{program_fits}
 use Rattle.model.specs.Demands.{AppliedAlike, AskedExactly, Demand1, Demand2, Demand3, DistanceTold, GroupedExactly, LeastOf, MeasuredExactly, NoRelease, ReadExactly, Refuses, visible_neighbours}
 
 -- what a source's tables hold

@@ -13,11 +13,11 @@ use Rattle.model.specs.Lists.{◌∈◌, all, concat, filter, from, nodes, same_
 use Rattle.model.specs.Graph.{Graph, Proper, View, max_classes, max_nodes, node_numbers, whole}
 use Rattle.model.specs.Grouping.{algorithm1, closed_key, group, leaders, least, open_key, similar}
 use Rattle.model.specs.Tables.{Tables, bit_at, edge_bit, edges_in, edges_of, graph_of, graph_with, group_in, groups_in, holds, is_graph, key_pair, keys_of, node_number, node_of, nodes_of, row_of, simple, tables_of, word}
-use Rattle.model.specs.TestLaws.{and_fst, and_snd, and_true, beq_eq, decide, eq_beq, iff_eq}
-use Rattle.model.specs.ListLaws.{Ascending, all_elim, all_intro, filter_cong, length_from, nodes_ascending, nodes_in_lem, nodes_out, same_eq, same_refl}
-use Rattle.model.specs.TwinLaws.{Simple}
-use Rattle.model.specs.ClassLaws.{Equivalence, leader_out, least_eq, least_rel}
-use Rattle.model.specs.SummaryLaws.{algorithm1-classes, equivalence}
+use Rattle.model.proofs.TestLaws.{and_fst, and_snd, and_true, beq_eq, decide, eq_beq, iff_eq}
+use Rattle.model.proofs.ListLaws.{Ascending, all_elim, all_intro, filter_cong, length_from, nodes_ascending, nodes_in_lem, nodes_out, same_eq, same_refl}
+use Rattle.model.proofs.TwinLaws.{Simple}
+use Rattle.model.proofs.ClassLaws.{Equivalence, leader_out, least_eq, least_rel}
+use Rattle.model.proofs.SummaryLaws.{algorithm1-classes, equivalence}
 
 double : (b : Bool) (k : ℕ) → cond b (2 ^ suc k) 0 ≡ 2 * cond b (2 ^ k) 0
 double true k = pow-succ' 2 k

@@ -13,9 +13,9 @@ use Rattle.model.specs.Tables.{bit_at, edge_bit, node_number}
 use Rattle.model.specs.Refusals.{Reasons, first_of, judged}
 use Rattle.model.specs.Queries.{leader_in, neighbours, pairs}
 use Rattle.model.specs.Calls.{Listed, list_refused, listing}
-use Rattle.model.specs.TestLaws.{fails}
-use Rattle.model.specs.ListLaws.{filter_elim}
-use Rattle.model.specs.TableLaws.{edge_below, length_blocks, map_cong}
+use Rattle.model.proofs.TestLaws.{fails}
+use Rattle.model.proofs.ListLaws.{filter_elim}
+use Rattle.model.proofs.TableLaws.{edge_below, length_blocks, map_cong}
 use Rattle.rows.specs.BitLaws.{word-bit}
 use Rattle.buffers.specs.Scan.{Counting, scan}
 use Rattle.buffers.specs.ScanLaws.{scan_cong, scan_cut, scan-length, scan-nodes}

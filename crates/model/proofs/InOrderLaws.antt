@@ -17,11 +17,11 @@ use Rattle.model.specs.Summary.{position}
 use Rattle.model.specs.Release.{end_record, head_record, superedge_record, u16}
 use Rattle.model.specs.Reading.{Head, after_groups, groups_at, has_pair, superedges_at, u16_at}
 use Rattle.model.specs.InOrder.{class_at, clique_at, file_by, follows, group_fits, groups_fit, in_order, marked_record, members_at, members_fit, members_in, pair_key, superedges_fit, told_groups, told_superedges}
-use Rattle.model.specs.TestLaws.{and_fst, and_snd, and_true, decide, differ, iff_eq, or_cases, or_left, or_none, or_right}
-use Rattle.model.specs.ListLaws.{Ascending, filter_ascending, filter_cong, filter_elim, filter_intro, length-filter, member_elim, member_intro, nodes_ascending, nodes_in_lem, nodes_out, pigeonhole, same_ascending}
-use Rattle.model.specs.TableLaws.{length-nodes}
-use Rattle.model.specs.ReleaseLaws.{length_superedge_records, one_of, parts_length}
-use Rattle.model.specs.ReadingLaws.{superedges_back, u16s_back, u16s-rest}
+use Rattle.model.proofs.TestLaws.{and_fst, and_snd, and_true, decide, differ, iff_eq, or_cases, or_left, or_none, or_right}
+use Rattle.model.proofs.ListLaws.{Ascending, filter_ascending, filter_cong, filter_elim, filter_intro, length-filter, member_elim, member_intro, nodes_ascending, nodes_in_lem, nodes_out, pigeonhole, same_ascending}
+use Rattle.model.proofs.TableLaws.{length-nodes}
+use Rattle.model.proofs.ReleaseLaws.{length_superedge_records, one_of, parts_length}
+use Rattle.model.proofs.ReadingLaws.{superedges_back, u16s_back, u16s-rest}
 
 -- group records read back
 marked_count : (g : Head × List ℕ) (r : List ℕ) → u16_at (marked_record g ++ r) 2 ≡ length g.1

@@ -5,7 +5,7 @@ use mathlib.Core.List.Memᴰ
 use mathlib.Core.List.{List, [], ◌∷◌, map, Memᴰ}
 use Rattle.std.proofs.lemmas.Bool.{eqb-false}
 use Rattle.model.specs.Lists.{◌∈◌, all, any, filter, from, head_or, member, nodes, same_list}
-use Rattle.model.specs.TestLaws.{and_fst, and_snd, and_true, decide, differ, or_cases, or_left, or_right}
+use Rattle.model.proofs.TestLaws.{and_fst, and_snd, and_true, decide, differ, or_cases, or_left, or_right}
 
 pub all_intro : (l : List ℕ) (f : ℕ → Bool) → ((p : ℕ) → p ∈ l → f p ≡ true) → all l f ≡ true
 unfolding all

@@ -13,12 +13,12 @@ use Rattle.model.specs.Steps.{Stepped, run}
 use Rattle.model.specs.Updates.{answers, batch_graph, update_count, updates_in, wrong_batch}
 use Rattle.model.specs.Calls.{Opened, apply_call, apply_reasons, apply_refused, drop_call, drop_reasons, fill_refused, keep_call, keep_reasons, onto, open_call, open_reasons, open_refused, restore_call, restore_reasons, store_refused}
 use Rattle.model.specs.History.{Call, Outcome, Plain, Room, State, apply_step, batch, batch_why, call_step, drop, drop_why, fill_step, history, keep, keep_why, number, open_step, open_why, opening, plain, plain_refused, plain_step, restore, restore_why, room_of, spare, spares, store_step, unopened}
-use Rattle.model.specs.TestLaws.{and_fst, and_snd, decide, differ, or_none}
-use Rattle.model.specs.TableLaws.{length_edges, length_keys, length-nodes_of, proper_holds, read_back}
-use Rattle.model.specs.StoreLaws.{Sound, Under, dropping_other, keeping_new, keeping_other, kept_proper, sound_back, sound_dropping, sound_keeping, sound_length, sound_none, sound_store}
-use Rattle.model.specs.UpdateLaws.{proper_batch, proper_empty}
-use Rattle.model.specs.RefusalLaws.{first_none, judged_done, judged_keeps, judged_related, judged_result}
-use Rattle.model.specs.StepLaws.{Matched, run_matched}
+use Rattle.model.proofs.TestLaws.{and_fst, and_snd, decide, differ, or_none}
+use Rattle.model.proofs.TableLaws.{length_edges, length_keys, length-nodes_of, proper_holds, read_back}
+use Rattle.model.proofs.StoreLaws.{Sound, Under, dropping_other, keeping_new, keeping_other, kept_proper, sound_back, sound_dropping, sound_keeping, sound_length, sound_none, sound_store}
+use Rattle.model.proofs.UpdateLaws.{proper_batch, proper_empty}
+use Rattle.model.proofs.RefusalLaws.{first_none, judged_done, judged_keeps, judged_related, judged_result}
+use Rattle.model.proofs.StepLaws.{Matched, run_matched}
 
 -- tables of a graph have the right lengths
 abbrev pub lengths_for : ℕ → Lengths
