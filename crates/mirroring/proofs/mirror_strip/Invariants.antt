@@ -1,0 +1,7 @@
+-- Before word j: those before it are mirrored.
+use Prim.Native.Nat.{◌+◌, ◌≤◌}
+use Rattle.mirroring.specs.Mirroring.{InRow, MirroredAt}
+use Rattle.mirroring.proofs.mirror_strip.Given as goal
+
+abbrev pub invariant-loop-j : goal.invariant-loop-j
+invariant-loop-j l = (l.j ≤ l.i + 1) × MirroredAt (InRow l.i l.j) l.initial.table l.table
