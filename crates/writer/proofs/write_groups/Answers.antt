@@ -1,0 +1,23 @@
+-- What is left to write are the groups from the i-th on.
+use native.Mathlib.Omega.{arith}
+use Rattle.layout.specs.File.{groups_bytes}
+use Rattle.layout.specs.FileLaws.{flat_more, flat_room}
+use Rattle.buffers.specs.ScanLaws.{flat_end}
+use Rattle.buffers.specs.WroteLaws.{left_done, left_start}
+use Rattle.writer.proofs.write_groups.Goals as goal
+
+pub loop-i-init : goal.loop-i-init
+unfolding groups_bytes
+loop-i-init c = left_start _ _ _
+
+pub write_group-to-requires : goal.write_group-to-requires
+write_group-to-requires c = record { ahead = c.requires.ahead; l_lt_n = (omega (arith, c.wide.ensures, c.requires.rows.0.below c.loop-i.i c.loop-i-test.true), c.requires.rows.0.rows, c.requires.rows.1); l_in_bounds = rw c.wide.ensures (flat_room _ _ _ c.loop-i.invariant c.requires.leaders_in_bounds c.loop-i-test.true) }
+
+pub loop-i-preserved : goal.loop-i-preserved
+loop-i-preserved c = flat_more _ _ _ c.loop-i.invariant c.loop-i-test.true (rw c.wide.ensures at c.write_group-to.ensures)
+
+pub shape_of-out : goal.shape_of-out
+shape_of-out c = c.loop-i.invariant.size
+
+pub returns : goal.returns
+returns c = left_done c.loop-i.invariant (flat_end _ _ _ c.loop-i-test.false)

@@ -1,0 +1,10 @@
+-- What is left to write are the superedges of the groups from the i-th on.
+use lib.ListN.{length}
+use Rattle.model.specs.Tables.{edge_bit}
+use Rattle.layout.specs.File.{later, superedge_bytes, superedges_to}
+use Rattle.buffers.specs.Scan.{flat}
+use Rattle.buffers.specs.Wrote.{Left}
+use Rattle.writer.proofs.write_superedges.Given as goal
+
+abbrev pub invariant-loop-i : goal.invariant-loop-i
+invariant-loop-i l = Left l.initial.out l.at (superedge_bytes (edge_bit l.edges) l.leaders) l.out l.to (flat (λ i'. superedges_to i' (later (edge_bit l.edges) l.leaders i')) (length l.leaders) l.i)
