@@ -76,13 +76,13 @@ pub fn apply(
 }
 
 // A query's number and what it answers; 0 and no where it is refused.
-#[derive(Drop)]
+#[derive(Clone, Copy)]
 pub struct IsTied {
     pub result: u16,
     pub yes: bool,
 }
 
-#[derive(Drop)]
+#[derive(Clone, Copy)]
 pub struct Grouped {
     pub result: u16,
     pub least: u16,

@@ -24,7 +24,7 @@ const NODE_WORDS: usize = Graph::ROW_WORDS + 1;
 pub const MOST_WORDS: usize = 1 + PLACES * (STATE + NODE_WORDS * Graph::NODES);
 
 // A name as the two words that a place keeps.
-#[derive(Drop)]
+#[derive(Clone, Copy)]
 pub struct Name {
     pub first: u64,
     pub second: u64,

@@ -15,7 +15,7 @@ use groups::{LEAST, NEXT, number};
 use rows::Graph;
 
 // A list of nodes that was asked for, beside the result: how many there are, 0 where it is refused.
-#[derive(Drop)]
+#[derive(Clone, Copy)]
 pub struct Listed {
     pub result: u16,
     pub count: u16,

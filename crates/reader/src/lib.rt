@@ -77,7 +77,7 @@ fn read_members(
 }
 
 // A group just taken: its kind, its class and first member, the place after it, and what is left of the counts.
-#[derive(Drop)]
+#[derive(Clone, Copy)]
 enum Grouped {
     Taken {
         kind: u16,
@@ -138,7 +138,7 @@ fn take_group(
 }
 
 // All groups read: the place after them, and what is left of the counts.
-#[derive(Drop)]
+#[derive(Clone, Copy)]
 enum Groups {
     Whole { next: usize, left: Counts },
     Broken,
@@ -299,7 +299,7 @@ fn is_end(file: &[u8], at: usize, counts: Counts) -> bool
 }
 
 // The graph that a file tells, by its groups in the lent arrays, or bytes that are no release.
-#[derive(Drop)]
+#[derive(Clone, Copy)]
 pub enum Decoded {
     Graph { n: usize },
     NoRelease,
@@ -389,7 +389,7 @@ fn graph_at(
 }
 
 // The lent file beside the next unread place.
-#[derive(Drop)]
+#[derive(Clone, Copy)]
 pub struct Reader<'a> {
     pub file: &'a [u8],
     pub at: usize,

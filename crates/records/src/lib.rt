@@ -7,14 +7,14 @@ ghost use Rattle.model.specs.Release.{u16_limit};
 ghost use Rattle.records.specs.Records.{group_at, head_at, lead_of, less_group, less_member, malformed_at, mark_at, record_at, spent, superedge_at, superedge_from, u32_at};
 
 // What the head still promises: members and groups not yet read.
-#[derive(Drop)]
+#[derive(Clone, Copy)]
 pub struct Counts {
     pub members: usize,
     pub groups: usize,
 }
 
 // The lessened counts, or none: more was read than the head promised.
-#[derive(Drop)]
+#[derive(Clone, Copy)]
 pub enum Lessened {
     Left(Counts),
     Over,
@@ -55,7 +55,7 @@ impl Counts {
 }
 
 // A record of a release file, with its numbers.
-#[derive(Drop)]
+#[derive(Clone, Copy)]
 pub enum Record {
     Head {
         n: u16,
@@ -76,7 +76,7 @@ pub enum Record {
 }
 
 // A record just read, and the place after it.
-#[derive(Drop)]
+#[derive(Clone, Copy)]
 pub struct Read {
     pub next: usize,
     pub item: Record,

@@ -25,7 +25,7 @@ mod copies;
 mod reading;
 
 // A distance asked of a release, beside the result.
-#[derive(Drop)]
+#[derive(Clone, Copy)]
 pub struct Measured {
     pub result: u16,
     pub distance: u16,

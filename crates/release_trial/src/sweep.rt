@@ -71,7 +71,7 @@ pub fn queries(file: &[u8], limit: u64) {
 }
 
 // How many files were read, and the digest of all that came back.
-#[derive(Drop)]
+#[derive(Clone, Copy)]
 struct Tally {
     read: u64,
     digest: u64,

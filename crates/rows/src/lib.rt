@@ -10,7 +10,7 @@ ghost use Rattle.model.specs.Refusals.{first_of, lengths, pair_reasons, wrong_si
 ghost use Rattle.rows.specs.Rows.{Flipped, Changed, moved_key, KeysMoved, KeysChanged, lent};
 
 // A graph by value: how many nodes it has. Its tables are lent.
-#[derive(Drop)]
+#[derive(Clone, Copy)]
 pub struct Graph {
     pub n: usize,
 }

@@ -26,7 +26,7 @@ use rows::Graph;
 // The words of a strip.
 pub const STRIP: usize = 512;
 
-#[derive(Drop)]
+#[derive(Clone, Copy)]
 struct Two {
     low: u64,
     high: u64,

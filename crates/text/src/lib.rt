@@ -14,14 +14,14 @@ use rows::Graph;
 pub const INPUT_BYTES: usize = 65536;
 
 // A number of the input, or none.
-#[derive(Drop)]
+#[derive(Clone, Copy)]
 pub enum Number {
     Value(u16),
     NoNumber,
 }
 
 // A line after the first: a change, or an ill-formed line.
-#[derive(Drop)]
+#[derive(Clone, Copy)]
 pub enum Line {
     Change {
         kind: u16,
@@ -33,7 +33,7 @@ pub enum Line {
 }
 
 // The whole input: refused at a line, or n and as many changes.
-#[derive(Drop)]
+#[derive(Clone, Copy)]
 pub enum Parsed {
     Refused { line: usize },
     Accepted { n: usize, count: usize },

@@ -1,5 +1,5 @@
 // Updates drawn from a seed.
-#[derive(Drop)]
+#[derive(Clone, Copy)]
 pub struct Drawn {
     pub kind: u64,
     pub u: u64,

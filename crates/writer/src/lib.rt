@@ -378,7 +378,7 @@ fn write_file(
 }
 
 // What is known of a file before its first byte: document 01's m, g and s, the length, and the least members as a set of bits.
-#[derive(Drop)]
+#[derive(Clone, Copy)]
 pub struct Sizes {
     pub nodes: usize,
     pub groups: usize,
@@ -406,7 +406,7 @@ fn measure(n: usize, least: &[u16], edges: &[u64], leaders: &mut [u16]) -> Sizes
 }
 
 // What a release returns: the result, then document 01's m, g and s, and the length.
-#[derive(Drop)]
+#[derive(Clone, Copy)]
 pub struct Written {
     pub result: u16,
     pub nodes: u16,
