@@ -1,0 +1,15 @@
+-- `group_size` meets its contract.
+use Prim.Native.Nat.{◌-◌, ◌≤◌}
+use lib.ListN.{length}
+use Rattle.buffers.specs.Scan.{scan, Counting}
+use Rattle.queries.specs.Query.{led_by}
+use Rattle.queries.proofs.group_size.Reads as reads
+use Rattle.queries.proofs.group_size.Lts as lts
+use Rattle.groups.proofs.number.Reads as number-reads
+use Rattle.queries.proofs.group_size.Given as goal
+
+abbrev pub invariant-loop-q : goal.invariant-loop-q
+invariant-loop-q l = (l.size ≤ l.q) × Counting (led_by l.nodes l.l) l.n (length (scan (led_by l.nodes l.l) l.n 0)) l.size l.q
+
+abbrev pub decreases-loop-q : goal.decreases-loop-q
+decreases-loop-q l = l.n - l.q

@@ -1,0 +1,11 @@
+-- `reader::read_run` meets its contract.
+use Prim.Native.Nat.{◌-◌}
+use lib.ListN.{length}
+use Rattle.reader.specs.Decoding.{RunLeft}
+use Rattle.reader.proofs.read_run.Given as goal
+
+abbrev pub invariant-loop-second : goal.invariant-loop-second
+invariant-loop-second l = RunLeft l.g l.i l.few l.file l.from l.firsts l.initial.joined l.joined l.initial.sums l.sums l.last l.at
+
+abbrev pub decreases-loop-second : goal.decreases-loop-second
+decreases-loop-second l = length l.file - l.at
