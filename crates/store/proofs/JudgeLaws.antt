@@ -43,6 +43,7 @@ states_each n f (i ∷ l) h = and_true (and_snd (same_list (f i) _) _ (and_fst (
 
 state_at : (n : ℕ) (f : ℕ → List ℕ) (l : List ℕ) → are_states (map (λ i. place_in n (f i)) l) ≡ true → (i : ℕ) → i ∈ l → is_state (place_in n (f i)) ≡ true
 unfolding are_states
+state_at n f [] h i x' = elim x' [ ]
 state_at n f (x ∷ l) h i (Memᴰ.head e) = rw e (and_fst (is_state (place_in n (f x))) _ h)
 state_at n f (x ∷ l) h i (Memᴰ.tail m) = state_at n f l (and_snd (is_state (place_in n (f x))) _ h) i m
 
