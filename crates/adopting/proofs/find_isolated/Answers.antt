@@ -16,11 +16,13 @@ pub returns-then-is_bare : goal.returns-then-is_bare
 returns-then-is_bare c = first_is (omega arith) c.loop-p.invariant.1 (isolated_if _ _ _ _ c.wide.ensures c.if-wide-p.true c.is_bare.ensures ∙ c.if-is_bare.true)
 
 pub loop-p-preserved : goal.loop-p-preserved
-loop-p-preserved c =
-    (omega arith, below_more _ _ c.loop-p.invariant.1 (elim c.if-wide-p.branch [
-      then-wide-p+else-is_bare w ↦ isolated_if _ _ _ _ c.wide.ensures w.if-wide-p.true w.is_bare.ensures ∙ w.if-is_bare.false |
-      else-wide-p w ↦ isolated_not _ _ _ _ c.wide.ensures w.if-wide-p.false
-    ]))
+loop-p-preserved c = (
+  omega arith,
+  below_more _ _ c.loop-p.invariant.1 (elim c.if-wide-p.branch [
+    | then-wide-p+else-is_bare w ↦ isolated_if _ _ _ _ c.wide.ensures w.if-wide-p.true w.is_bare.ensures ∙ w.if-is_bare.false
+    | else-wide-p w ↦ isolated_not _ _ _ _ c.wide.ensures w.if-wide-p.false
+  ]),
+)
 
 pub returns : goal.returns
 returns c = first_no (omega arith) c.loop-p.invariant.1

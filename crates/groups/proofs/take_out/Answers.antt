@@ -15,8 +15,7 @@ link-requires c =
     omega (arith, c.requires.0.next c.args.u c.requires.1, c.requires.0.prev c.args.u c.requires.1)
 
 pub returns : goal.returns
-returns c =
-    (
-      taken_by c.requires.0.size c.requires.1 c.number-a.ensures c.number-b.ensures (subst (λ z. NewLeast z c.args.u c.number-b.result c.new_least-y.result) c.number-l.ensures c.new_least-y.ensures) c.rename.ensures c.link.ensures c.link-2.ensures c.store.ensures,
-      subst (λ z. OthersLeft z c.args.u c.others_left-left.result) c.number-b.ensures c.others_left-left.ensures,
-    )
+returns c = (
+  taken_by c.requires.0.size c.requires.1 c.number-a.ensures c.number-b.ensures (subst (λ z. NewLeast z c.args.u c.number-b.result c.new_least-y.result) c.number-l.ensures c.new_least-y.ensures) c.rename.ensures c.link.ensures c.link-2.ensures c.store.ensures,
+  subst (λ z. OthersLeft z c.args.u c.others_left-left.result) c.number-b.ensures c.others_left-left.ensures,
+)

@@ -24,8 +24,7 @@ difference-requires c =
     omega (arith, others_left_small c.take_out-others.ensures.1, back_small c.put_back-joined.ensures)
 
 pub returns : goal.returns
-returns c =
-    (
-      class_tables c.requires.0 c.take_out-others.ensures.0 c.store.ensures c.put_back-joined.ensures,
-      to_z-of_z {w = w16} (record { sfits = c.difference.type_inv }) ∙ c.difference.ensures ∙ class_answered c.requires.0 c.take_out-others.ensures.0 c.store.ensures c.put_back-joined.ensures c.take_out-others.ensures.1,
-    )
+returns c = (
+  class_tables c.requires.0 c.take_out-others.ensures.0 c.store.ensures c.put_back-joined.ensures,
+  to_z-of_z {w = w16} (record { sfits = c.difference.type_inv }) ∙ c.difference.ensures ∙ class_answered c.requires.0 c.take_out-others.ensures.0 c.store.ensures c.put_back-joined.ensures c.take_out-others.ensures.1,
+)

@@ -28,22 +28,20 @@ change_keys-requires c =
     (omega (arith, e.0, z.0), omega (arith, e.1, z.0), e.2, omega (arith, e.0, z.3), omega (arith, e.1, z.3))
 
 pub put_back-a_joined-requires : goal.put_back-a_joined-requires
-put_back-a_joined-requires c =
-    (
-      asked₂ c.requires c.lesser-a.ensures c.greater-b.ensures c.take_out-a_left.ensures.0 c.take_out-b_left.ensures.0,
-      asked_ready c.requires c.lesser-a.ensures c.greater-b.ensures c.take_out-a_left.ensures.0 c.take_out-b_left.ensures.0 c.change_edge.ensures c.change_keys.ensures,
-      omega (arith, asked_lesser c.requires c.lesser-a.ensures, asked_greater c.requires c.greater-b.ensures),
-      omega (arith, asked_lesser c.requires c.lesser-a.ensures, asked_greater c.requires c.greater-b.ensures),
-    )
+put_back-a_joined-requires c = (
+  asked₂ c.requires c.lesser-a.ensures c.greater-b.ensures c.take_out-a_left.ensures.0 c.take_out-b_left.ensures.0,
+  asked_ready c.requires c.lesser-a.ensures c.greater-b.ensures c.take_out-a_left.ensures.0 c.take_out-b_left.ensures.0 c.change_edge.ensures c.change_keys.ensures,
+  omega (arith, asked_lesser c.requires c.lesser-a.ensures, asked_greater c.requires c.greater-b.ensures),
+  omega (arith, asked_lesser c.requires c.lesser-a.ensures, asked_greater c.requires c.greater-b.ensures),
+)
 
 pub put_back-b_joined-requires : goal.put_back-b_joined-requires
-put_back-b_joined-requires c =
-    (
-      asked₃ c.requires c.lesser-a.ensures c.greater-b.ensures c.take_out-a_left.ensures.0 c.take_out-b_left.ensures.0 c.change_edge.ensures c.change_keys.ensures c.put_back-a_joined.ensures,
-      asked_ready c.requires c.lesser-a.ensures c.greater-b.ensures c.take_out-a_left.ensures.0 c.take_out-b_left.ensures.0 c.change_edge.ensures c.change_keys.ensures,
-      omega (arith, asked_lesser c.requires c.lesser-a.ensures, asked_greater c.requires c.greater-b.ensures),
-      omega (arith, asked_lesser c.requires c.lesser-a.ensures, asked_greater c.requires c.greater-b.ensures),
-    )
+put_back-b_joined-requires c = (
+  asked₃ c.requires c.lesser-a.ensures c.greater-b.ensures c.take_out-a_left.ensures.0 c.take_out-b_left.ensures.0 c.change_edge.ensures c.change_keys.ensures c.put_back-a_joined.ensures,
+  asked_ready c.requires c.lesser-a.ensures c.greater-b.ensures c.take_out-a_left.ensures.0 c.take_out-b_left.ensures.0 c.change_edge.ensures c.change_keys.ensures,
+  omega (arith, asked_lesser c.requires c.lesser-a.ensures, asked_greater c.requires c.greater-b.ensures),
+  omega (arith, asked_lesser c.requires c.lesser-a.ensures, asked_greater c.requires c.greater-b.ensures),
+)
 
 pub overflow_add-left : goal.overflow_add-left
 overflow_add-left c =
@@ -58,8 +56,7 @@ difference-requires c =
     omega (arith, others_left_small c.take_out-a_left.ensures.1, others_left_small c.take_out-b_left.ensures.1, back_small c.put_back-a_joined.ensures, back_small c.put_back-b_joined.ensures)
 
 pub returns : goal.returns
-returns c =
-    (
-      asked_tables c.requires c.lesser-a.ensures c.greater-b.ensures c.take_out-a_left.ensures.0 c.take_out-b_left.ensures.0 c.change_edge.ensures c.change_keys.ensures c.put_back-a_joined.ensures c.put_back-b_joined.ensures,
-      to_z-of_z {w = w16} (record { sfits = c.difference.type_inv }) ∙ c.difference.ensures ∙ asked-answer c.requires c.lesser-a.ensures c.greater-b.ensures c.take_out-a_left.ensures.0 c.take_out-b_left.ensures.0 c.change_edge.ensures c.change_keys.ensures c.put_back-a_joined.ensures c.put_back-b_joined.ensures c.take_out-a_left.ensures.1 c.take_out-b_left.ensures.1,
-    )
+returns c = (
+  asked_tables c.requires c.lesser-a.ensures c.greater-b.ensures c.take_out-a_left.ensures.0 c.take_out-b_left.ensures.0 c.change_edge.ensures c.change_keys.ensures c.put_back-a_joined.ensures c.put_back-b_joined.ensures,
+  to_z-of_z {w = w16} (record { sfits = c.difference.type_inv }) ∙ c.difference.ensures ∙ asked-answer c.requires c.lesser-a.ensures c.greater-b.ensures c.take_out-a_left.ensures.0 c.take_out-b_left.ensures.0 c.change_edge.ensures c.change_keys.ensures c.put_back-a_joined.ensures c.put_back-b_joined.ensures c.take_out-a_left.ensures.1 c.take_out-b_left.ensures.1,
+)

@@ -23,9 +23,12 @@ bounds-set-w-then-is_visible c = omega (arith, c.word_of-w.ensures, c.loop-q.inv
 
 pub loop-q-preserved : goal.loop-q-preserved
 loop-q-preserved c =
-    elim c.if-is_visible.branch [ then-is_visible w ↦ 
-    let f = flipped_at _ 0 _ _ _ (omega arith) (omega (arith, c.loop-q.invariant.1.size)) (omega (arith, w.word_of-w.ensures)) w.mask.ensures in
-    (omega arith, rw w.set-is (marking_yes c.loop-q.invariant.1 (sym c.is_visible.ensures ∙ w.if-is_visible.true) f.size f.words f.bits)) | else-is_visible w ↦ (omega arith, rw w.set-is (marking_no c.loop-q.invariant.1 (sym c.is_visible.ensures ∙ w.if-is_visible.false))) ]
+    elim c.if-is_visible.branch [
+      | then-is_visible w ↦
+          let f = flipped_at _ 0 _ _ _ (omega arith) (omega (arith, c.loop-q.invariant.1.size)) (omega (arith, w.word_of-w.ensures)) w.mask.ensures in
+          (omega arith, rw w.set-is (marking_yes c.loop-q.invariant.1 (sym c.is_visible.ensures ∙ w.if-is_visible.true) f.size f.words f.bits))
+      | else-is_visible w ↦ (omega arith, rw w.set-is (marking_no c.loop-q.invariant.1 (sym c.is_visible.ensures ∙ w.if-is_visible.false)))
+    ]
 
 pub returns : goal.returns
 returns c = let e : c.loop-q.q ≡ c.args.n = omega (arith, c.loop-q.invariant.0) in rw e at c.loop-q.invariant.1

@@ -9,18 +9,18 @@ pub put_text-digits-requires : goal.put_text-digits-requires
 put_text-digits-requires c = omega (arith, length_below _ _ c.ranges.x c.if-x-lt0.true refl)
 
 pub put_decimal-requires : goal.put_decimal-requires
-put_decimal-requires c = 
+put_decimal-requires c =
     let p = c.put_text-digits.ensures in
     omega (arith, length_below _ _ c.ranges.x c.if-x-lt0.true c.magnitude.ensures, p.place, wrote_length p)
 
 pub returns-then-x-lt0 : goal.returns-then-x-lt0
-returns-then-x-lt0 c = 
+returns-then-x-lt0 c =
     wrote_below _ _ c.ranges.x c.if-x-lt0.true c.put_text-digits.ensures c.magnitude.ensures c.put_decimal.ensures
 
 pub put_decimal-requires-2 : goal.put_decimal-requires-2
-put_decimal-requires-2 c = 
+put_decimal-requires-2 c =
     omega (arith, length_else _ _ c.ranges.x c.if-x-lt0.false c.magnitude-2.ensures)
 
 pub returns : goal.returns
-returns c = 
+returns c =
     wrote_else _ _ c.ranges.x c.if-x-lt0.false c.magnitude-2.ensures c.put_decimal-2.ensures

@@ -20,15 +20,21 @@ pub group_lines-joins-requires : goal.group_lines-joins-requires
 group_lines-joins-requires c = let f = c.args.file.now in
     let g = c.number_at-g in
     let p = c.groups_end-p in
-    let r = rw (file_text_is f _ _ _ p.result c.number_at.ensures.0 g.ensures.0 p.ensures.0 c.count_superedges.ensures) at c.requires in record { from_bound = omega arith; file_in_bounds = room_first (group_texts g.result (drop 8 f)) (superedge_texts (length f) (drop p.result f)) _ _
-          (room_then c.open_line-groups.ensures (group_texts g.result (drop 8 f) ++ superedge_texts (length f) (drop p.result f)) r) }
+    let r = rw (file_text_is f _ _ _ p.result c.number_at.ensures.0 g.ensures.0 p.ensures.0 c.count_superedges.ensures) at c.requires in record {
+      from_bound = omega arith;
+      file_in_bounds = room_first (group_texts g.result (drop 8 f)) (superedge_texts (length f) (drop p.result f)) _ _
+          (room_then c.open_line-groups.ensures (group_texts g.result (drop 8 f) ++ superedge_texts (length f) (drop p.result f)) r);
+    }
 
 pub superedge_lines-requires : goal.superedge_lines-requires
 superedge_lines-requires c = let f = c.args.file.now in
     let g = c.number_at-g in
     let p = c.groups_end-p in
-    let r = rw (file_text_is f _ _ _ p.result c.number_at.ensures.0 g.ensures.0 p.ensures.0 c.count_superedges.ensures) at c.requires in record { from_bound = omega arith; file_in_bounds = room_then c.group_lines-joins.ensures (superedge_texts (length f) (drop p.result f))
-          (room_then c.open_line-groups.ensures (group_texts g.result (drop 8 f) ++ superedge_texts (length f) (drop p.result f)) r) }
+    let r = rw (file_text_is f _ _ _ p.result c.number_at.ensures.0 g.ensures.0 p.ensures.0 c.count_superedges.ensures) at c.requires in record {
+      from_bound = omega arith;
+      file_in_bounds = room_then c.group_lines-joins.ensures (superedge_texts (length f) (drop p.result f))
+          (room_then c.open_line-groups.ensures (group_texts g.result (drop 8 f) ++ superedge_texts (length f) (drop p.result f)) r);
+    }
 
 pub returns : goal.returns
 returns c = let f = c.args.file.now in

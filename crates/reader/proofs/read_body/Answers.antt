@@ -11,11 +11,14 @@ pub read_joined-at-requires : goal.read_joined-at-requires
 read_joined-at-requires c =
     let pre = c.requires in
     let groups = c.read_groups.ensures in
-    let whole = c.in-Whole.is in record { firsts_are_nodes = (
+    let whole = c.in-Whole.is in record {
+      firsts_are_nodes = (
         body_nodes _ _ _ _ _ _ _ _ _ _ _ _ _ _ _ pre.0 pre.3 pre.4 groups _ _ whole pre.1,
         body_placed _ _ _ _ _ _ _ _ _ _ _ _ _ _ _ pre.0 pre.3 pre.4 groups _ _ whole pre.1 pre.2 (length-replicate {A = ℕ} 512 0),
         body_ascend _ _ _ _ _ _ _ _ _ _ _ _ _ _ _ pre.0 pre.3 pre.4 groups _ _ whole,
-      ); joined_value = (pre.3.rows.bits, pre.4, pre.5) }
+      );
+      joined_value = (pre.3.rows.bits, pre.4, pre.5);
+    }
 
 pub returns : goal.returns
 returns c =

@@ -18,12 +18,11 @@ pub loop-i-init : goal.loop-i-init
 loop-i-init c = (search rules, below_none _)
 
 pub groups-preserved-then-row-i : goal.groups-preserved-then-row-i
-groups-preserved-then-row-i c =
-    (
-      omega arith,
-      below_more _ _ (tried_skipped _ _ _ _ _ _ _ _ _ c.groups.invariant.1 c.next_agreeing-q.ensures)
-          (tried_differs _ _ _ _ _ _ _ _ c.key_agrees-closed.ensures c.loop-i.i _ (omega arith) c.own_bits.ensures c.if-row-i.true),
-    )
+groups-preserved-then-row-i c = (
+  omega arith,
+  below_more _ _ (tried_skipped _ _ _ _ _ _ _ _ _ c.groups.invariant.1 c.next_agreeing-q.ensures)
+      (tried_differs _ _ _ _ _ _ _ _ c.key_agrees-closed.ensures c.loop-i.i _ (omega arith) c.own_bits.ensures c.if-row-i.true),
+)
 
 pub loop-i-preserved : goal.loop-i-preserved
 loop-i-preserved c = (omega arith, below_more _ _ c.loop-i.invariant.1 (c.if-row-i.false ∙ c.own_bits.ensures))

@@ -50,12 +50,12 @@ loop-p-preserved c =
     let test = c.loop-p-test.true in (
       omega arith,
       elim c.if-least-p.branch [
-        then-least-p w ↦ rw w.sums-is (cubed_more inv.1 w.wide-own.ensures (led_first firsts test w.if-least-p.true w.wide-own.ensures) w.cube_of.ensures w.wrapping_add_u32.ensures.value) |
-        else-least-p w ↦ rw w.sums-is (cubed_skip inv.1 w.if-least-p.false)
+        | then-least-p w ↦ rw w.sums-is (cubed_more inv.1 w.wide-own.ensures (led_first firsts test w.if-least-p.true w.wide-own.ensures) w.cube_of.ensures w.wrapping_add_u32.ensures.value)
+        | else-least-p w ↦ rw w.sums-is (cubed_skip inv.1 w.if-least-p.false)
       ],
       elim c.if-least-p.branch [
-        then-least-p w ↦ rw w.sums-is (joined_none w.wide-own.result w.wrapping_add_u32.result inv.2) |
-        else-least-p w ↦ rw w.sums-is inv.2
+        | then-least-p w ↦ rw w.sums-is (joined_none w.wide-own.result w.wrapping_add_u32.result inv.2)
+        | else-least-p w ↦ rw w.sums-is inv.2
       ],
     )
 
