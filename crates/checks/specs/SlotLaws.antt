@@ -1,5 +1,5 @@
 -- Keys of leaders, by slots: where a slot is free, no leader of the class so far has the key.
-use Rattle.std.specs.Prelude.{◌≡◌, ℕ, ◌+◌, ◌*◌, ◌/◌, ◌%◌, ◌^◌, ◌<◌, Bool, true, false, not, ◌||◌, ◌⊎◌, List, length, set, ◌==◌, ◌≢◌, bit_or, slice_index, slice_set}
+use Rattle.std.specs.Prelude.{◌≡◌, ℕ, ◌+◌, ◌*◌, ◌/◌, ◌%◌, ◌^◌, ◌<◌, Bool, true, false, not, ◌||◌, ◌⊎◌, List, length, ◌==◌, ◌≢◌, bit_or, slice_index, slice_set}
 use Rattle.std.proofs.Math.Path.{refl, sym}
 use Rattle.std.proofs.Common.{ap, ap₂, ◌∙◌, inl, inr, add-zero, arith}
 use Rattle.std.proofs.Math.Bool.{or-true}

@@ -5,7 +5,7 @@ use Rattle.std.proofs.Common.{◌∙◌, inl, arith, length-set, get_or-set_othe
 use Rattle.std.proofs.Math.Bool.{and-false}
 use Rattle.std.proofs.Math.Logic.{inr}
 use borrow.Author.Tests.{eqb-false, eqb-true, eq-eqb, lt-ltb, ltb-false, ltb-true}
-use Rattle.model.specs.Lists.{◌∈◌, nodes}
+use Rattle.model.specs.Lists.{◌∈◌}
 use Rattle.model.specs.Graph.{Graph, View, whole}
 use Rattle.model.specs.Grouping.{closed, false_twins, least, similar, true_twins}
 use Rattle.model.specs.Tables.{edge_bit, keys_of, edges_in, graph_in}

@@ -1,5 +1,5 @@
 -- Where the least members, the classes and the edges are those of a graph's visible part, the file is its release.
-use Rattle.std.specs.Prelude.{◌≡◌, Bool, ◌&&◌, cond, ◌⊎◌, ℕ, suc, ◌+◌, ◌-◌, ◌<◌, drop}
+use Rattle.std.specs.Prelude.{◌≡◌, Bool, ◌&&◌, cond, ◌⊎◌, ℕ, suc, ◌+◌, ◌<◌, drop}
 use Rattle.std.proofs.Math.Path.{refl, sym, ap, ap₂}
 use Rattle.std.proofs.Common.{◌∙◌, inl, inr, arith, add-one, drop_of_length-le, drop-cons}
 use Rattle.std.proofs.Math.Bool.{true, false}
@@ -21,7 +21,6 @@ use Rattle.model.proofs.ClassLaws.{Equivalence, group_in_lem, group_out, leader_
 use Rattle.model.proofs.SummaryLaws.{adjacent_law, algorithm1-classes, clique_law, equivalence, length_groups}
 use Rattle.model.proofs.TableLaws.{map_cong}
 use Rattle.model.proofs.ReleaseLaws.{length-concat_groups, length_superedge_records, visible_ascending, visible-simple}
-use Rattle.model.proofs.UpdateLaws.{apart}
 use Rattle.model.proofs.ReadBackLaws.{visible_inside}
 use Rattle.rows.specs.Rows.{leads}
 use Rattle.buffers.specs.Scan.{flat, scan}

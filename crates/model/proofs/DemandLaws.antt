@@ -20,7 +20,7 @@ use Rattle.model.specs.Queries.{leader_in, neighbours}
 use Rattle.model.specs.Distance.{distance, distance_by}
 use Rattle.model.specs.Reading.{decode, is_release, summary_by, summary_in}
 use Rattle.model.specs.Calls.{Filled, Listed, Measured, Released, apply_call, apply_reasons, apply_refused, distance_refused, drop_call, drop_reasons, file_distance_call, file_distance_reasons, file_neighbours_call, file_neighbours_reasons, fill_refused, group_call, group_reasons, keep_call, keep_reasons, list_refused, listing, neighbours_call, neighbours_reasons, onto, open_call, open_reasons, read_call, read_reasons, release_call, release_reasons, release_refused, released, restore_call, restore_reasons, tied_call, tied_reasons}
-use Rattle.model.specs.History.{Alike, CallsTold, Room, Source, StoreTold, by_history, graph_of_source, handed_in, number, opening, room_of, tables_of_source}
+use Rattle.model.specs.History.{Alike, CallsTold, Room, Source, StoreTold, by_history, graph_of_source, handed_in, room_of, tables_of_source}
 use Rattle.model.proofs.TestLaws.{differ, fails}
 use Rattle.model.proofs.ListLaws.{Ascending, filter_cong, nodes_ascending, nodes_in_lem}
 use Rattle.model.proofs.DistanceLaws.{distance_shortest}

@@ -12,7 +12,7 @@ use Rattle.std.proofs.Math.Seq.{take_at, drop-append-add}
 use borrow.Author.Tests.{eqb-true, eq-eqb, ltb-true, lt-ltb, not-true}
 use Rattle.model.specs.Lists.{all, concat, nodes, same_list}
 use Rattle.model.specs.Graph.{Graph, Proper, max_nodes, row_words}
-use Rattle.model.specs.Tables.{edges_in, edges_of, is_graph}
+use Rattle.model.specs.Tables.{edges_of, is_graph}
 use Rattle.model.specs.Store.{Place, are_apart, are_states, bytes_of, dropping, free, graph_at, is_free, is_full, is_kept, is_name, is_new, is_state, is_store, is_under, keeping, kept, kept_graph, max_states, name_bytes, no_states, node_word, node_words, number, place_in, place_of, place_words, places_in, state_graph, store_of, store_words, words_at}
 use Rattle.model.proofs.TestLaws.{and_fst, and_snd, and_true, decide, differ, fails, or_none}
 use Rattle.model.proofs.ListLaws.{same_eq, same_refl}

@@ -11,7 +11,7 @@ use Rattle.model.specs.Graph.{Graph, Proper, empty_graph, max_classes, max_nodes
 use Rattle.model.specs.Updates.{Update, answer, answers, asked, batch_graph, group_count, is_frozen, is_pair, on_class, on_edge, on_mark, refusal, refusal_in, update_reasons, updated, there, update, update_count, update_numbers, update_refused, updates_in, wrong_value}
 use Rattle.model.specs.Grouping.{algorithm1}
 use Rattle.model.specs.Refusals.{first_of}
-use Rattle.model.specs.Lists.{all, nodes}
+use Rattle.model.specs.Lists.{all}
 use Rattle.model.specs.Steps.{Stepped, run}
 use Rattle.model.proofs.TestLaws.{and_fst, and_snd, decide, differ, or_cases, or_none}
 use Rattle.model.proofs.RefusalLaws.{first_none, first_passes, judged_done, judged_refused, judged_related}

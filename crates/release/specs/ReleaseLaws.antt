@@ -1,5 +1,5 @@
 -- The calls on releases are those of the model.
-use Rattle.std.specs.Prelude.{◌≡◌, refl, true, false, cond, ◌&&◌, ◌≢◌, ◌⊎◌, ℕ, ◌*◌, ◌≤◌, ◌<◌, eqb, ltb, length, get_or, take}
+use Rattle.std.specs.Prelude.{◌≡◌, true, false, cond, ◌&&◌, ◌≢◌, ◌⊎◌, ℕ, ◌*◌, ◌≤◌, ◌<◌, eqb, ltb, length, get_or, take}
 use Rattle.std.proofs.Common.{sym, ◌∙◌, inl, inr, arith, length-take-le}
 use Rattle.std.proofs.Math.Path.{ap, fun_ext}
 use mathlib.Core.List.{List, [], ◌∷◌}

@@ -1,5 +1,5 @@
 -- How many groups a table holds, and by how much the steps change that.
-use Rattle.std.specs.Prelude.{◌≡◌, refl, ◌≢◌, ◌⊎◌, Bool, true, false, List, ℕ, zero, suc, ◌+◌, ◌<◌, eqb}
+use Rattle.std.specs.Prelude.{◌≡◌, refl, ◌≢◌, Bool, true, false, List, ℕ, zero, suc, ◌+◌, ◌<◌, eqb}
 use Rattle.std.proofs.Common.{sym, subst, ◌∙◌, ap, ⊎_elim, arith, eq-eqb, ne_eqb}
 use Rattle.std.proofs.Math.Decide.{ℕ_discrete}
 use Rattle.model.specs.Tables.{node_number}

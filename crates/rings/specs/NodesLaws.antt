@@ -1,14 +1,14 @@
 -- The node table that the model demands of a graph is the one table that holds the graph's groups, with its labels.
 use Rattle.std.specs.Prelude.{◌≡◌, ◌⊎◌, true, false, cond, ◌&&◌, List, [], ◌∷◌, eqb, length, get_or}
 use Rattle.std.proofs.Math.Path.{refl}
-use Rattle.std.proofs.Common.{sym, subst, ◌∙◌, ap, inl, inr, ⊎_elim, arith, le_antisymm, ext_get_or}
+use Rattle.std.proofs.Common.{sym, subst, ◌∙◌, inl, inr, ⊎_elim, arith, le_antisymm, ext_get_or}
 use mathlib.Core.List.Memᴰ
 use Prim.Native.Nat.{ℕ, suc, zero, ◌+◌, ◌*◌, ◌/◌, ◌%◌, ◌≤◌, ◌<◌}
 use Rattle.std.proofs.Math.Dec.{ltb}
 use borrow.Author.Tests.{eqb-true, eqb-false, ltb-true, lt-ltb}
 use Rattle.model.specs.Lists.{◌∈◌, filter, head_or, last_or, nodes}
 use Rattle.model.specs.Graph.{Graph, Proper, node_numbers, whole}
-use Rattle.model.specs.Grouping.{group, least, similar}
+use Rattle.model.specs.Grouping.{group, similar}
 use Rattle.model.specs.Tables.{group_in, next_in, node_number, node_of, nodes_of, prev_in}
 use Rattle.model.proofs.TestLaws.{decide}
 use Rattle.model.proofs.ListLaws.{Ascending, filter_ascending, filter_elim, filter_intro, head_or_in, head_or-le, nodes_ascending, nodes_in_lem, nodes_out}

@@ -11,7 +11,7 @@ use Rattle.std.proofs.Math.Seq.{length-take-le}
 use Rattle.model.specs.Lists.{◌∈◌, all, nodes, same_list}
 use Rattle.model.specs.Graph.{Graph, max_classes, max_nodes, row_words}
 use Rattle.model.specs.Tables.{edges_of, is_graph, simple}
-use Rattle.model.specs.Store.{are_apart, are_states, free, graph_at, is_state, is_store, max_states, node_words, place_in, place_of, place_words, places_in, state_graph, store_of, store_words, words_at}
+use Rattle.model.specs.Store.{are_apart, are_states, graph_at, is_state, is_store, max_states, node_words, place_in, place_of, place_words, places_in, state_graph, store_of, store_words, words_at}
 use Rattle.model.proofs.TestLaws.{and_fst, and_one, and_snd, and_true, decide, differ, iff_eq}
 use Rattle.model.proofs.ListLaws.{all_elim, all_intro, nodes_in_lem, nodes_out, same_eq, same_refl}
 use Rattle.model.proofs.TableLaws.{length_edges}

@@ -9,7 +9,7 @@ use Rattle.model.specs.Graph.{Graph, max_nodes}
 use Rattle.model.specs.Tables.{Tables, edges_of, graph_of, holds, tables_of}
 use Rattle.model.proofs.TableLaws.{held_proper, held_tables}
 use Rattle.model.specs.Store.{Place, dropping, free, graph_at, is_full, is_kept, is_name, is_store, keeping, kept, kept_graph, max_states, name_bytes, node_words, number, place_in, place_of, place_words, places_in, store_of, store_words, words_at, wrong_name, wrong_store}
-use Rattle.model.specs.Refusals.{first_of, judged, lengths, wrong_size}
+use Rattle.model.specs.Refusals.{first_of, lengths, wrong_size}
 use Rattle.model.specs.Calls.{drop_call, drop_reasons, fill_refused, keep_call, keep_reasons, restore_call, restore_reasons, store_refused}
 use Rattle.model.proofs.TestLaws.{and_fst, and_snd, and_true, decide, or_none}
 use Rattle.model.proofs.ListLaws.{all_elim, nodes_in_lem}

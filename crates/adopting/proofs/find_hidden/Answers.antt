@@ -1,5 +1,4 @@
 -- `adopting::find_hidden` meets its contract.
-use mathlib.Core.Bool.{false}
 use native.Mathlib.Omega.{arith}
 use borrow.Author.Count.{below_more, below_none}
 use Rattle.adopting.specs.LoopLaws.{first_is, first_no, hidden_here, hidden_not}

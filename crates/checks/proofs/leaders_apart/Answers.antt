@@ -1,5 +1,5 @@
 -- The invariant: the nodes before u pass, and the slots of the keys of leaders among them are taken.
-use Rattle.std.proofs.Common.{ℕ, true, sym, arith, below_none, below_more}
+use Rattle.std.proofs.Common.{ℕ, sym, arith, below_none, below_more}
 use lib.ListN.{length-replicate}
 use Rattle.checks.specs.Checks.{leaders_apart}
 use Rattle.checks.specs.SlotLaws.{seen_none}

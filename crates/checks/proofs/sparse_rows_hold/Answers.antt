@@ -1,6 +1,5 @@
 -- The invariant: the nodes before p pass.
-use Rattle.std.proofs.Common.{true, arith, below_none, below_more}
-use Rattle.edges.specs.Edges.{row_holds}
+use Rattle.std.proofs.Common.{arith, below_none, below_more}
 use Rattle.checks.specs.Checks.{rows_hold}
 use Rattle.buffers.specs.AllLaws.{all_fail, all_pass_lem, failed, passed}
 use Rattle.std.proofs.Common.{ap, not}

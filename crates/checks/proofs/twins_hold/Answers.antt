@@ -1,5 +1,5 @@
 -- The invariant: the nodes before p pass.
-use Rattle.std.proofs.Common.{true, arith, below_none, below_more}
+use Rattle.std.proofs.Common.{arith, below_none, below_more}
 use Rattle.checks.specs.Checks.{twins_hold}
 use Rattle.checks.specs.StepLaws.{twin_told}
 use Rattle.buffers.specs.AllLaws.{all_fail, all_pass_lem, failed, passed}

@@ -1,6 +1,6 @@
 -- `grouping::are_all_apart` meets its contract.
 -- The invariant: the chains hold the leaders below u, and each is apart from those below it.
-use Rattle.std.proofs.Common.{true, sym, ◌∙◌, arith, below_none, below_more}
+use Rattle.std.proofs.Common.{sym, ◌∙◌, arith, below_none, below_more}
 use Rattle.grouping.specs.PartedLaws.{all_apart, one_merges, parted_none}
 use Rattle.std.proofs.Common.{ap, not}
 use Rattle.grouping.proofs.are_all_apart.Goals as goal

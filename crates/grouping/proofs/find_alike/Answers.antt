@@ -1,7 +1,6 @@
 -- `grouping::find_alike` meets its contract.
 -- Outer invariant: c stands in the chain, and whoever is alike is not above it. Inner invariant: the words before i agree.
 use Rattle.std.proofs.Common.{◌∙◌, arith, below_none, below_more}
-use Rattle.search.specs.Search.{own_bits}
 use Rattle.grouping.specs.ChainLaws.{alike-agrees, alike_differs, class_differs, links_less, met_hit, met_miss, row-size, seeking_on, seeking_start}
 use Rattle.grouping.proofs.find_alike.Goals as goal
 

@@ -1,9 +1,5 @@
 -- `apply` meets its contract.
 use Rattle.index.specs.IndexLaws.{apply_refused_lem, apply_ready, apply_done}
-use Rattle.index.proofs.apply.Reads as reads
-use Rattle.index.proofs.apply.Lts as lts
-use Rattle.updates.proofs.run.Reads as run-reads
-use Rattle.index.proofs.batch_refusal.Reads as batch-refusal-reads
 use Rattle.index.proofs.apply.Goals as goal
 
 pub returns-then-number-ne0 : goal.returns-then-number-ne0

@@ -1,10 +1,5 @@
 -- `batch_refusal` meets its contract.
 use Rattle.index.specs.IndexLaws.{batch_wrong, apply_table, apply_short, apply_none}
-use Rattle.index.proofs.batch_refusal.Reads as reads
-use Rattle.index.proofs.batch_refusal.Lts as lts
-use Rattle.updates.proofs.count.Reads as count-reads
-use Rattle.updates.proofs.is_whole.Reads as is-whole-reads
-use Rattle.tables.proofs.refusal.Reads as refusal-reads
 use Rattle.index.proofs.batch_refusal.Goals as goal
 
 pub returns-then-not-is_whole : goal.returns-then-not-is_whole

@@ -3,12 +3,6 @@ use native.Mathlib.Omega.{arith}
 use Rattle.queries.proofs.QueryLaws.{scan_small}
 use Rattle.index.specs.IndexLaws.{group_table, group_outside, group_ends, group_done}
 use Rattle.tables.specs.LentLaws.{table_sized}
-use Rattle.index.proofs.group.Reads as reads
-use Rattle.index.proofs.group.Lts as lts
-use Rattle.groups.proofs.number.Reads as number-reads
-use Rattle.queries.proofs.group_size.Reads as group-size-reads
-use Rattle.queries.proofs.kind_of.Reads as kind-of-reads
-use Rattle.tables.proofs.refusal.Reads as refusal-reads
 use Rattle.index.proofs.group.Goals as goal
 
 pub returns-then-number-ne0 : goal.returns-then-number-ne0

@@ -3,11 +3,6 @@ use native.Mathlib.Omega.{arith}
 use Rattle.index.specs.IndexLaws.{tied_table, tied_pair, tied_done}
 use Rattle.rows.specs.PairLaws.{pair_ends}
 use Rattle.tables.specs.LentLaws.{table_sized}
-use Rattle.index.proofs.tied.Reads as reads
-use Rattle.index.proofs.tied.Lts as lts
-use Rattle.tables.proofs.refusal.Reads as refusal-reads
-use Rattle.rows.proofs.edge.Reads as edge-reads
-use Rattle.rows.proofs.pair_refusal.Reads as pair-refusal-reads
 use Rattle.index.proofs.tied.Goals as goal
 
 pub returns-then-number-ne0 : goal.returns-then-number-ne0

@@ -1,10 +1,5 @@
 -- `fill` meets its contract.
 use Rattle.opening.specs.OpenLaws.{tables_opened}
-use Rattle.opening.proofs.fill.Reads as reads
-use Rattle.opening.proofs.fill.Lts as lts
-use Rattle.buffers.proofs.clear_words.Reads as clear-words-reads
-use Rattle.opening.proofs.fill_keys.Reads as fill-keys-reads
-use Rattle.opening.proofs.fill_nodes.Reads as fill-nodes-reads
 use Rattle.opening.proofs.fill.Goals as goal
 
 pub returns : goal.returns

@@ -2,9 +2,6 @@
 use native.Mathlib.Omega.{arith}
 use lib.ListN.{length-set}
 use Rattle.opening.specs.OpenLaws.{keys_none, keys_more, keys_all}
-use Rattle.opening.proofs.fill_keys.Reads as reads
-use Rattle.opening.proofs.fill_keys.Lts as lts
-use Rattle.rows.proofs.cube_of.Reads as cube-of-reads
 use Rattle.opening.proofs.fill_keys.Goals as goal
 
 pub loop-p-init : goal.loop-p-init

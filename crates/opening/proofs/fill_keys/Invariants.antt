@@ -1,9 +1,6 @@
 -- `fill_keys` meets its contract.
 use Prim.Native.Nat.{◌-◌, ◌≤◌}
 use Rattle.opening.specs.Open.{KeysFilled}
-use Rattle.opening.proofs.fill_keys.Reads as reads
-use Rattle.opening.proofs.fill_keys.Lts as lts
-use Rattle.rows.proofs.cube_of.Reads as cube-of-reads
 use Rattle.opening.proofs.fill_keys.Given as goal
 
 abbrev pub invariant-loop-p : goal.invariant-loop-p

@@ -1,11 +1,6 @@
 -- `fill_nodes` meets its contract.
 use native.Mathlib.Omega.{arith}
 use Rattle.opening.specs.OpenLaws.{filled_none, filled_more, filled-all}
-use Rattle.opening.proofs.fill_nodes.Reads as reads
-use Rattle.opening.proofs.fill_nodes.Lts as lts
-use Rattle.opening.proofs.put_node.Reads as put-node-reads
-use Rattle.opening.proofs.ring_next.Reads as ring-next-reads
-use Rattle.opening.proofs.ring_prev.Reads as ring-prev-reads
 use Rattle.opening.proofs.fill_nodes.Goals as goal
 
 pub loop-p-init : goal.loop-p-init

@@ -2,8 +2,6 @@
 use native.Mathlib.Omega.{arith}
 use lib.ListN.{length-set}
 use Rattle.opening.specs.OpenLaws.{node_put}
-use Rattle.opening.proofs.put_node.Reads as reads
-use Rattle.opening.proofs.put_node.Lts as lts
 use Rattle.opening.proofs.put_node.Goals as goal
 
 pub bounds-nodes-a-2 : goal.bounds-nodes-a-2

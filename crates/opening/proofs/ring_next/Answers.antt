@@ -1,7 +1,5 @@
 -- `ring_next` meets its contract.
 use Rattle.opening.specs.OpenLaws.{next_inner, next_last}
-use Rattle.opening.proofs.ring_next.Reads as reads
-use Rattle.opening.proofs.ring_next.Lts as lts
 use Rattle.opening.proofs.ring_next.Goals as goal
 
 pub returns-then-p-n : goal.returns-then-p-n

@@ -1,7 +1,5 @@
 -- `ring_prev` meets its contract.
 use Rattle.opening.specs.OpenLaws.{prev_first, prev_inner}
-use Rattle.opening.proofs.ring_prev.Reads as reads
-use Rattle.opening.proofs.ring_prev.Lts as lts
 use Rattle.opening.proofs.ring_prev.Goals as goal
 
 pub returns-then-p-eq0 : goal.returns-then-p-eq0

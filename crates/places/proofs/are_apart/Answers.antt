@@ -1,5 +1,4 @@
 -- `are_apart` meets its contract.
-use mathlib.Core.Bool.{true}
 use native.Mathlib.Omega.{arith}
 use borrow.Author.Count.{below_more, below_none}
 use Rattle.buffers.specs.AllLaws.{all_fail, all_pass_lem, failed, passed}

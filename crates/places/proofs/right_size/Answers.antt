@@ -1,8 +1,5 @@
 -- `places::right_size` meets its contract.
 use Rattle.places.specs.StepLaws.{many_nodes, right_length}
-use Rattle.places.proofs.right_size.Reads as reads
-use Rattle.places.proofs.right_size.Lts as lts
-use Rattle.places.proofs.words.Reads as words-reads
 use Rattle.places.proofs.right_size.Goals as goal
 
 pub returns-then-n-gt-NODES : goal.returns-then-n-gt-NODES

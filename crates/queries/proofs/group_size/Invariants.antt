@@ -3,9 +3,6 @@ use Prim.Native.Nat.{◌-◌, ◌≤◌}
 use lib.ListN.{length}
 use Rattle.buffers.specs.Scan.{scan, Counting}
 use Rattle.queries.specs.Query.{led_by}
-use Rattle.queries.proofs.group_size.Reads as reads
-use Rattle.queries.proofs.group_size.Lts as lts
-use Rattle.groups.proofs.number.Reads as number-reads
 use Rattle.queries.proofs.group_size.Given as goal
 
 abbrev pub invariant-loop-q : goal.invariant-loop-q

@@ -1,10 +1,6 @@
 -- `kind_of` meets its contract.
 use mathlib.Core.Path.{sym, ◌∙◌}
 use Rattle.queries.proofs.QueryLaws.{kind_single, kind_clique, kind_independent}
-use Rattle.queries.proofs.kind_of.Reads as reads
-use Rattle.queries.proofs.kind_of.Lts as lts
-use Rattle.groups.proofs.number.Reads as number-reads
-use Rattle.rows.proofs.edge.Reads as edge-reads
 use Rattle.queries.proofs.kind_of.Goals as goal
 
 pub returns-then-next-l : goal.returns-then-next-l

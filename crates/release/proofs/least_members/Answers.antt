@@ -4,9 +4,6 @@ use Prim.Native.Nat.{ℕ, ◌*◌}
 use native.Mathlib.Omega.{arith}
 use lib.ListN.{length-replicate, replicate}
 use Rattle.release.specs.ReleaseLaws.{prefix_length, truth_whole}
-use Rattle.release.proofs.least_members.Reads as reads
-use Rattle.release.proofs.least_members.Lts as lts
-use Rattle.release.proofs.summarise.Reads as summarise-reads
 use Rattle.release.proofs.least_members.Goals as goal
 
 pub slice_bounds-summarise-end : goal.slice_bounds-summarise-end

@@ -2,10 +2,6 @@
 use mathlib.Core.Path.{◌∙◌}
 use Rattle.tables.specs.LentLaws.{table_held}
 use Rattle.release.specs.ReleaseLaws.{release_table, release-told}
-use Rattle.release.proofs.release.Reads as reads
-use Rattle.release.proofs.release.Lts as lts
-use Rattle.tables.proofs.refusal.Reads as refusal-reads
-use Rattle.release.proofs.write_visible.Reads as write-visible-reads
 use Rattle.release.proofs.release.Goals as goal
 
 pub returns-then-number-ne0 : goal.returns-then-number-ne0

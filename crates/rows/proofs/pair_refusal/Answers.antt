@@ -1,7 +1,5 @@
 -- `pair_refusal` meets its contract.
 use Rattle.rows.specs.PairLaws.{first_outside, second_outside, one_node_lem, two_nodes}
-use Rattle.rows.proofs.pair_refusal.Reads as reads
-use Rattle.rows.proofs.pair_refusal.Lts as lts
 use Rattle.rows.proofs.pair_refusal.Goals as goal
 
 pub returns-then-u-n : goal.returns-then-u-n

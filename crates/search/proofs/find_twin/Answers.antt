@@ -1,10 +1,8 @@
 -- Outer invariant: no group before `from` is the one. Inner invariant: the words before i agree.
 use mathlib.Core.Path.{◌∙◌}
-use mathlib.Core.Bool.{false}
 use native.Mathlib.Omega.{arith}
 use borrow.Author.Count.{below_more, below_none}
 use borrow.Author.Rules.{rules}
-use Rattle.search.specs.Search.{own_bits}
 use Rattle.search.specs.SearchLaws.{first_found, first_none, tried-agrees, tried_differs, tried-not, tried_skipped}
 use Rattle.search.proofs.find_twin.Goals as goal
 

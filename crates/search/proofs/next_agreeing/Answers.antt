@@ -1,6 +1,5 @@
 -- Before node q: the keys of no node before it agree.
 use mathlib.Core.Path.{sym, ◌∙◌}
-use Rattle.search.specs.Search.{keys_agree}
 use Rattle.search.specs.SearchLaws.{skip_one}
 use Rattle.search.proofs.next_agreeing.Goals as goal
 

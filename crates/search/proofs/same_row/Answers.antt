@@ -3,7 +3,6 @@
 use mathlib.Core.Path.{sym, ◌∙◌}
 use native.Mathlib.Omega.{arith}
 use borrow.Author.Count.{below_more, below_none}
-use Rattle.search.specs.Search.{own_bits}
 use Rattle.search.specs.SearchLaws.{meets-all, meets_differ}
 use Rattle.search.proofs.same_row.Goals as goal
 

@@ -2,12 +2,6 @@
 use native.Mathlib.Omega.{arith}
 use Rattle.model.proofs.StoreLaws.{name-length}
 use Rattle.store.proofs.StoredLaws.{drop_done, drop-judged, drop_refused, drop_unknown, found_below}
-use Rattle.store.proofs.drop.Reads as reads
-use Rattle.store.proofs.drop.Lts as lts
-use Rattle.places.proofs.clear.Reads as clear_reads
-use Rattle.places.proofs.find.Reads as find-reads
-use Rattle.places.proofs.name_in.Reads as name-in-reads
-use Rattle.store.proofs.refusal.Reads as refusal-reads
 use Rattle.store.proofs.drop.Goals as goal
 
 pub returns-then-number-ne0 : goal.returns-then-number-ne0

@@ -3,9 +3,6 @@ use mathlib.Core.Path.{ap, ◌∙◌}
 use native.Mathlib.Omega.{arith}
 use Rattle.model.specs.Tables.{tables_of}
 use Rattle.store.proofs.JudgeLaws.{parts_graph, parts_state}
-use Rattle.store.proofs.fill.Reads as reads
-use Rattle.store.proofs.fill.Lts as lts
-use Rattle.states.proofs.restore.Reads as restore-reads
 use Rattle.store.proofs.fill.Goals as goal
 
 pub restore-requires : goal.restore-requires

@@ -1,9 +1,5 @@
 -- `store::fill_refusal` meets its contract.
 use Rattle.store.proofs.StoredLaws.{fill_size, fill_store}
-use Rattle.store.proofs.fill_refusal.Reads as reads
-use Rattle.store.proofs.fill_refusal.Lts as lts
-use Rattle.store.proofs.refusal.Reads as refusal-reads
-use Rattle.tables.proofs.right_size.Reads as right-size-reads
 use Rattle.store.proofs.fill_refusal.Goals as goal
 
 pub returns-then-not-right_size : goal.returns-then-not-right_size

@@ -1,9 +1,6 @@
 -- `store::is_named` meets its contract.
 use native.Mathlib.Omega.{arith}
 use Rattle.store.proofs.StoredLaws.{name-length, store_wrong}
-use Rattle.store.proofs.is_named.Reads as reads
-use Rattle.store.proofs.is_named.Lts as lts
-use Rattle.places.proofs.right_size.Reads as right-size-reads
 use Rattle.store.proofs.is_named.Goals as goal
 
 pub returns-then-not-right_size : goal.returns-then-not-right_size

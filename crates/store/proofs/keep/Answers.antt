@@ -3,13 +3,6 @@ use native.Mathlib.Omega.{arith}
 use Rattle.model.proofs.StoreLaws.{name-length}
 use Rattle.tables.specs.LentLaws.{held_sized}
 use Rattle.store.proofs.StoredLaws.{free_below, keep_done, keep_full, keep_judged, keep_refused, keep_twice}
-use Rattle.store.proofs.keep.Reads as reads
-use Rattle.store.proofs.keep.Lts as lts
-use Rattle.places.proofs.find.Reads as find-reads
-use Rattle.places.proofs.find_free.Reads as find-free-reads
-use Rattle.places.proofs.name_in.Reads as name-in-reads
-use Rattle.store.proofs.keep_refusal.Reads as keep-refusal-reads
-use Rattle.store.proofs.write.Reads as write-reads
 use Rattle.store.proofs.keep.Goals as goal
 
 pub returns-then-number-ne0 : goal.returns-then-number-ne0

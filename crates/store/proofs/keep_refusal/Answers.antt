@@ -1,10 +1,5 @@
 -- `store::keep_refusal` meets its contract.
 use Rattle.store.proofs.StoredLaws.{keep_held, keep_name, keep_none, keep_table, named_by}
-use Rattle.store.proofs.keep_refusal.Reads as reads
-use Rattle.store.proofs.keep_refusal.Lts as lts
-use Rattle.store.proofs.is_named.Reads as is-named-reads
-use Rattle.store.proofs.soundness.is_store.Reads as is-store-reads
-use Rattle.tables.proofs.refusal.Reads as refusal-reads
 use Rattle.store.proofs.keep_refusal.Goals as goal
 
 pub returns-then-not-is_named : goal.returns-then-not-is_named

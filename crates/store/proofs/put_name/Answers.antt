@@ -1,8 +1,6 @@
 -- `store::put_name` meets its contract.
 use native.Mathlib.Omega.{arith}
 use lib.ListN.{length-set}
-use Rattle.store.proofs.put_name.Reads as reads
-use Rattle.store.proofs.put_name.Lts as lts
 use Rattle.store.proofs.put_name.Goals as goal
 
 pub bounds-place-1 : goal.bounds-place-1

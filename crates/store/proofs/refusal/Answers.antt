@@ -1,10 +1,6 @@
 -- `store::refusal` meets its contract.
 use Rattle.tables.specs.LentLaws.{all_held, none_held, size_wrong}
 use Rattle.store.proofs.StoredLaws.{named_by}
-use Rattle.store.proofs.refusal.Reads as reads
-use Rattle.store.proofs.refusal.Lts as lts
-use Rattle.store.proofs.is_named.Reads as is-named-reads
-use Rattle.store.proofs.soundness.is_store.Reads as is-store-reads
 use Rattle.store.proofs.refusal.Goals as goal
 
 pub returns-then-not-is_named : goal.returns-then-not-is_named

@@ -8,13 +8,6 @@ use Rattle.model.specs.Store.{graph_at, place_in}
 use Rattle.model.proofs.StoreLaws.{name-length}
 use Rattle.places.specs.StepLaws.{part_ends, part_words, word_inside}
 use Rattle.store.proofs.StoredLaws.{found_below, place_ready, restore_done, restore_judged, restore_refused, restore_unknown}
-use Rattle.store.proofs.restore.Reads as reads
-use Rattle.store.proofs.restore.Lts as lts
-use Rattle.places.proofs.find.Reads as find-reads
-use Rattle.places.proofs.name_in.Reads as name-in-reads
-use Rattle.places.proofs.start.Reads as start-reads
-use Rattle.store.proofs.fill.Reads as fill-reads
-use Rattle.store.proofs.fill_refusal.Reads as fill-refusal-reads
 use Rattle.store.proofs.restore.Goals as goal
 
 pub returns-then-number-ne0 : goal.returns-then-number-ne0

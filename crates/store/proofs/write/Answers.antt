@@ -2,10 +2,6 @@
 use mathlib.Core.Path.{refl}
 use native.Mathlib.Omega.{arith}
 use Rattle.places.specs.StepLaws.{part_ends, put_part, word_inside}
-use Rattle.store.proofs.write.Reads as reads
-use Rattle.store.proofs.write.Lts as lts
-use Rattle.places.proofs.start.Reads as start-reads
-use Rattle.store.proofs.write_place.Reads as write-place-reads
 use Rattle.store.proofs.write.Goals as goal
 
 pub offset_bounds-store-a : goal.offset_bounds-store-a

@@ -1,9 +1,5 @@
 -- `store::write_place` meets its contract.
 use Rattle.store.proofs.StoredLaws.{place_written}
-use Rattle.store.proofs.write_place.Reads as reads
-use Rattle.store.proofs.write_place.Lts as lts
-use Rattle.states.proofs.save.Reads as save-reads
-use Rattle.store.proofs.put_name.Reads as put-name-reads
 use Rattle.store.proofs.write_place.Goals as goal
 
 pub returns : goal.returns

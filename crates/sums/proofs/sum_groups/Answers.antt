@@ -1,6 +1,6 @@
 -- `sums::sum_groups` meets its contract.
 -- The invariant: the cubes of the nodes below p are added up.
-use Rattle.std.proofs.Common.{ℕ, ⊎_elim, arith}
+use Rattle.std.proofs.Common.{ℕ, arith}
 use lib.ListN.{length-replicate}
 use Rattle.sums.specs.SumLaws.{cubed_at, cubed_more, cubed_skip, cubed_start, joined_none, joined_start, led_first}
 use Rattle.sums.proofs.sum_groups.Goals as goal

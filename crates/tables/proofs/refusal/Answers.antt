@@ -1,9 +1,5 @@
 -- `refusal` meets its contract.
 use Rattle.tables.specs.LentLaws.{size_wrong, none_held, all_held, sized}
-use Rattle.tables.proofs.refusal.Reads as reads
-use Rattle.tables.proofs.refusal.Lts as lts
-use Rattle.checks.proofs.hold.Reads as hold-reads
-use Rattle.tables.proofs.right_size.Reads as right-size-reads
 use Rattle.tables.proofs.refusal.Goals as goal
 
 pub returns-then-not-right_size : goal.returns-then-not-right_size

@@ -1,8 +1,5 @@
 -- `is_whole` meets its contract.
 use Rattle.updates.specs.BatchLaws.{whole-not, whole_test}
-use Rattle.updates.proofs.is_whole.Reads as reads
-use Rattle.updates.proofs.is_whole.Lts as lts
-use Rattle.updates.proofs.count.Reads as count-reads
 use Rattle.updates.proofs.is_whole.Goals as goal
 
 pub returns-then-batch-ne0 : goal.returns-then-batch-ne0

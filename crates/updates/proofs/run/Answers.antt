@@ -4,11 +4,6 @@ use native.Mathlib.Omega.{arith}
 use Rattle.std.proofs.Common.{to_z-of_z, w16}
 use Rattle.tables.specs.LentLaws.{held_sized}
 use Rattle.updates.specs.BatchLaws.{count-whole, underway_start, underway_next, underway_done}
-use Rattle.updates.proofs.run.Reads as reads
-use Rattle.updates.proofs.run.Lts as lts
-use Rattle.updates.proofs.count.Reads as count-reads
-use Rattle.updates.proofs.updating.update.Reads as update-reads
-use Rattle.rows.proofs.wide.Reads as wide-reads
 use Rattle.updates.proofs.run.Goals as goal
 
 pub loop-i-init : goal.loop-i-init

@@ -5,11 +5,6 @@ use lib.ListN.{length}
 use Rattle.model.specs.Updates.{update_numbers}
 use Rattle.rows.specs.Rows.{lent}
 use Rattle.updates.specs.Batch.{Underway}
-use Rattle.updates.proofs.run.Reads as reads
-use Rattle.updates.proofs.run.Lts as lts
-use Rattle.updates.proofs.count.Reads as count-reads
-use Rattle.updates.proofs.updating.update.Reads as update-reads
-use Rattle.rows.proofs.wide.Reads as wide-reads
 use Rattle.updates.proofs.run.Given as goal
 
 abbrev pub invariant-loop-i : goal.invariant-loop-i

@@ -2,7 +2,6 @@
 use native.Mathlib.Omega.{arith}
 use lib.ListN.{length-set}
 use Rattle.rings.specs.LabelLaws.{put_all, put_more, put_none}
-use Rattle.release.specs.Fill.{class_for, mark_for}
 use Rattle.release.proofs.copies.put_labels.Goals as goal
 
 pub loop-p-init : goal.loop-p-init

@@ -3,8 +3,6 @@ use native.Mathlib.Omega.{arith}
 use mathlib.Core.Path.{refl}
 use Rattle.model.specs.Tables.{node_number}
 use Rattle.buffers.specs.FilledLaws.{filled-all, filled_more, filled_none}
-use Rattle.release.proofs.copies.take_numbers.Reads as reads
-use Rattle.release.proofs.copies.take_numbers.Lts as lts
 use Rattle.release.proofs.copies.take_numbers.Goals as goal
 
 pub loop-p-init : goal.loop-p-init

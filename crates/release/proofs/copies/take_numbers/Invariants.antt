@@ -2,8 +2,6 @@
 use Prim.Native.Nat.{◌-◌, ◌≤◌}
 use Rattle.model.specs.Tables.{node_number}
 use Rattle.buffers.specs.Filled.{Filled}
-use Rattle.release.proofs.copies.take_numbers.Reads as reads
-use Rattle.release.proofs.copies.take_numbers.Lts as lts
 use Rattle.release.proofs.copies.take_numbers.Given as goal
 
 abbrev pub invariant-loop-p : goal.invariant-loop-p

@@ -2,10 +2,6 @@
 use native.Mathlib.Omega.{arith}
 use Rattle.buffers.specs.AllLaws.{failed, passed}
 use Rattle.store.proofs.JudgeLaws.{count_wrong, names_tell, place_fails}
-use Rattle.store.proofs.soundness.is_store.Reads as reads
-use Rattle.store.proofs.soundness.is_store.Lts as lts
-use Rattle.places.proofs.are_apart.Reads as are-apart-reads
-use Rattle.store.proofs.soundness.places_hold.Reads as places-hold-reads
 use Rattle.std.proofs.Common.{ap, not}
 use Rattle.store.proofs.soundness.is_store.Goals as goal
 

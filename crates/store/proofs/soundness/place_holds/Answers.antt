@@ -3,10 +3,6 @@ use mathlib.Core.Path.{◌∙◌}
 use native.Mathlib.Omega.{arith}
 use Rattle.buffers.specs.UnionLaws.{is_none}
 use Rattle.store.proofs.JudgeLaws.{free_holds, other_fails, used_parts}
-use Rattle.store.proofs.soundness.place_holds.Reads as reads
-use Rattle.store.proofs.soundness.place_holds.Lts as lts
-use Rattle.buffers.proofs.union_of.Reads as union-of-reads
-use Rattle.store.proofs.soundness.state_holds.Reads as state-holds-reads
 use Rattle.store.proofs.soundness.place_holds.Goals as goal
 
 pub returns-then-used-eq0 : goal.returns-then-used-eq0

@@ -1,15 +1,9 @@
 -- The invariant: the places before i hold.
-use mathlib.Core.Bool.{true}
 use native.Mathlib.Omega.{arith}
 use borrow.Author.Count.{below_more, below_none}
 use Rattle.buffers.specs.AllLaws.{all_fail, all_pass_lem, failed, passed}
 use Rattle.places.specs.StepLaws.{part_ends, part_size, part_width, word_inside}
-use Rattle.store.specs.Judging.{place_holds}
 use Rattle.store.proofs.JudgeLaws.{part_holds}
-use Rattle.store.proofs.soundness.places_hold.Reads as reads
-use Rattle.store.proofs.soundness.places_hold.Lts as lts
-use Rattle.places.proofs.start.Reads as start-reads
-use Rattle.store.proofs.soundness.place_holds.Reads as place-holds-reads
 use Rattle.std.proofs.Common.{ap, not}
 use Rattle.store.proofs.soundness.places_hold.Goals as goal
 

@@ -4,10 +4,6 @@ use mathlib.Core.Path.{◌≡◌}
 use mathlib.Core.Bool.{true}
 use Rattle.model.specs.Store.{max_states, words_at}
 use Rattle.store.specs.Judging.{place_holds}
-use Rattle.store.proofs.soundness.places_hold.Reads as reads
-use Rattle.store.proofs.soundness.places_hold.Lts as lts
-use Rattle.places.proofs.start.Reads as start-reads
-use Rattle.store.proofs.soundness.place_holds.Reads as place-holds-reads
 use Rattle.store.proofs.soundness.places_hold.Given as goal
 
 abbrev pub invariant-loop-i : goal.invariant-loop-i

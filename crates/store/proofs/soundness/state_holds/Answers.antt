@@ -1,10 +1,6 @@
 -- `store::soundness::state_holds` meets its contract.
 use Rattle.buffers.specs.AllLaws.{failed, passed}
 use Rattle.store.proofs.JudgeLaws.{edges_fail, words_tell}
-use Rattle.store.proofs.soundness.state_holds.Reads as reads
-use Rattle.store.proofs.soundness.state_holds.Lts as lts
-use Rattle.buffers.proofs.union_of.Reads as union-of-reads
-use Rattle.edges.proofs.hold.Reads as hold-reads
 use Rattle.std.proofs.Common.{ap, not}
 use Rattle.store.proofs.soundness.state_holds.Goals as goal
 

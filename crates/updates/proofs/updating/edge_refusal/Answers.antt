@@ -3,12 +3,6 @@ use mathlib.Core.Path.{sym, ◌∙◌}
 use native.Mathlib.Omega.{arith}
 use Rattle.rows.specs.PairLaws.{pair_ends}
 use Rattle.updates.specs.UpdateLaws.{edge_frozen, edge_held, edge_more, edge_pair}
-use Rattle.updates.proofs.updating.edge_refusal.Reads as reads
-use Rattle.updates.proofs.updating.edge_refusal.Lts as lts
-use Rattle.rows.proofs.edge.Reads as edge-reads
-use Rattle.rows.proofs.pair_refusal.Reads as pair-refusal-reads
-use Rattle.updates.proofs.updating.held_refusal.Reads as held-refusal-reads
-use Rattle.updates.proofs.updating.is_frozen.Reads as is-frozen-reads
 use Rattle.updates.proofs.updating.edge_refusal.Goals as goal
 
 pub returns-then-number-ne0 : goal.returns-then-number-ne0

@@ -1,7 +1,5 @@
 -- `held_refusal` meets its contract.
 use Rattle.updates.specs.UpdateLaws.{held_already, held-not}
-use Rattle.updates.proofs.updating.held_refusal.Reads as reads
-use Rattle.updates.proofs.updating.held_refusal.Lts as lts
 use Rattle.updates.proofs.updating.held_refusal.Goals as goal
 
 pub returns-then-there-wanted : goal.returns-then-there-wanted

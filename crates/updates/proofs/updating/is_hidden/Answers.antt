@@ -2,9 +2,6 @@
 use mathlib.Core.Path.{ap}
 use Prim.Native.Nat.{ℕ}
 use lib.Dec.{eqb}
-use Rattle.updates.proofs.updating.is_hidden.Reads as reads
-use Rattle.updates.proofs.updating.is_hidden.Lts as lts
-use Rattle.groups.proofs.number.Reads as number-reads
 use Rattle.updates.proofs.updating.is_hidden.Goals as goal
 
 pub returns : goal.returns

@@ -2,10 +2,6 @@
 use mathlib.Core.Path.{◌∙◌}
 use mathlib.Core.Logic.{⊎_elim}
 use Rattle.updates.specs.UpdateLaws.{mark_held, mark_more, mark_u, mark_v}
-use Rattle.updates.proofs.updating.mark_refusal.Reads as reads
-use Rattle.updates.proofs.updating.mark_refusal.Lts as lts
-use Rattle.updates.proofs.updating.held_refusal.Reads as held-refusal-reads
-use Rattle.updates.proofs.updating.is_hidden.Reads as is-hidden-reads
 use Rattle.updates.proofs.updating.mark_refusal.Goals as goal
 
 pub returns-then-u-n : goal.returns-then-u-n

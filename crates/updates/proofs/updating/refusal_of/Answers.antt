@@ -1,10 +1,5 @@
 -- `refusal_of` meets its contract.
 use Rattle.updates.specs.UpdateLaws.{other_kind}
-use Rattle.updates.proofs.updating.refusal_of.Reads as reads
-use Rattle.updates.proofs.updating.refusal_of.Lts as lts
-use Rattle.updates.proofs.updating.class_refusal.Reads as class-refusal-reads
-use Rattle.updates.proofs.updating.edge_refusal.Reads as edge-refusal-reads
-use Rattle.updates.proofs.updating.mark_refusal.Reads as mark-refusal-reads
 use Rattle.updates.proofs.updating.refusal_of.Goals as goal
 
 pub returns-in-1 : goal.returns-in-1

@@ -2,8 +2,6 @@
 use native.Mathlib.Omega.{arith}
 use mir.Syntax.{w16}
 use mir.Facts.{to_z_pos}
-use Rattle.updates.proofs.updating.refused.Reads as reads
-use Rattle.updates.proofs.updating.refused.Lts as lts
 use Rattle.updates.proofs.updating.refused.Goals as goal
 
 pub returns : goal.returns

@@ -4,13 +4,6 @@ use Rattle.std.proofs.Common.{to_z-of_z, w16}
 use native.Mathlib.Omega.{arith}
 use Rattle.tables.specs.LentLaws.{held_sized}
 use Rattle.updates.specs.UpdateLaws.{number_small, update_refused_lem, class_asked, class_updated, edge_asked, edge_updated, accepted_u, mark_updated}
-use Rattle.updates.proofs.updating.update.Reads as reads
-use Rattle.updates.proofs.updating.update.Lts as lts
-use Rattle.groups.proofs.update_class.Reads as update-class-reads
-use Rattle.groups.proofs.update_edge.Reads as update-edge-reads
-use Rattle.updates.proofs.updating.refusal_of.Reads as refusal-of-reads
-use Rattle.updates.proofs.updating.refused.Reads as refused-reads
-use Rattle.updates.proofs.updating.set_mark.Reads as set-mark-reads
 use Rattle.updates.proofs.updating.update.Goals as goal
 
 pub refusal_of-number-requires : goal.refusal_of-number-requires
