@@ -33,3 +33,23 @@ pub fn read_full<R: Read>(reader: &mut R, buffer: &mut [u8]) -> io::Result<usize
     }
     Ok(done)
 }
+
+#[cfg(test)]
+mod tests {
+    use super::*;
+    use std::test::Fail;
+
+    #[test]
+    fn reads_to_the_end_or_to_a_full_buffer(rt: HostRuntime) -> Result<(), Fail> {
+        let mut all = [7u8; 5];
+        let mut three: &[u8] = b"abc";
+        assert!(rt; read_full(&mut three, &mut all)? == 3);
+        assert!(rt; all == *b"abc\x07\x07");
+        let mut some = [7u8; 2];
+        let mut four: &[u8] = b"abcd";
+        assert!(rt; read_full(&mut four, &mut some)? == 2);
+        assert!(rt; some == *b"ab");
+        assert!(rt; four == b"cd");
+        Ok(())
+    }
+}
