@@ -49,7 +49,7 @@ mod tests {
         let mut four: &[u8] = b"abcd";
         assert!(rt; read_full(&mut four, &mut some)? == 2);
         assert!(rt; some == *b"ab");
-        assert!(rt; four == b"cd");
+        assert!(rt; four == b"cd".as_slice());
         Ok(())
     }
 }
