@@ -1,4 +1,4 @@
-/* The calls of the library, for C. Link with libcapi.a, which `rt staticlib capi` writes to target/staticlib.
+/* The calls of the library, for C. Link with libcapi.a, which `rt lib` in crates/capi writes to crates/capi/out.
  *
  * Every call works on tables that the caller lends, for a graph of n nodes (at most 512):
  *   edges  8 * n words: node p's row is the eight words from word 8 * p on, and node q is bit q % 64 of word q / 64 of the row

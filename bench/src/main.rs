@@ -259,7 +259,7 @@ fn main() {
     match words.first().map(String::as_str) {
         None => measure(),
         Some("faults") => faults::run(number(1).unwrap_or(1), number(2).unwrap_or(60)),
-        Some("program") => program::run("target/bin/tegmulos", number(1).unwrap_or(1), number(2).unwrap_or(60)),
+        Some("program") => program::run("crates/tegmulos/out/tegmulos", number(1).unwrap_or(1), number(2).unwrap_or(60)),
         Some(_) => println!("bench, bench faults SEED SECONDS, or bench program SEED SECONDS"),
     }
 }

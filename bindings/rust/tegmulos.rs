@@ -1,4 +1,5 @@
-//! The calls of the library, safe to use from Rust. Link with libcapi.a, which `rt staticlib capi` writes to target/staticlib.
+//! The calls of the library, safe to use from Rust. Link with libcapi.a, which `rt lib` in crates/capi writes to
+//! crates/capi/out.
 
 use std::fmt;
 

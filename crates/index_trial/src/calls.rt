@@ -1,11 +1,19 @@
 // Each call of the index, and a line that says what came back.
+use std::io;
 use trial::digest::wide;
 use trial::say;
 use trial::script::{small, small_byte, within};
 
-pub fn open(n: usize, edges: &mut [u64], nodes: &mut [u16], keys: &mut [u32], store: &mut [u64]) {
+pub fn open(
+    rt: &impl Print,
+    n: usize,
+    edges: &mut [u64],
+    nodes: &mut [u16],
+    keys: &mut [u32],
+    store: &mut [u64],
+) -> io::Result<()> {
     let r = index::open(n, edges, nodes, keys, store);
-    say::stored(b"open", r, edges, nodes, keys, store);
+    say::stored(rt, b"open", r, edges, nodes, keys, store)
 }
 
 // The bytes of the name that k stands for.
@@ -17,30 +25,48 @@ pub fn name_of(k: u64) -> [u8; 24] {
     name
 }
 
-pub fn keep(n: usize, edges: &[u64], nodes: &[u16], keys: &[u32], store: &mut [u64], name: &[u8]) {
+pub fn keep(
+    rt: &impl Print,
+    n: usize,
+    edges: &[u64],
+    nodes: &[u16],
+    keys: &[u32],
+    store: &mut [u64],
+    name: &[u8],
+) -> io::Result<()> {
     let r = store::keep(n, edges, nodes, keys, store, name);
-    say::stored(b"keep", r, edges, nodes, keys, store);
+    say::stored(rt, b"keep", r, edges, nodes, keys, store)
 }
 
 pub fn restore(
+    rt: &impl Print,
     n: usize,
     edges: &mut [u64],
     nodes: &mut [u16],
     keys: &mut [u32],
     store: &[u64],
     name: &[u8],
-) {
+) -> io::Result<()> {
     let r = store::restore(n, edges, nodes, keys, store, name);
-    say::stored(b"restore", r, edges, nodes, keys, store);
+    say::stored(rt, b"restore", r, edges, nodes, keys, store)
 }
 
-pub fn drop(n: usize, edges: &[u64], nodes: &[u16], keys: &[u32], store: &mut [u64], name: &[u8]) {
+pub fn drop(
+    rt: &impl Print,
+    n: usize,
+    edges: &[u64],
+    nodes: &[u16],
+    keys: &[u32],
+    store: &mut [u64],
+    name: &[u8],
+) -> io::Result<()> {
     let r = store::drop(n, store, name);
-    say::stored(b"drop", r, edges, nodes, keys, store);
+    say::stored(rt, b"drop", r, edges, nodes, keys, store)
 }
 
 // The batch, into a buffer of answers filled with 4660.
 pub fn apply(
+    rt: &impl Print,
     n: usize,
     edges: &mut [u64],
     nodes: &mut [u16],
@@ -48,12 +74,13 @@ pub fn apply(
     batch: &[u16],
     room: u64,
     shown: u64,
-) {
+) -> io::Result<()> {
     let mut answers = [4660i16; 4100];
-    apply_part(n, edges, nodes, keys, batch, &mut answers, room, shown);
+    apply_part(rt, n, edges, nodes, keys, batch, &mut answers, room, shown)
 }
 
 fn apply_part(
+    rt: &impl Print,
     n: usize,
     edges: &mut [u64],
     nodes: &mut [u16],
@@ -62,12 +89,13 @@ fn apply_part(
     answers: &mut [i16],
     room: u64,
     shown: u64,
-) {
+) -> io::Result<()> {
     let k = within(room, answers.len());
-    apply_to(n, edges, nodes, keys, batch, &mut answers[..k], shown);
+    apply_to(rt, n, edges, nodes, keys, batch, &mut answers[..k], shown)
 }
 
 fn apply_to(
+    rt: &impl Print,
     n: usize,
     edges: &mut [u64],
     nodes: &mut [u16],
@@ -75,14 +103,15 @@ fn apply_to(
     batch: &[u16],
     answers: &mut [i16],
     shown: u64,
-) {
+) -> io::Result<()> {
     let r = index::apply(n, edges, nodes, keys, batch, answers);
-    say::applied(b"apply", r, answers, shown);
-    say::tables(edges, nodes, keys);
+    say::applied(rt, b"apply", r, answers, shown)?;
+    say::tables(rt, edges, nodes, keys)
 }
 
 // The neighbours of p, into a buffer filled with 4660.
 pub fn neighbours(
+    rt: &impl Print,
     n: usize,
     edges: &[u64],
     nodes: &[u16],
@@ -90,12 +119,13 @@ pub fn neighbours(
     p: u64,
     room: u64,
     shown: u64,
-) {
+) -> io::Result<()> {
     let mut out = [4660u16; 1100];
-    neighbours_part(n, edges, nodes, keys, p, &mut out, room, shown);
+    neighbours_part(rt, n, edges, nodes, keys, p, &mut out, room, shown)
 }
 
 fn neighbours_part(
+    rt: &impl Print,
     n: usize,
     edges: &[u64],
     nodes: &[u16],
@@ -104,12 +134,13 @@ fn neighbours_part(
     out: &mut [u16],
     room: u64,
     shown: u64,
-) {
+) -> io::Result<()> {
     let k = within(room, out.len());
-    neighbours_to(n, edges, nodes, keys, p, &mut out[..k], shown);
+    neighbours_to(rt, n, edges, nodes, keys, p, &mut out[..k], shown)
 }
 
 fn neighbours_to(
+    rt: &impl Print,
     n: usize,
     edges: &[u64],
     nodes: &[u16],
@@ -117,27 +148,42 @@ fn neighbours_to(
     p: u64,
     out: &mut [u16],
     shown: u64,
-) {
+) -> io::Result<()> {
     let r = index::neighbours(n, edges, nodes, keys, small(p), out);
-    say::listed(r.result, r.count, out, shown);
+    say::listed(rt, r.result, r.count, out, shown)
 }
 
-pub fn tied(n: usize, edges: &[u64], nodes: &[u16], keys: &[u32], p: u64, q: u64) {
+pub fn tied(
+    rt: &impl Print,
+    n: usize,
+    edges: &[u64],
+    nodes: &[u16],
+    keys: &[u32],
+    p: u64,
+    q: u64,
+) -> io::Result<()> {
     let r = index::tied(n, edges, nodes, keys, small(p), small(q));
-    say::field(b"tied", wide(r.result));
-    say::yes_or_no(r.yes);
-    say::feed();
+    say::field(rt, b"tied", wide(r.result))?;
+    say::yes_or_no(rt, r.yes)?;
+    say::feed(rt)
 }
 
-pub fn group(n: usize, edges: &[u64], nodes: &[u16], keys: &[u32], p: u64) {
+pub fn group(
+    rt: &impl Print,
+    n: usize,
+    edges: &[u64],
+    nodes: &[u16],
+    keys: &[u32],
+    p: u64,
+) -> io::Result<()> {
     let r = index::group(n, edges, nodes, keys, small(p));
-    grouped(r.result, r.least, r.kind, r.size);
+    grouped(rt, r.result, r.least, r.kind, r.size)
 }
 
-fn grouped(res: u16, least: u16, kind: u16, size: u16) {
-    say::field(b"group", wide(res));
-    say::field(b" least", wide(least));
-    say::field(b" kind", wide(kind));
-    say::field(b" size", wide(size));
-    say::feed();
+fn grouped(rt: &impl Print, res: u16, least: u16, kind: u16, size: u16) -> io::Result<()> {
+    say::field(rt, b"group", wide(res))?;
+    say::field(rt, b" least", wide(least))?;
+    say::field(rt, b" kind", wide(kind))?;
+    say::field(rt, b" size", wide(size))?;
+    say::feed(rt)
 }

@@ -1,4 +1,5 @@
 // Many calls for one line: a walk through all graphs, and every query of a graph.
+use std::io;
 use trial::digest::{fold, fold_numbers, fold_tables, wide};
 use trial::say;
 use trial::script::small;
@@ -59,10 +60,18 @@ fn fold_steps(
     d
 }
 
-pub fn walk(n: usize, edges: &mut [u64], nodes: &mut [u16], keys: &mut [u32], a: u64, b: u64) {
+pub fn walk(
+    rt: &impl Print,
+    n: usize,
+    edges: &mut [u64],
+    nodes: &mut [u16],
+    keys: &mut [u32],
+    a: u64,
+    b: u64,
+) -> io::Result<()> {
     let d = fold_steps(n, edges, nodes, keys, a, b);
-    say::field(b"walk digest", d);
-    say::feed();
+    say::field(rt, b"walk digest", d)?;
+    say::feed(rt)
 }
 
 fn fold_tied(h: u64, n: usize, edges: &[u64], nodes: &[u16], keys: &[u32], p: u16, q: u16) -> u64 {
@@ -127,8 +136,15 @@ fn fold_queries(n: usize, edges: &[u64], nodes: &[u16], keys: &[u32], limit: u64
     d
 }
 
-pub fn queries(n: usize, edges: &[u64], nodes: &[u16], keys: &[u32], limit: u64) {
+pub fn queries(
+    rt: &impl Print,
+    n: usize,
+    edges: &[u64],
+    nodes: &[u16],
+    keys: &[u32],
+    limit: u64,
+) -> io::Result<()> {
     let d = fold_queries(n, edges, nodes, keys, limit);
-    say::field(b"queries digest", d);
-    say::feed();
+    say::field(rt, b"queries digest", d)?;
+    say::feed(rt)
 }

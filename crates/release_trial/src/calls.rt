@@ -1,22 +1,39 @@
 // Each call, and a line that says what came back.
+use std::io;
 use trial::digest::{fold_bytes, wide, wide_key};
 use trial::say;
 use trial::script::{small, within};
 use writer::Written;
 
-pub fn read(n: usize, edges: &mut [u64], nodes: &mut [u16], keys: &mut [u32], file: &[u8]) {
+pub fn read(
+    rt: &impl Print,
+    n: usize,
+    edges: &mut [u64],
+    nodes: &mut [u16],
+    keys: &mut [u32],
+    file: &[u8],
+) -> io::Result<()> {
     let r = release::read(n, edges, nodes, keys, file);
-    say::field(b"read", wide(r));
-    say::tables(edges, nodes, keys);
+    say::field(rt, b"read", wide(r))?;
+    say::tables(rt, edges, nodes, keys)
 }
 
 // The release, into a buffer filled with 165.
-pub fn write(n: usize, edges: &[u64], nodes: &[u16], keys: &[u32], file: &[u8], room: u64) {
+pub fn write(
+    rt: &impl Print,
+    n: usize,
+    edges: &[u64],
+    nodes: &[u16],
+    keys: &[u32],
+    file: &[u8],
+    room: u64,
+) -> io::Result<()> {
     let mut out = [165u8; 65536];
-    write_part(n, edges, nodes, keys, file, &mut out, room);
+    write_part(rt, n, edges, nodes, keys, file, &mut out, room)
 }
 
 fn write_part(
+    rt: &impl Print,
     n: usize,
     edges: &[u64],
     nodes: &[u16],
@@ -24,30 +41,38 @@ fn write_part(
     file: &[u8],
     out: &mut [u8],
     room: u64,
-) {
+) -> io::Result<()> {
     let k = within(room, out.len());
-    write_to(n, edges, nodes, keys, file, &mut out[..k]);
+    write_to(rt, n, edges, nodes, keys, file, &mut out[..k])
 }
 
-fn write_to(n: usize, edges: &[u64], nodes: &[u16], keys: &[u32], file: &[u8], out: &mut [u8]) {
+fn write_to(
+    rt: &impl Print,
+    n: usize,
+    edges: &[u64],
+    nodes: &[u16],
+    keys: &[u32],
+    file: &[u8],
+    out: &mut [u8],
+) -> io::Result<()> {
     let r = release::release(n, edges, nodes, keys, out);
-    written(r);
-    compared(file, out, wide_key(r.bytes));
+    written(rt, r)?;
+    compared(rt, file, out, wide_key(r.bytes))
 }
 
-fn written(r: Written) {
-    say::field(b"write", wide(r.result));
-    say::field(b" nodes", wide(r.nodes));
-    say::field(b" groups", wide(r.groups));
-    say::field(b" superedges", wide_key(r.superedges));
-    say::field(b" bytes", wide_key(r.bytes));
+fn written(rt: &impl Print, r: Written) -> io::Result<()> {
+    say::field(rt, b"write", wide(r.result))?;
+    say::field(rt, b" nodes", wide(r.nodes))?;
+    say::field(rt, b" groups", wide(r.groups))?;
+    say::field(rt, b" superedges", wide_key(r.superedges))?;
+    say::field(rt, b" bytes", wide_key(r.bytes))
 }
 
-fn compared(file: &[u8], out: &[u8], length: u64) {
-    say::word(b" same");
-    say::yes_or_no(is_start(file, out, length));
-    say::field(b" digest", fold_bytes(0, out));
-    say::feed();
+fn compared(rt: &impl Print, file: &[u8], out: &[u8], length: u64) -> io::Result<()> {
+    say::word(rt, b" same")?;
+    say::yes_or_no(rt, is_start(file, out, length))?;
+    say::field(rt, b" digest", fold_bytes(0, out))?;
+    say::feed(rt)
 }
 
 // Whether the file is the first `count` bytes of a buffer.
@@ -67,25 +92,38 @@ fn is_start(file: &[u8], out: &[u8], count: u64) -> bool {
 }
 
 // The neighbours of p, asked of the file, into a buffer filled with 4660.
-pub fn neighbours(file: &[u8], p: u64, room: u64, shown: u64) {
+pub fn neighbours(rt: &impl Print, file: &[u8], p: u64, room: u64, shown: u64) -> io::Result<()> {
     let mut out = [4660u16; 1100];
-    neighbours_part(file, p, &mut out, room, shown);
+    neighbours_part(rt, file, p, &mut out, room, shown)
 }
 
-fn neighbours_part(file: &[u8], p: u64, out: &mut [u16], room: u64, shown: u64) {
+fn neighbours_part(
+    rt: &impl Print,
+    file: &[u8],
+    p: u64,
+    out: &mut [u16],
+    room: u64,
+    shown: u64,
+) -> io::Result<()> {
     let k = within(room, out.len());
-    neighbours_to(file, p, &mut out[..k], shown);
+    neighbours_to(rt, file, p, &mut out[..k], shown)
 }
 
-fn neighbours_to(file: &[u8], p: u64, out: &mut [u16], shown: u64) {
+fn neighbours_to(
+    rt: &impl Print,
+    file: &[u8],
+    p: u64,
+    out: &mut [u16],
+    shown: u64,
+) -> io::Result<()> {
     let r = release::file_neighbours(file, small(p), out);
-    say::listed(r.result, r.count, out, shown);
+    say::listed(rt, r.result, r.count, out, shown)
 }
 
 // The distance of p and q, asked of the file.
-pub fn hops(file: &[u8], p: u64, q: u64) {
+pub fn hops(rt: &impl Print, file: &[u8], p: u64, q: u64) -> io::Result<()> {
     let r = release::file_distance(file, small(p), small(q));
-    say::field(b"hops", wide(r.result));
-    say::field(b" distance", wide(r.distance));
-    say::feed();
+    say::field(rt, b"hops", wide(r.result))?;
+    say::field(rt, b" distance", wide(r.distance))?;
+    say::feed(rt)
 }

@@ -1,5 +1,6 @@
 // Many calls for one line.
 use rows::Graph;
+use std::io;
 use trial::digest::{fold, fold_bytes, fold_numbers, fold_tables, wide, wide_key};
 use trial::say;
 use trial::script::{small, within};
@@ -51,9 +52,9 @@ fn fold_pairs(file: &[u8], limit: u64) -> u64 {
     d
 }
 
-pub fn pairs(file: &[u8], limit: u64) {
-    say::field(b"pairs digest", fold_pairs(file, limit));
-    say::feed();
+pub fn pairs(rt: &impl Print, file: &[u8], limit: u64) -> io::Result<()> {
+    say::field(rt, b"pairs digest", fold_pairs(file, limit))?;
+    say::feed(rt)
 }
 
 // The neighbours of each node below `limit`.
@@ -65,9 +66,9 @@ fn fold_queries(file: &[u8], limit: u64) -> u64 {
     d
 }
 
-pub fn queries(file: &[u8], limit: u64) {
-    say::field(b"queries digest", fold_queries(file, limit));
-    say::feed();
+pub fn queries(rt: &impl Print, file: &[u8], limit: u64) -> io::Result<()> {
+    say::field(rt, b"queries digest", fold_queries(file, limit))?;
+    say::feed(rt)
 }
 
 // How many files were read, and the digest of all that came back.
@@ -77,16 +78,16 @@ struct Tally {
     digest: u64,
 }
 
-fn tell(text: &[u8], t: Tally) {
-    say::field(text, t.read);
-    say::field(b" digest", t.digest);
-    say::feed();
+fn tell(rt: &impl Print, text: &[u8], t: Tally) -> io::Result<()> {
+    say::field(rt, text, t.read)?;
+    say::field(rt, b" digest", t.digest)?;
+    say::feed(rt)
 }
 
 // One more, if the file was read.
 fn counted(read: u64, res: u16) -> u64 {
     if res == 0 {
-        return std::num::wrapping_add_u64(read, 1);
+        return read.wrapping_add(1);
     }
     read
 }
@@ -113,8 +114,8 @@ fn tally_ends(file: &[u8]) -> Tally {
     t
 }
 
-pub fn ends(file: &[u8]) {
-    tell(b"ends read", tally_ends(file));
+pub fn ends(rt: &impl Print, file: &[u8]) -> io::Result<()> {
+    tell(rt, b"ends read", tally_ends(file))
 }
 
 // The file with byte x at place i.
@@ -147,9 +148,9 @@ fn tally_damage(file: &mut [u8], a: usize, b: usize) -> Tally {
     t
 }
 
-pub fn damage(file: &mut [u8], a: u64, b: u64) {
+pub fn damage(rt: &impl Print, file: &mut [u8], a: u64, b: u64) -> io::Result<()> {
     let to = within(b, file.len());
-    tell(b"damage read", tally_damage(file, within(a, to), to));
+    tell(rt, b"damage read", tally_damage(file, within(a, to), to))
 }
 
 fn fold_written(h: u64, r: Written) -> u64 {
@@ -171,13 +172,14 @@ fn fold_release(h: u64, n: usize, edges: &[u64], nodes: &[u16], keys: &[u32], p:
     fold_start(d, &out, wide_key(r.bytes), p)
 }
 
-fn mixed(d: u64) {
-    say::field(b"mix digest", d);
-    say::feed();
+fn mixed(rt: &impl Print, d: u64) -> io::Result<()> {
+    say::field(rt, b"mix digest", d)?;
+    say::feed(rt)
 }
 
 // Updates drawn from a seed, of nodes below `span`, and the release after each.
 pub fn mix(
+    rt: &impl Print,
     n: usize,
     edges: &mut [u64],
     nodes: &mut [u16],
@@ -185,7 +187,7 @@ pub fn mix(
     seed: u64,
     times: u64,
     span: u64,
-) {
+) -> io::Result<()> {
     let mut d = 0;
     let mut x = seed;
     for i in 0..times {
@@ -195,5 +197,5 @@ pub fn mix(
         d = trial::single::fold_apply(d, n, edges, nodes, keys, &batch);
         d = fold_release(d, n, edges, nodes, keys, small(u.u));
     }
-    mixed(d);
+    mixed(rt, d)
 }

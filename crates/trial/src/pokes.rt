@@ -3,6 +3,7 @@ use crate::digest::{wide, wide_key};
 use crate::say;
 use crate::script::{small, within};
 use rows::Graph;
+use std::io;
 
 // Node q's bit in node p's row, the other way.
 fn flip(edges: &mut [u64], p: u64, q: u64) {
@@ -71,23 +72,24 @@ fn key_at(keys: &[u32], i: usize) -> u64 {
 }
 
 // The five numbers and the two keys of a node.
-fn show_node(nodes: &[u16], keys: &[u32], p: u64) {
+fn show_node(rt: &impl Print, nodes: &[u16], keys: &[u32], p: u64) -> io::Result<()> {
     let at = within(p, 600);
     let a = Graph::NODE_NUMBERS * at;
-    say::field(b"node", p);
-    say::field(b" holds", number_at(nodes, a));
-    say::number(number_at(nodes, a + 1));
-    say::number(number_at(nodes, a + 2));
-    say::number(number_at(nodes, a + 3));
-    say::number(number_at(nodes, a + 4));
-    say::field(b" keys", key_at(keys, 2 * at));
-    say::number(key_at(keys, 2 * at + 1));
-    say::feed();
+    say::field(rt, b"node", p)?;
+    say::field(rt, b" holds", number_at(nodes, a))?;
+    say::number(rt, number_at(nodes, a + 1))?;
+    say::number(rt, number_at(nodes, a + 2))?;
+    say::number(rt, number_at(nodes, a + 3))?;
+    say::number(rt, number_at(nodes, a + 4))?;
+    say::field(rt, b" keys", key_at(keys, 2 * at))?;
+    say::number(rt, key_at(keys, 2 * at + 1))?;
+    say::feed(rt)
 }
 
 // The nodes from a up to b.
-pub fn show(nodes: &[u16], keys: &[u32], a: u64, b: u64) {
+pub fn show(rt: &impl Print, nodes: &[u16], keys: &[u32], a: u64, b: u64) -> io::Result<()> {
     for p in a..b {
-        show_node(nodes, keys, p);
+        show_node(rt, nodes, keys, p)?;
     }
+    Ok(())
 }

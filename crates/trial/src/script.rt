@@ -1,6 +1,8 @@
 // A line of the script: a word, of which the first byte counts, and numbers after single spaces.
 ghost use Rattle.std.specs.Prelude.{◌<◌, ◌≤◌, length};
 
+use std::io;
+
 // Where the line that starts at `at` ends: after its line feed.
 pub fn line_end(text: &[u8], at: usize) -> usize
     requires { at < length text.now }
@@ -25,10 +27,11 @@ pub fn command(line: &[u8]) -> u8 {
 }
 
 // A line that is a comment, as it is.
-pub fn echo(command: u8, line: &[u8]) {
+pub fn echo(rt: &impl Print, command: u8, line: &[u8]) -> io::Result<()> {
     if command == b'#' {
-        crate::say::word(line);
+        crate::say::word(rt, line)?;
     }
+    Ok(())
 }
 
 // x with a further digit, if b is one and x is not yet long.

@@ -2,6 +2,7 @@
 use crate::digest::{code_of, fold, wide};
 use crate::say;
 use crate::script::small;
+use std::io;
 
 // The batch of one update.
 pub fn batch_of(kind: u64, u: u64, v: u64, wanted: u64) -> [u16; 4] {
@@ -24,6 +25,7 @@ pub fn fold_apply(
 
 // The batch applied, and a line that says what came back.
 pub fn update(
+    rt: &impl Print,
     n: usize,
     edges: &mut [u64],
     nodes: &mut [u16],
@@ -32,10 +34,10 @@ pub fn update(
     u: u64,
     v: u64,
     wanted: u64,
-) {
+) -> io::Result<()> {
     let batch = batch_of(kind, u, v, wanted);
     let mut answers = [4660i16; 1];
     let r = index::apply(n, edges, nodes, keys, &batch, &mut answers);
-    say::applied(b"update", r, &answers, 1);
-    say::tables(edges, nodes, keys);
+    say::applied(rt, b"update", r, &answers, 1)?;
+    say::tables(rt, edges, nodes, keys)
 }
