@@ -1,6 +1,6 @@
--- `pair_refusal` meets its contract.
-use Rattle.rows.specs.PairLaws.{first_outside, second_outside, one_node_lem, two_nodes}
-use Rattle.rows.proofs.pair_refusal.Goals as goal
+-- `check_pair` meets its contract.
+use Rattle.answers.specs.PairLaws.{first_outside, second_outside, one_node_lem, two_nodes}
+use Rattle.answers.proofs.check_pair.Goals as goal
 
 pub returns-then-u-n : goal.returns-then-u-n
 returns-then-u-n c = first_outside _ _ _ c.if-u-n.true
