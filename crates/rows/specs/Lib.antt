@@ -3,4 +3,3 @@ pub mod BitLaws
 pub mod EdgeLaws
 pub mod KeyLaws
 pub mod SizeLaws
-pub mod PairLaws

@@ -6,7 +6,7 @@ ghost use Rattle.std.specs.Int.Count.{count_trailing_zeros};
 ghost use Rattle.model.specs.Graph.{max_nodes, row_words};
 ghost use Rattle.model.specs.Grouping.{cube};
 ghost use Rattle.model.specs.Tables.{bit_at, edge_bit};
-ghost use Rattle.model.specs.Refusals.{first_of, lengths, pair_reasons, wrong_size};
+ghost use Rattle.model.specs.Refusals.{lengths, wrong_size};
 ghost use Rattle.rows.specs.Rows.{Flipped, Changed, moved_key, KeysMoved, KeysChanged, lent};
 
 // A graph by value: how many nodes it has. Its tables are lent.
@@ -96,22 +96,6 @@ pub fn place(p: usize, q: usize) -> usize
     Graph::ROW_WORDS * p + word_of(q)
 }
 
-// Why u and v are no pair of the n nodes, 14 or 15; else 0.
-pub fn pair_refusal(n: usize, u: usize, v: usize) -> u16
-    ensures { result ≡ first_of (pair_reasons n u v) }
-{
-    if u >= n {
-        return 14;
-    }
-    if v >= n {
-        return 14;
-    }
-    if u == v {
-        return 15;
-    }
-    0
-}
-
 // Whether there is an edge between p and q.
 pub fn edge(edges: &[u64], p: usize, q: usize) -> bool
     requires { (p < max_nodes) × (q < max_nodes) × (row_words * p + row_words ≤ length edges.now) }
@@ -126,7 +110,7 @@ pub fn flip_edge(edges: &mut [u64], p: usize, q: usize)
     ensures { Flipped p q edges.old edges.new }
 {
     let i = place(p, q);
-    edges[i] = edges[i] ^ mask(q);
+    edges[i] ^= mask(q);
 }
 
 // The edge between u and v put in or taken out, in both rows.
@@ -148,13 +132,14 @@ pub fn cube_of(q: usize) -> u32
 }
 
 // A key with a cube put in or taken out.
+#[tactic(auto, unfolding(crate::specs::Rows::moved_key))]
 fn moved_key(key: u32, x: u32, insert: bool) -> u32
     ensures { result ≡ moved_key insert key x }
 {
     if insert {
-        return std::num::wrapping_add_u32(key, x);
+        return key.wrapping_add(x);
     }
-    std::num::wrapping_sub_u32(key, x)
+    key.wrapping_sub(x)
 }
 
 // The open and the closed key of p, moved by the cube of q.

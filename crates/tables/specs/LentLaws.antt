@@ -86,3 +86,7 @@ held_sized {n} {t} h = record {
 -- a count by another name
 pub sized_at : {m n : ℕ} {t : Tables} → m ≡ n → Sized n t → Sized m t
 sized_at {m} {n} {t} e h = subst (λ (k : ℕ). Sized k t) (sym e) h
+
+-- tables with the right sizes that pass the test
+pub held_if : (n : ℕ) (t : Tables) (f b : Bool) → f ≡ not (wrong_size n (lengths t)) → f ≡ true → b ≡ holds n t → b ≡ true → Held n t
+held_if n t f b e h d k = record { same = held_tables n t (sym d ∙ k); proper = held_proper n t (sym d ∙ k) (sized n t f e h).small }
