@@ -14,7 +14,7 @@ use Rattle.model.proofs.TestLaws.{or_none}
 use Rattle.model.proofs.TableLaws.{edge_below, edge_bit_lem, held_tables, held_proper}
 use Rattle.model.proofs.RefusalLaws.{call_done, call_refused, first_none}
 use Rattle.index.specs.Index.{opened, applied, tied_of, grouped}
-use Rattle.rows.specs.PairLaws.{pair_ends}
+use Rattle.answers.specs.PairLaws.{pair_ends}
 use Rattle.tables.specs.Lent.{table_reasons, Held}
 use Rattle.tables.specs.LentLaws.{sized, table_refused, table_rest, table_held, held_sized}
 use Rattle.updates.specs.Batch.{BatchApplied}

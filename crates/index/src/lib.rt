@@ -1,62 +1,60 @@
 // What a caller uses on lent tables: open, apply, neighbours, tied, group. Each is the model's call (Calls) on every input.
 #![tactic(auto)]
 
-ghost use Rattle.std.specs.Prelude.{◌≡◌};
+ghost use Rattle.std.specs.Prelude.{◌≡◌, false, ◌≤◌, ◌<◌, IfErr, OnOk};
 ghost use Rattle.model.specs.Refusals.{first_of};
 ghost use Rattle.model.specs.Calls.{apply_call, apply_reasons, group_call, neighbours_call, open_call, tied_call};
+ghost use Rattle.answers.specs.Numbers.{code, value_or};
 ghost use Rattle.rows.specs.Rows.{lent};
 ghost use Rattle.queries.specs.Query.{listed};
-ghost use Rattle.index.specs.Index.{applied, grouped, opened, tied_of};
+ghost use Rattle.index.specs.Index.{applied, group_told, opened, tied_of};
 
-use queries::Listed;
+use answers::{Kind, Refusal};
 use rows::Graph;
 
-// A graph of n nodes without edges, none hidden, and a store without states. 0, or 11.
+// A graph of n nodes without edges, none hidden, and a store without states. Refused with 11.
 pub fn open(
     n: usize,
     edges: &mut [u64],
     nodes: &mut [u16],
     keys: &mut [u32],
     store: &mut [u64],
-) -> u16
-    ensures { opened result (lent edges.new nodes.new keys.new) store.new ≡ open_call n (lent edges.old nodes.old keys.old) store.old }
+) -> Result<(), Refusal>
+    ensures { opened (code result) (lent edges.new nodes.new keys.new) store.new ≡ open_call n (lent edges.old nodes.old keys.old) store.old }
 {
     if !tables::right_size(n, edges, nodes, keys) {
-        return 11;
+        return Err(Refusal::WrongSize);
     }
     if !places::right_size(n, store) {
-        return 11;
+        return Err(Refusal::WrongSize);
     }
     opening::fill(Graph::empty(n), edges, nodes, keys);
     places::empty(n, store);
-    0
+    Ok(())
 }
 
-// Why a batch as a whole is refused (11, 12, 18), or 0.
-fn batch_refusal(
+// Whether a batch as a whole is refused (11, 12, 18).
+fn check_batch(
     n: usize,
     edges: &[u64],
     nodes: &[u16],
     keys: &[u32],
     batch: &[u16],
     answers: &[i16],
-) -> u16
-    ensures { result ≡ first_of (apply_reasons n (lent edges.now nodes.now keys.now) batch.now answers.now) }
+) -> Result<(), Refusal>
+    ensures { code result ≡ first_of (apply_reasons n (lent edges.now nodes.now keys.now) batch.now answers.now) }
 {
     if !updates::is_whole(batch) {
-        return 11;
+        return Err(Refusal::WrongSize);
     }
-    let number = tables::refusal(n, edges, nodes, keys);
-    if number != 0 {
-        return number;
-    }
+    tables::check(n, edges, nodes, keys)?;
     if answers.len() < updates::count(batch) {
-        return 18;
+        return Err(Refusal::ShortBuffer);
     }
-    0
+    Ok(())
 }
 
-// The updates of a batch, four numbers each, in order; each writes its answer. 0, or 11, 12, 18.
+// The updates of a batch, four numbers each, in order; each writes its answer. Refused with 11, 12, 18.
 pub fn apply(
     n: usize,
     edges: &mut [u64],
@@ -64,33 +62,34 @@ pub fn apply(
     keys: &mut [u32],
     batch: &[u16],
     answers: &mut [i16],
-) -> u16
-    ensures { applied result (lent edges.new nodes.new keys.new) answers.new ≡ apply_call n (lent edges.old nodes.old keys.old) batch.now answers.old }
+) -> Result<(), Refusal>
+    ensures { applied (code result) (lent edges.new nodes.new keys.new) answers.new ≡ apply_call n (lent edges.old nodes.old keys.old) batch.now answers.old }
 {
-    let number = batch_refusal(n, edges, nodes, keys, batch, answers);
-    if number != 0 {
-        return number;
-    }
+    check_batch(n, edges, nodes, keys, batch, answers)?;
     updates::run(n, edges, nodes, keys, batch, answers);
-    0
+    Ok(())
 }
 
-// A query's number and what it answers; 0 and no where it is refused.
-#[derive(Clone, Copy)]
-pub struct IsTied {
-    pub result: u16,
-    pub yes: bool,
-}
-
-#[derive(Clone, Copy)]
+// A node's group, by its least member.
+#[derive(Clone, Copy, Debug, PartialEq, Eq)]
 pub struct Grouped {
-    pub result: u16,
     pub least: u16,
-    pub kind: u16,
+    pub kind: Kind,
     pub size: u16,
 }
 
-// The neighbours of p, ascending, each followed by the least member of its group, and their count. 0, or 11, 12, 14, 18.
+// Whether p is one of n nodes (else 14).
+fn check_node(n: usize, p: usize) -> Result<(), Refusal>
+    ensures refused { IfErr result (λ refusal. (refusal ≡ Refusal.NoNode) × (n ≤ p)) }
+    ensures found { OnOk result (p < n) }
+{
+    if p >= n {
+        return Err(Refusal::NoNode);
+    }
+    Ok(())
+}
+
+// The neighbours of p, ascending, each followed by the least member of its group, and their count. Refused with 11, 12, 14, 18.
 pub fn neighbours(
     n: usize,
     edges: &[u64],
@@ -98,77 +97,54 @@ pub fn neighbours(
     keys: &[u32],
     p: u16,
     out: &mut [u16],
-) -> Listed
-    ensures { listed result.result result.count out.new ≡ neighbours_call n (lent edges.now nodes.now keys.now) p out.old }
+) -> Result<u16, Refusal>
+    ensures { listed (code result) (value_or 0 result) out.new ≡ neighbours_call n (lent edges.now nodes.now keys.now) p out.old }
 {
-    let number = tables::refusal(n, edges, nodes, keys);
-    if number != 0 {
-        return queries::unlisted(number);
-    }
+    tables::check(n, edges, nodes, keys)?;
     let node = p as usize;
-    if node >= n {
-        return queries::unlisted(14);
-    }
+    check_node(n, node)?;
     let a = Graph::ROW_WORDS * node;
     let row = &edges[a..a + Graph::ROW_WORDS];
     queries::list_row(row, nodes, Graph::NODE_NUMBERS, out)
 }
 
-// Whether there is an edge between p and q. 0, or 11, 12, 14, 15.
-pub fn tied(n: usize, edges: &[u64], nodes: &[u16], keys: &[u32], p: u16, q: u16) -> IsTied
-    ensures { tied_of result.result result.yes ≡ tied_call n (lent edges.now nodes.now keys.now) p q }
+// Whether there is an edge between p and q. Refused with 11, 12, 14, 15.
+pub fn tied(
+    n: usize,
+    edges: &[u64],
+    nodes: &[u16],
+    keys: &[u32],
+    p: u16,
+    q: u16,
+) -> Result<bool, Refusal>
+    ensures { tied_of (code result) (value_or false result) ≡ tied_call n (lent edges.now nodes.now keys.now) p q }
 {
-    let number = tables::refusal(n, edges, nodes, keys);
-    if number != 0 {
-        return IsTied {
-            result: number,
-            yes: false,
-        };
-    }
+    tables::check(n, edges, nodes, keys)?;
     let u = p as usize;
     let v = q as usize;
-    let pair = rows::pair_refusal(n, u, v);
-    if pair != 0 {
-        return IsTied {
-            result: pair,
-            yes: false,
-        };
-    }
-    IsTied {
-        result: 0,
-        yes: rows::edge(edges, u, v),
-    }
+    answers::check_pair(n, u, v)?;
+    Ok(rows::edge(edges, u, v))
 }
 
-// The group of p: least member, kind (0 singleton, 1 independent, 2 clique), size. 0, or 11, 12, 14.
-pub fn group(n: usize, edges: &[u64], nodes: &[u16], keys: &[u32], p: u16) -> Grouped
-    ensures { grouped result.result result.least result.kind result.size ≡ group_call n (lent edges.now nodes.now keys.now) p }
+// The group of p: least member, kind, size. Refused with 11, 12, 14.
+pub fn group(
+    n: usize,
+    edges: &[u64],
+    nodes: &[u16],
+    keys: &[u32],
+    p: u16,
+) -> Result<Grouped, Refusal>
+    ensures { group_told result ≡ group_call n (lent edges.now nodes.now keys.now) p }
 {
-    let number = tables::refusal(n, edges, nodes, keys);
-    if number != 0 {
-        return Grouped {
-            result: number,
-            least: 0,
-            kind: 0,
-            size: 0,
-        };
-    }
+    let tables = tables::check(n, edges, nodes, keys)?;
     let node = p as usize;
-    if node >= n {
-        return Grouped {
-            result: 14,
-            least: 0,
-            kind: 0,
-            size: 0,
-        };
-    }
+    check_node(n, node)?;
     let least = groups::number(nodes, node, groups::LEAST);
-    let kind = queries::kind_of(edges, nodes, n, least);
-    let size = queries::group_size(nodes, n, least);
-    Grouped {
-        result: 0,
+    let kind = queries::kind_of(tables, least);
+    let size = queries::group_size(tables, least);
+    Ok(Grouped {
         least: least as u16,
         kind,
         size: size as u16,
-    }
+    })
 }

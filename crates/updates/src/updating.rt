@@ -42,7 +42,8 @@ fn edge_refusal(edges: &[u64], nodes: &[u16], n: usize, u: usize, v: usize, want
     requires { (n ≤ max_nodes) × (length edges.now ≡ row_words * n) × (length nodes.now ≡ node_numbers * n) }
     ensures { (keys : List ℕ) → result ≡ refusal (graph_of n (lent edges.now nodes.now keys)) (change 1 u v wanted) }
 {
-    let number = rows::pair_refusal(n, u, v);
+    let pair = answers::check_pair(n, u, v);
+    let number = answers::code(&pair);
     if number != 0 {
         return number;
     }
