@@ -23,6 +23,7 @@ ghost use Rattle.checks.specs.Checks.{
 
 mod dense;
 
+use bits::Bits;
 use groups::{CLASS, LEAST, MARK, NEXT, PREVIOUS, number};
 use rows::Graph;
 
@@ -34,7 +35,7 @@ fn keys_agree(keys: &[u32], p: usize, sum: u32) -> bool
     if keys[2 * p] != sum {
         return false;
     }
-    keys[2 * p + 1] == std::num::wrapping_add_u32(sum, rows::cube_of(p))
+    keys[2 * p + 1] == sum.wrapping_add(rows::cube_of(p))
 }
 
 // Whether the bits of p's row are mirrored and its keys are right: one walk over the bits.
@@ -44,18 +45,14 @@ fn row_holds(edges: &[u64], keys: &[u32], n: usize, p: usize) -> bool
 {
     let a = Graph::ROW_WORDS * p;
     let mut sum = 0u32;
-    let mut w = 0;
-    while w < 8 {
-        let mut x = edges[a + w];
-        while x != 0 {
-            let q = 64 * w + rows::lowest(x);
+    for w in 0..Graph::ROW_WORDS {
+        for k in Bits::of(edges[a + w]) {
+            let q = 64 * w + k;
             if !edges::is_mirrored(edges, n, p, q) {
                 return false;
             }
-            sum = std::num::wrapping_add_u32(sum, rows::cube_of(q));
-            x = x & (x - 1);
+            sum = sum.wrapping_add(rows::cube_of(q));
         }
-        w += 1;
     }
     keys_agree(keys, p, sum)
 }

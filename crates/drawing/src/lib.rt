@@ -3,7 +3,7 @@
 
 ghost use Rattle.std.specs.Prelude.{◌+◌, ◌*◌, ◌≤◌, ◌<◌, length};
 ghost use Rattle.model.specs.Graph.{max_nodes, row_words};
-ghost use Rattle.drawing.specs.Drawing.{Added, one_bit, pair_bits, row_to, row_word_to};
+ghost use Rattle.drawing.specs.Drawing.{Added, one_bit, pair_bits, row_to};
 
 use rows::Graph;
 
@@ -13,7 +13,7 @@ pub fn set_bit(edges: &mut [u64], p: usize, q: usize)
     ensures { Added (one_bit p q) edges.old edges.new }
 {
     let i = rows::place(p, q);
-    edges[i] = edges[i] | rows::mask(q);
+    edges[i] |= rows::mask(q);
 }
 
 // Node p's bit set in node q's row, and q's in p's row too if both.
@@ -28,21 +28,13 @@ pub fn join(edges: &mut [u64], p: usize, q: usize, both: bool)
     set_bit(edges, p, q);
 }
 
-// Word w of a set put into p's row.
-fn draw_word(edges: &mut [u64], p: usize, set: &[u64], w: usize)
-    requires { (p < max_nodes) × (row_words * p + row_words ≤ length edges.old) × (row_words ≤ length set.now) × (w < row_words) }
-    ensures { Added (row_word_to p set.now w) edges.old edges.new }
-{
-    let i = Graph::ROW_WORDS * p + w;
-    edges[i] = edges[i] | set[w];
-}
-
 // A whole set put into p's row.
 pub fn draw_row(edges: &mut [u64], p: usize, set: &[u64])
     requires { (p < max_nodes) × (row_words * p + row_words ≤ length edges.old) × (row_words ≤ length set.now) }
     ensures { Added (row_to p set.now) edges.old edges.new }
 {
+    let a = Graph::ROW_WORDS * p;
     for w in 0..Graph::ROW_WORDS {
-        draw_word(edges, p, set, w);
+        edges[a + w] |= set[w];
     }
 }

@@ -19,10 +19,11 @@ use Rattle.rows.specs.Rows.{Words}
 use Rattle.rows.specs.BitLaws.{edge_at}
 use Rattle.rows.specs.EdgeLaws.{edges_by_bits}
 use Rattle.buffers.specs.AllLaws.{all_fail, all_pass_lem, failed, passed}
+use Rattle.bits.specs.BitsLaws.{Cleared}
 use Rattle.keys.specs.KeySums.{RowInside, row_key}
 use Rattle.keys.specs.Walk.{ahead}
 use Rattle.keys.specs.WalkLaws.{ahead_end, ahead_next, ahead_start}
-use Rattle.keys.specs.SumLaws.{CubesSoFar, adding_done, adding_less, adding_next, adding_off, adding_on, adding_place, adding_set, adding_start}
+use Rattle.keys.specs.SumLaws.{CubesSoFar, adding_done, adding_next, adding_off, adding_on, adding_place, adding_set, adding_start}
 use Rattle.symmetry.specs.Symmetry.{symmetric}
 use Rattle.symmetry.specs.SymmetryLaws.{all-symmetric, outside, symmetric-all}
 use Rattle.edges.specs.Edges.{RowsBelow, bit_holds, edges_hold, loopless, mirrored, row_holds}
@@ -94,18 +95,16 @@ module _ {n : ℕ} {edges : List ℕ} {p : ℕ} where
     pub walk_next : x ≡ 0 → Words edges → Walking n edges p (w + 1) (get_or edges (8 * p + (w + 1)) 0) sum
     walk_next e words = record { adding = adding_next h.adding e words; passed = λ q l t. h.passed q l (ap (λ (y : ℕ). ahead edges p w y q) e ∙ ahead_next edges p w q ∙ t) }
 
-    module _ (some : x ≡ 0 → ⊥) {t : ℕ} (lowest-is : t ≡ count_trailing_zeros 64 x) where
+    -- its lowest bit is at t, and y is left
+    module _ {t y : ℕ} (cut : Cleared x t y) where
       abbrev q : ℕ
       q = 64 * w + t
 
       pub walk_place : w < 8 → 64 * w + t < 512
-      walk_place l = adding_place h.adding some lowest-is l
+      walk_place l = adding_place h.adding cut l
 
       is_set : edge_bit edges p (64 * w + t) ≡ true
-      is_set = adding_set h.adding some lowest-is
-
-      pub walk_less : bit_and x (x - 1) < x
-      walk_less = adding_less h.adding some lowest-is
+      is_set = adding_set h.adding cut
 
       -- a bit that is not mirrored
       pub walk_fails : (b : Bool) → w < 8 → b ≡ mirrored n edges p (64 * w + t) → not b ≡ true → false ≡ row_holds n edges p
@@ -113,16 +112,16 @@ module _ {n : ℕ} {edges : List ℕ} {p : ℕ} where
       walk_fails b l e f = all_fail (λ r. not (edge_bit edges p r) || mirrored n edges p r) 512 q (walk_place l) (rw is_set (failed e f))
 
       -- a bit that is
-      pub walk_on : (b : Bool) {y r : ℕ} → b ≡ mirrored n edges p (64 * w + t) → not b ≡ false → y ≡ cube (64 * w + t) → r ≡ (sum + y) % 2 ^ 32 → Walking n edges p w (bit_and x (x - 1)) r
+      pub walk_on : (b : Bool) {a r : ℕ} → b ≡ mirrored n edges p (64 * w + t) → not b ≡ false → a ≡ cube (64 * w + t) → r ≡ (sum + a) % 2 ^ 32 → Walking n edges p w y r
       unfolding bit_holds mirrored
-      walk_on b {y} {r} e f ey er = record { adding = adding_on h.adding some lowest-is l ey er; passed = λ j k t. over j k t (decide (eqb j q)) }
+      walk_on b {a} {r} e f ea er = record { adding = adding_on h.adding cut l ea er; passed = λ j k t. over j k t (decide (eqb j q)) }
         where
           l : q < n
           l = ltb-true q n (and_fst (ltb q n) _ (passed e f))
 
-          over : (j : ℕ) → j < 512 → ahead edges p w (bit_and x (x - 1)) j ≡ false → (eqb j q ≡ true) ⊎ (eqb j q ≡ false) → (not (edge_bit edges p j) || mirrored n edges p j) ≡ true
+          over : (j : ℕ) → j < 512 → ahead edges p w y j ≡ false → (eqb j q ≡ true) ⊎ (eqb j q ≡ false) → (not (edge_bit edges p j) || mirrored n edges p j) ≡ true
           over j k t (inl z) = rw (eqb-true j q z, is_set) (passed e f)
-          over j k t (inr z) = h.passed j k (sym (adding_off h.adding some lowest-is j (eqb-false j q z)) ∙ t)
+          over j k t (inr z) = h.passed j k (sym (adding_off h.adding cut j (eqb-false j q z)) ∙ t)
 
     -- after the last word
     pub walk-mirrored : w ≡ 8 → true ≡ row_holds n edges p

@@ -6,6 +6,7 @@ ghost use Rattle.model.specs.Graph.{max_nodes, row_words};
 ghost use Rattle.symmetry.specs.Symmetry.{symmetric};
 ghost use Rattle.edges.specs.Edges.{edges_hold, loopless, mirrored, row_holds};
 
+use bits::Bits;
 use rows::Graph;
 
 // Whether q is another node, with p's bit in its row.
@@ -28,17 +29,12 @@ fn is_row_mirrored(edges: &[u64], n: usize, p: usize) -> bool
     ensures { result ≡ row_holds n edges.now p }
 {
     let a = Graph::ROW_WORDS * p;
-    let mut w = 0;
-    while w < 8 {
-        let mut x = edges[a + w];
-        while x != 0 {
-            let q = 64 * w + rows::lowest(x);
-            if !is_mirrored(edges, n, p, q) {
+    for w in 0..Graph::ROW_WORDS {
+        for k in Bits::of(edges[a + w]) {
+            if !is_mirrored(edges, n, p, 64 * w + k) {
                 return false;
             }
-            x = x & (x - 1);
         }
-        w += 1;
     }
     true
 }

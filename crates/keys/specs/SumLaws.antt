@@ -11,6 +11,7 @@ use Rattle.model.specs.Tables.{edge_bit, edges_in, graph_in}
 use Rattle.model.proofs.TestLaws.{differ}
 use Rattle.rows.specs.Rows.{Words}
 use Rattle.buffers.specs.WordBitsLaws.{cleared_less, lowest_small}
+use Rattle.bits.specs.BitsLaws.{Cleared}
 use Rattle.keys.specs.Totals.{sum_of}
 use Rattle.keys.specs.TotalLaws.{total_cong, total_cubes, total_none, total_set}
 use Rattle.keys.specs.Walk.{ahead}
@@ -53,31 +54,32 @@ module _ {c : ℕ → ℕ} {key n : ℕ} {edges : List ℕ} {p : ℕ} where
         same : (q : ℕ) → ahead edges p w x q ≡ ahead edges p (w + 1) (slice_index edges (8 * p + (w + 1))) q
         same q = ap (λ (y : ℕ). ahead edges p w y q) e ∙ ahead_next edges p w q
 
-    module _ (some : x ≡ 0 → ⊥) {t : ℕ} (lowest-is : t ≡ count_trailing_zeros 64 x) where
+    -- its lowest bit is at t, and y is left
+    module _ {t y : ℕ} (cut : Cleared x t y) where
       abbrev q : ℕ
       q = 64 * w + t
 
       here : 64 * w + t ≡ 64 * w + count_trailing_zeros 64 x
-      here = omega arith
+      here = omega (arith, cut.lowest)
 
       pub adding_place : w < 8 → 64 * w + t < 512
-      adding_place l = omega (arith, lowest_small x h.small some)
+      adding_place l = omega (arith, lowest_small x h.small cut.some, cut.lowest)
 
       pub adding_set : edge_bit edges p (64 * w + t) ≡ true
-      adding_set = h.set q (rw here (ahead_here edges p w x h.small some))
+      adding_set = h.set q (rw here (ahead_here edges p w x h.small cut.some))
 
-      pub adding_less : bit_and x (x - 1) < x
-      adding_less = cleared_less x h.small some
+      pub adding_less : y < x
+      adding_less = omega (arith, cut.rest, cleared_less x h.small cut.some)
 
-      pub adding_off : (j : ℕ) → (j ≢ 64 * w + t) → ahead edges p w (bit_and x (x - 1)) j ≡ ahead edges p w x j
-      adding_off j d = ahead_off edges p w x h.small some j (λ z. d (z ∙ sym here))
+      pub adding_off : (j : ℕ) → (j ≢ 64 * w + t) → ahead edges p w y j ≡ ahead edges p w x j
+      adding_off j d = rw cut.rest (ahead_off edges p w x h.small cut.some j (λ z. d (z ∙ sym here)))
 
-      gone : ahead edges p w (bit_and x (x - 1)) (64 * w + t) ≡ false
-      gone = rw here (ahead_gone edges p w x h.small some)
+      gone : ahead edges p w y (64 * w + t) ≡ false
+      gone = rw (here, cut.rest) (ahead_gone edges p w x h.small cut.some)
 
       -- what its lowest bit's node adds
-      pub adding_on : {y r : ℕ} → 64 * w + t < n → y ≡ c (64 * w + t) → r ≡ (sum + y) % 2 ^ 32 → Weighing c key n edges p w (bit_and x (x - 1)) r
-      adding_on {y} {r} l ey er =
+      pub adding_on : {a r : ℕ} → 64 * w + t < n → a ≡ c (64 * w + t) → r ≡ (sum + a) % 2 ^ 32 → Weighing c key n edges p w y r
+      adding_on {a} {r} l ea er =
           record {
             small = omega (arith, adding_less, h.small);
             fits = omega arith;
@@ -85,15 +87,15 @@ module _ {c : ℕ → ℕ} {key n : ℕ} {edges : List ℕ} {p : ℕ} where
             total = omega (arith, h.total, sums);
           }
         where
-          stays : (j : ℕ) → ahead edges p w (bit_and x (x - 1)) j ≡ true → ahead edges p w x j ≡ true
-          stays j t = sym (adding_off j (λ z. differ t (ap (ahead edges p w (bit_and x (x - 1))) z ∙ gone))) ∙ t
+          stays : (j : ℕ) → ahead edges p w y j ≡ true → ahead edges p w x j ≡ true
+          stays j t = sym (adding_off j (λ z. differ t (ap (ahead edges p w y) z ∙ gone))) ∙ t
 
-          sums : sum_of n (ahead edges p w x) c ≡ c q + sum_of n (ahead edges p w (bit_and x (x - 1))) c
-          sums = total_set n q (c q) (λ j. cond (ahead edges p w x j) (c j) 0) (λ j. cond (ahead edges p w (bit_and x (x - 1)) j) (c j) 0) l own (λ j d. ap (λ (b : Bool). cond b (c j) 0) (sym (adding_off j d)))
+          sums : sum_of n (ahead edges p w x) c ≡ c q + sum_of n (ahead edges p w y) c
+          sums = total_set n q (c q) (λ j. cond (ahead edges p w x j) (c j) 0) (λ j. cond (ahead edges p w y j) (c j) 0) l own (λ j d. ap (λ (b : Bool). cond b (c j) 0) (sym (adding_off j d)))
             where
-              own : cond (ahead edges p w x q) (c q) 0 ≡ c q + cond (ahead edges p w (bit_and x (x - 1)) q) (c q) 0
+              own : cond (ahead edges p w x q) (c q) 0 ≡ c q + cond (ahead edges p w y q) (c q) 0
               own =
-                  let on : ahead edges p w x q ≡ true = rw here (ahead_here edges p w x h.small some) in
+                  let on : ahead edges p w x q ≡ true = rw here (ahead_here edges p w x h.small cut.some) in
                   rw (on, gone) (omega arith)
 
   -- after the last word

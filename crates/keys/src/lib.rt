@@ -20,6 +20,7 @@ ghost use Rattle.keys.specs.KeySums.{
   words_for,
 };
 
+use bits::Bits;
 use rows::Graph;
 
 // x if v is odd, else 0.
@@ -189,15 +190,10 @@ fn sum_row(edges: &[u64], n: usize, p: usize) -> u32
 {
     let a = Graph::ROW_WORDS * p;
     let mut sum = 0u32;
-    let mut w = 0;
-    while w < 8 {
-        let mut x = edges[a + w];
-        while x != 0 {
-            let q = 64 * w + rows::lowest(x);
-            sum = std::num::wrapping_add_u32(sum, rows::cube_of(q));
-            x = x & (x - 1);
+    for w in 0..Graph::ROW_WORDS {
+        for k in Bits::of(edges[a + w]) {
+            sum = sum.wrapping_add(rows::cube_of(64 * w + k));
         }
-        w += 1;
     }
     sum
 }

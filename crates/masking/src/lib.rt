@@ -19,33 +19,32 @@ pub fn is_visible(hidden: &[u16], q: usize) -> bool
 }
 
 // The visible nodes as a set of bits.
-fn visible_set(hidden: &[u16], n: usize) -> [u64; 8]
+fn visible_set(hidden: &[u16], n: usize) -> [u64; Graph::ROW_WORDS]
     requires { (n ≤ max_nodes) × (n ≤ length hidden.now) }
     ensures { Marking (shown hidden.now) result n }
 {
-    let mut set = [0u64; 8];
+    let mut set = [0u64; Graph::ROW_WORDS];
     for q in 0..n {
         if is_visible(hidden, q) {
-            let w = rows::word_of(q);
-            set[w] = set[w] ^ rows::mask(q);
+            set[rows::word_of(q)] ^= rows::mask(q);
         }
     }
     set
 }
 
 // Row p, of which only the nodes of a set are kept.
-fn mask_row(edges: &[u64], set: &[u64; 8], p: usize, masked: &mut [u64])
+fn mask_row(edges: &[u64], set: &[u64; Graph::ROW_WORDS], p: usize, masked: &mut [u64])
     requires { (p < max_nodes) × (row_words * p + row_words ≤ length edges.now) × (row_words * p + row_words ≤ length masked.old) }
     ensures { RowPut p row_words (cut_word edges.now set.now p) masked.old masked.new }
 {
     let a = Graph::ROW_WORDS * p;
-    for w in 0..8 {
+    for w in 0..Graph::ROW_WORDS {
         masked[a + w] = edges[a + w] & set[w];
     }
 }
 
 // A visible node keeps its edges to visible nodes, a hidden one none.
-fn mask_node(edges: &[u64], hidden: &[u16], set: &[u64; 8], p: usize, masked: &mut [u64])
+fn mask_node(edges: &[u64], hidden: &[u16], set: &[u64; Graph::ROW_WORDS], p: usize, masked: &mut [u64])
     requires { (p < max_nodes) × (p < length hidden.now) × (row_words * p + row_words ≤ length edges.now) × (row_words * p + row_words ≤ length masked.old) }
     ensures { RowPut p row_words (masked_word edges.now set.now hidden.now p) masked.old masked.new }
 {
@@ -53,7 +52,7 @@ fn mask_node(edges: &[u64], hidden: &[u16], set: &[u64; 8], p: usize, masked: &m
         mask_row(edges, set, p, masked);
         return;
     }
-    mask_row(edges, &[0u64; 8], p, masked);
+    mask_row(edges, &[0u64; Graph::ROW_WORDS], p, masked);
 }
 
 // The edges between visible nodes.

@@ -15,8 +15,7 @@ fn lay(table: &mut [u64], i: usize, j: usize, strip: &[u64])
     ensures { Added (columns_to i j strip.now 64) table.old table.new }
 {
     for k in 0..64 {
-        let c = Graph::ROW_WORDS * (64 * j + k) + i;
-        table[c] = table[c] | strip[Graph::ROW_WORDS * k + j];
+        table[Graph::ROW_WORDS * (64 * j + k) + i] |= strip[Graph::ROW_WORDS * k + j];
     }
 }
 

@@ -1,16 +1,10 @@
 -- The invariants: the cubes of the bits passed add up to sum; the others are ahead.
-use Rattle.std.proofs.Common.{◌+◌, ◌-◌, ◌*◌, ◌≤◌, get_or}
+use Rattle.std.proofs.Common.{◌+◌, ◌*◌, get_or}
 use Rattle.keys.specs.SumLaws.{CubesSoFar}
 use Rattle.keys.proofs.sum_row.Given as goal
 
-abbrev pub invariant-loop-x : goal.invariant-loop-x
-invariant-loop-x l = CubesSoFar l.n l.edges l.p l.w l.x l.sum
-
-abbrev pub decreases-loop-x : goal.decreases-loop-x
-decreases-loop-x l = l.x
-
 abbrev pub invariant-loop-w : goal.invariant-loop-w
-invariant-loop-w l = (l.w ≤ 8) × CubesSoFar l.n l.edges l.p l.w (get_or l.edges (8 * l.p + l.w) 0) l.sum
+invariant-loop-w l = CubesSoFar l.n l.edges l.p l.w (get_or l.edges (8 * l.p + l.w) 0) l.sum
 
-abbrev pub decreases-loop-w : goal.decreases-loop-w
-decreases-loop-w l = 8 - l.w
+abbrev pub invariant-loop-k : goal.invariant-loop-k
+invariant-loop-k l = CubesSoFar l.n l.edges l.p l.w l.k-iterator.word l.sum

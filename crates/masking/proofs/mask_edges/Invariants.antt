@@ -1,10 +1,6 @@
 -- The invariant: the first p rows are masked.
-use Prim.Native.Nat.{◌-◌, ◌≤◌}
 use Rattle.masking.specs.MaskLaws.{Masking}
 use Rattle.masking.proofs.mask_edges.Given as goal
 
 abbrev pub invariant-loop-p : goal.invariant-loop-p
-invariant-loop-p l = (l.p ≤ l.n) × Masking l.edges l.set l.hidden l.p l.initial.masked l.masked
-
-abbrev pub decreases-loop-p : goal.decreases-loop-p
-decreases-loop-p l = l.n - l.p
+invariant-loop-p l = Masking l.edges l.set l.hidden l.p l.initial.masked l.masked

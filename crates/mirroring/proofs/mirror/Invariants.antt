@@ -6,4 +6,4 @@ use Rattle.mirroring.specs.Mirroring.{InRows, MirroredAt}
 use Rattle.mirroring.proofs.mirror.Given as goal
 
 abbrev pub invariant-loop-i : goal.invariant-loop-i
-invariant-loop-i l = (l.i ≤ l.i-end) × MirroredAt (InRows l.i) l.initial.table l.table × (length l.b ≡ 512)
+invariant-loop-i l = MirroredAt (InRows l.i) l.initial.table l.table × (length l.b ≡ 512)

@@ -1,0 +1,52 @@
+// An edge table that is lent, with the number of its nodes.
+#![tactic(auto)]
+
+ghost use Rattle.std.specs.Prelude.{◌≡◌, ◌+◌, ◌*◌, ◌≤◌, ◌<◌, length, slice_index, slice_range};
+ghost use Rattle.model.specs.Graph.{max_nodes, row_words};
+ghost use Rattle.model.specs.Tables.{edge_bit};
+
+use rows::Graph;
+
+#[derive(Clone, Copy)]
+pub struct Edges<'a> {
+    pub n: usize,
+    pub words: &'a [u64],
+    ghost fits: { (n ≤ max_nodes) × (length words.now ≡ row_words * n) },
+}
+
+impl<'a> Edges<'a> {
+    #[inline]
+    pub fn of(words: &'a [u64], n: usize) -> Self
+        requires { (n ≤ max_nodes) × (length words.now ≡ row_words * n) }
+        ensures { (result.n ≡ n) × (result.words.now ≡ words.now) }
+    {
+        Self { n, words }
+    }
+
+    // Word w of p's row.
+    #[inline]
+    pub fn word(self, p: usize, w: usize) -> u64
+        requires { (p < self.n) × (w < row_words) }
+        ensures { result ≡ slice_index self.entry.words.now (row_words * p + w) }
+    {
+        self.words[Graph::ROW_WORDS * p + w]
+    }
+
+    #[inline]
+    pub fn row(self, p: usize) -> &'a [u64]
+        requires { p < self.n }
+        ensures { result.now ≡ slice_range self.entry.words.now (row_words * p) (row_words * p + row_words) }
+    {
+        let a = Graph::ROW_WORDS * p;
+        &self.words[a..a + Graph::ROW_WORDS]
+    }
+
+    // Whether p's row has the bit for q.
+    #[inline]
+    pub fn tied(self, p: usize, q: usize) -> bool
+        requires { (p < self.n) × (q < max_nodes) }
+        ensures { result ≡ edge_bit self.entry.words.now p q }
+    {
+        rows::edge(self.words, p, q)
+    }
+}
