@@ -13,6 +13,7 @@ ghost use Rattle.buffers.specs.Wrote.{Wrote};
 ghost use Rattle.queries.specs.Query.{Reaches, kind_by, leader_at, led_by, listed, row_nodes, row_told};
 
 use answers::{Kind, Refusal};
+use bits::Bits;
 use groups::{LEAST, NEXT, number};
 use tables::Tables;
 
@@ -42,13 +43,11 @@ fn write_word(
     ensures { Wrote out.old at (pairs (leader_at least.now stride) (bits_from b word)) out.new result }
 {
     let mut to = at;
-    let mut rest = word;
-    while rest != 0 {
-        let q = b + rows::lowest(rest);
+    for k in Bits::of(word) {
+        let q = b + k;
         out[to] = q as u16;
         out[to + 1] = least[stride * q];
         to += 2;
-        rest = rest & (rest - 1);
     }
     to
 }
