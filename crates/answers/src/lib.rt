@@ -59,8 +59,9 @@ pub fn check_pair(n: usize, u: usize, v: usize) -> Result<(), Refusal>
 }
 
 // What kind a group is of.
-#[derive(Clone, Copy, Debug, PartialEq, Eq)]
+#[derive(Clone, Copy, Debug, Default, PartialEq, Eq)]
 pub enum Kind {
+    #[default]
     Singleton,
     Independent,
     Clique,

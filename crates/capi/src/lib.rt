@@ -11,6 +11,8 @@ ghost use Rattle.index.specs.Index.{applied, grouped, opened};
 ghost use Rattle.release.specs.Release.{measured};
 ghost use Rattle.capi.specs.Exported.{released_with};
 
+use answers::code;
+
 // A graph of n nodes without edges, none hidden, and a store without states.
 #[unsafe(no_mangle)]
 pub extern "C" fn tegmulos_open(
@@ -22,7 +24,7 @@ pub extern "C" fn tegmulos_open(
 ) -> u16
     ensures { opened result (lent edges.new nodes.new keys.new) store.new ≡ open_call n (lent edges.old nodes.old keys.old) store.old }
 {
-    index::open(n, edges, nodes, keys, store)
+    code(&index::open(n, edges, nodes, keys, store))
 }
 
 // The graph kept under a name of sixteen bytes.
@@ -37,7 +39,7 @@ pub extern "C" fn tegmulos_keep(
 ) -> u16
     ensures { stored result store.new ≡ keep_call n (lent edges.now nodes.now keys.now) store.old name.now }
 {
-    store::keep(n, edges, nodes, keys, store, name)
+    code(&store::keep(n, edges, nodes, keys, store, name))
 }
 
 // The tables of the graph kept under a name.
@@ -52,7 +54,7 @@ pub extern "C" fn tegmulos_restore(
 ) -> u16
     ensures { filled result (lent edges.new nodes.new keys.new) ≡ restore_call n (lent edges.old nodes.old keys.old) store.now name.now }
 {
-    store::restore(n, edges, nodes, keys, store, name)
+    code(&store::restore(n, edges, nodes, keys, store, name))
 }
 
 // A name dropped, and its place cleared.
@@ -60,7 +62,7 @@ pub extern "C" fn tegmulos_restore(
 pub extern "C" fn tegmulos_drop(n: usize, store: &mut [u64], name: &[u8]) -> u16
     ensures { stored result store.new ≡ drop_call n store.old name.now }
 {
-    store::drop(n, store, name)
+    code(&store::drop(n, store, name))
 }
 
 // A batch of updates, each with its answer.
@@ -75,7 +77,7 @@ pub extern "C" fn tegmulos_apply(
 ) -> u16
     ensures { applied result (lent edges.new nodes.new keys.new) answers.new ≡ apply_call n (lent edges.old nodes.old keys.old) batch.now answers.old }
 {
-    index::apply(n, edges, nodes, keys, batch, answers)
+    code(&index::apply(n, edges, nodes, keys, batch, answers))
 }
 
 // The neighbours of p, ascending, each followed by the least member of its group, and their count.
@@ -92,15 +94,8 @@ pub extern "C" fn tegmulos_neighbours(
     ensures { listed result count.new out.new ≡ neighbours_call n (lent edges.now nodes.now keys.now) p out.old }
 {
     let found = index::neighbours(n, edges, nodes, keys, p, out);
-    *count = found.count;
-    found.result
-}
-
-// A yes-or-no as 1 or 0.
-fn flag(yes: bool) -> u16
-    ensures { result ≡ cond yes 1 0 }
-{
-    if yes { 1 } else { 0 }
+    *count = found.unwrap_or(0);
+    code(&found)
 }
 
 // Whether there is an edge between p and q: 1 or 0.
@@ -118,8 +113,8 @@ pub extern "C" fn tegmulos_tied(
     ensures said { yes.new ≡ cond (tied_call n (lent edges.now nodes.now keys.now) p q).yes 1 0 }
 {
     let found = index::tied(n, edges, nodes, keys, p, q);
-    *yes = flag(found.yes);
-    found.result
+    *yes = u16::from(found.unwrap_or(false));
+    code(&found)
 }
 
 // The group of p: least member, kind (0 singleton, 1 independent, 2 clique), size.
@@ -137,10 +132,11 @@ pub extern "C" fn tegmulos_group(
     ensures { grouped result least.new kind.new size.new ≡ group_call n (lent edges.now nodes.now keys.now) p }
 {
     let found = index::group(n, edges, nodes, keys, p);
-    *least = found.least;
-    *kind = found.kind;
-    *size = found.size;
-    found.result
+    let group = found.unwrap_or_default();
+    *least = group.least;
+    *kind = u16::from(group.kind);
+    *size = group.size;
+    code(&found)
 }
 
 // The release file of the visible part: its nodes, groups, superedges and bytes.
@@ -159,11 +155,12 @@ pub extern "C" fn tegmulos_release(
     ensures { released_with result m.new g.new s.new bytes.new out.new ≡ release_call n (lent edges.now nodes.now keys.now) out.old }
 {
     let written = release::release(n, edges, nodes, keys, out);
-    *m = written.nodes;
-    *g = written.groups;
-    *s = written.superedges;
-    *bytes = written.bytes;
-    written.result
+    let sizes = written.unwrap_or_default();
+    *m = sizes.nodes;
+    *g = sizes.groups;
+    *s = sizes.superedges;
+    *bytes = sizes.bytes;
+    code(&written)
 }
 
 // The tables of the graph that a release file holds.
@@ -177,7 +174,7 @@ pub extern "C" fn tegmulos_read(
 ) -> u16
     ensures { filled result (lent edges.new nodes.new keys.new) ≡ read_call n (lent edges.old nodes.old keys.old) file.now }
 {
-    release::read(n, edges, nodes, keys, file)
+    code(&release::read(n, edges, nodes, keys, file))
 }
 
 // The neighbours of p in a release file, ascending, each followed by the least member of its group there, and their count.
@@ -191,8 +188,8 @@ pub extern "C" fn tegmulos_file_neighbours(
     ensures { listed result count.new out.new ≡ file_neighbours_call file.now p out.old }
 {
     let found = release::file_neighbours(file, p, out);
-    *count = found.count;
-    found.result
+    *count = found.unwrap_or(0);
+    code(&found)
 }
 
 // How many edges separate p and q in a release file; 65,535 if no chain of edges does.
@@ -201,6 +198,6 @@ pub extern "C" fn tegmulos_file_distance(file: &[u8], p: u16, q: u16, distance: 
     ensures { measured result distance.new ≡ file_distance_call file.now p q }
 {
     let found = release::file_distance(file, p, q);
-    *distance = found.distance;
-    found.result
+    *distance = found.unwrap_or(0);
+    code(&found)
 }

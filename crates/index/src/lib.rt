@@ -71,7 +71,7 @@ pub fn apply(
 }
 
 // A node's group, by its least member.
-#[derive(Clone, Copy, Debug, PartialEq, Eq)]
+#[derive(Clone, Copy, Debug, Default, PartialEq, Eq)]
 pub struct Grouped {
     pub least: u16,
     pub kind: Kind,
