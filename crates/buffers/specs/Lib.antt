@@ -4,7 +4,6 @@ pub mod AllLaws
 pub mod StoreLaws
 pub mod Filled
 pub mod FilledLaws
-pub mod Union
 pub mod UnionLaws
 pub mod Wrote
 pub mod WroteLaws

@@ -1,11 +1,16 @@
 -- Words united bit by bit are below a power of two exactly if each of them is.
-use Rattle.std.specs.Prelude.{◌≡◌, refl, Bool, true, false, ◌&&◌, List, [], ◌∷◌, ℕ, suc, zero, ◌+◌, ◌^◌, ◌≤◌, ◌<◌, eqb, ltb, length, get_or, take}
-use Rattle.std.proofs.Common.{sym, ap, subst, ◌∙◌, arith, pow_pos, take_all, le-ltb, lt-ltb, ltb-true, ne_eqb}
+use Rattle.std.specs.Prelude.{◌≡◌, refl, Bool, true, ◌&&◌, List, [], ◌∷◌, ℕ, suc, zero, ◌+◌, ◌*◌, ◌^◌, eqb, ltb, take, drop}
+use Rattle.std.proofs.Common.{sym, ap, ◌∙◌, arith, pow_pos, le-ltb, lt-ltb, ltb-true, ne_eqb, suc-mul, zero-mul}
+use Rattle.std.proofs.Math.Bool.{and-true, and_assoc}
+use Rattle.std.proofs.Math.Seq.{take-add}
+use Rattle.std.proofs.lemmas.List.{take-append-drop}
 use Rattle.std.proofs.lemmas.Nat.{and_le_l, and_le_r, or_lt}
 use Rattle.std.specs.Int.Bits.{bit_or, or_add_and}
 use Rattle.model.specs.Lists.{all}
 use Rattle.model.proofs.TestLaws.{and_fst, and_snd, and_true, iff_eq}
-use Rattle.buffers.specs.Union.{United}
+use Rattle.std.specs.List.{fold}
+use Rattle.std.specs.Simd.{first_chunks}
+use Rattle.std.proofs.lemmas.List.Sums.{fold-append}
 
 or_below : (k a b : ℕ) → ltb (bit_or a b) (2 ^ k) ≡ (ltb a (2 ^ k) && ltb b (2 ^ k))
 or_below k a b = iff_eq _ _ there back
@@ -18,46 +23,25 @@ or_below k a b = iff_eq _ _ there back
     back : (ltb a (2 ^ k) && ltb b (2 ^ k)) ≡ true → ltb (bit_or a b) (2 ^ k) ≡ true
     back h = lt-ltb (bit_or a b) (2 ^ k) (or_lt k a b (ltb-true a (2 ^ k) (and_fst (ltb a (2 ^ k)) _ h)) (ltb-true b (2 ^ k) (and_snd (ltb a (2 ^ k)) _ h)))
 
-all_more : (f : ℕ → Bool) (s : List ℕ) (i : ℕ) → i < length s → all (take (suc i) s) f ≡ (all (take i s) f && f (get_or s i 0))
+-- the words of xs united with u
+united_below : (k u : ℕ) (xs : List ℕ) → ltb (fold bit_or u xs) (2 ^ k) ≡ (ltb u (2 ^ k) && all xs (λ x. ltb x (2 ^ k)))
 unfolding all
-all_more f [] i h = absurd (omega arith)
-all_more f (x ∷ xs) zero h = step (f x)
-  where
-    step : (b : Bool) → (b && true) ≡ b
-    step true = refl
-    step false = refl
-all_more f (x ∷ xs) (suc i) h = ap (λ (b : Bool). f x && b) (all_more f xs i (omega arith)) ∙ step (f x) _ _
-  where
-    step : (a b c : Bool) → (a && (b && c)) ≡ ((a && b) && c)
-    step true b c = refl
-    step false b c = refl
+united_below k u [] = sym (and-true (ltb u (2 ^ k)))
+united_below k u (x ∷ xs) =
+    united_below k (bit_or u x) xs
+    ∙ ap (λ (b : Bool). b && all xs (λ y. ltb y (2 ^ k))) (or_below k u x)
+    ∙ and_assoc (ltb u (2 ^ k)) (ltb x (2 ^ k)) (all xs (λ y. ltb y (2 ^ k)))
 
--- word by word
-pub united_none : (s : List ℕ) → United s 0 0
-unfolding all
-united_none s = record { below = λ k. lt-ltb 0 (2 ^ k) (pow_pos k) }
+-- m chunks of n words, and the words after them
+united_chunks : (n m u : ℕ) (xs : List ℕ) → fold (λ (v : ℕ) (chunk : List ℕ). fold bit_or v chunk) u (first_chunks n m xs) ≡ fold bit_or u (take (m * n) xs)
+united_chunks n zero u xs = rw (zero-mul n)
+united_chunks n (suc m) u xs = let e : suc m * n ≡ n + m * n = omega (arith, suc-mul m n) in rw (e, take-add, fold-append) (united_chunks n m (fold bit_or u (take n xs)) (drop n xs))
 
-pub united_more : {s : List ℕ} {i u : ℕ} → United s i u → i < length s → United s (i + 1) (bit_or u (get_or s i 0))
-united_more {s} {i} {u} h l = record { below = more }
-  where
-    one : i + 1 ≡ suc i
-    one = omega arith
-
-    more : (k : ℕ) → ltb (bit_or u (get_or s i 0)) (2 ^ k) ≡ all (take (i + 1) s) (λ x. ltb x (2 ^ k))
-    more k = or_below k u (get_or s i 0) ∙ ap (λ (b : Bool). b && ltb (get_or s i 0) (2 ^ k)) (h.below k) ∙ sym (ap (λ (j : ℕ). all (take j s) (λ x. ltb x (2 ^ k))) one ∙ all_more (λ x. ltb x (2 ^ k)) s i l)
-
-pub united_to : {s : List ℕ} {i j u : ℕ} → United s i u → i ≡ j → United s j u
-united_to {s} {u = u} h e = subst (λ (m : ℕ). United s m u) e h
-
-pub united_eight : {s : List ℕ} {i u : ℕ} → United s i u → i + 8 ≤ length s
-    → United s (i + 8) (bit_or (bit_or (bit_or (bit_or (bit_or (bit_or (bit_or (bit_or u (get_or s i 0)) (get_or s (i + 1) 0)) (get_or s (i + 2) 0)) (get_or s (i + 3) 0)) (get_or s (i + 4) 0)) (get_or s (i + 5) 0)) (get_or s (i + 6) 0)) (get_or s (i + 7) 0))
-united_eight {s} {i} h l = on 7 (on 6 (on 5 (on 4 (on 3 (on 2 (on 1 (united_more h (omega arith)) (omega arith)) (omega arith)) (omega arith)) (omega arith)) (omega arith)) (omega arith)) (omega arith)
-  where
-    on : (j : ℕ) {u : ℕ} → United s (i + j) u → j < 8 → United s (i + (j + 1)) (bit_or u (get_or s (i + j) 0))
-    on j a b = united_to (united_more a (omega arith)) (omega arith)
-
-pub united_all : {s : List ℕ} {i u : ℕ} → United s i u → length s ≤ i → (k : ℕ) → ltb u (2 ^ k) ≡ all s (λ x. ltb x (2 ^ k))
-united_all {s} {i} h l k = h.below k ∙ ap (λ (t : List ℕ). all t (λ x. ltb x (2 ^ k))) (take_all i s l)
+pub united_all : (n m : ℕ) (xs : List ℕ) {u v : ℕ} → u ≡ fold (λ (w : ℕ) (chunk : List ℕ). fold bit_or w chunk) 0 (first_chunks n m xs) → v ≡ fold bit_or u (drop (m * n) xs)
+    → (k : ℕ) → ltb v (2 ^ k) ≡ all xs (λ x. ltb x (2 ^ k))
+united_all n m xs {u} {v} e f k =
+    let whole : v ≡ fold bit_or 0 xs = f ∙ rw (e, united_chunks) (sym (fold-append bit_or 0 (take (m * n) xs) (drop (m * n) xs)) ∙ ap (fold bit_or 0) (take-append-drop (m * n) xs)) in
+    rw (whole, united_below k 0 xs, lt-ltb 0 (2 ^ k) (pow_pos k))
 
 -- no bit at all
 pub is_none : (u : ℕ) → eqb u 0 ≡ ltb u 1

@@ -1,5 +1,5 @@
 -- The search for the group that a node joins.
-use Rattle.std.specs.Prelude.{◌≡◌, Bool, true, false, not, cond, ◌&&◌, ◌||◌, List, ℕ, zero, suc, ◌+◌, ◌*◌, ◌/◌, ◌%◌, ◌^◌, ◌≤◌, ◌<◌, eqb, get_or, take, drop}
+use Rattle.std.specs.Prelude.{◌≡◌, Bool, true, false, not, cond, ◌&&◌, ◌||◌, List, ℕ, zero, suc, ◌+◌, ◌*◌, ◌/◌, ◌%◌, ◌^◌, ◌≤◌, ◌<◌, eqb, ltb, get_or, take, drop, Option, Some, None, MatchOption}
 use Rattle.std.specs.Int.Bits.{bit_xor}
 use Rattle.model.specs.Graph.{Graph, max_nodes, row_words, whole}
 use Rattle.model.specs.Grouping.{similar}
@@ -22,6 +22,10 @@ unfoldable pub first_from : (ℕ → Bool) → ℕ → ℕ → ℕ
 first_from P q zero = q
 first_from P q (suc k) = cond (P q) q (first_from P (suc q) k)
 
+-- x, the place of the first that passes of m, where one does
+unfoldable pub found : ℕ → ℕ → Option ℕ
+found m x = cond (ltb x m) (Some x) None
+
 -- how many nodes are passed over at once
 abbrev pub block : ℕ
 block = 16
@@ -33,6 +37,10 @@ Passed P from to = (k : ℕ) → from ≤ k → k < to → P k ≡ false
 -- a search up to m has got as far as r
 abbrev pub Skipped : (ℕ → Bool) → ℕ → ℕ → ℕ → Type 0
 Skipped P from m r = (from ≤ r) × (r ≤ m) × Passed P from r
+
+-- a search below m got as far as a number below m, or passed all
+abbrev pub NextFrom : (ℕ → Bool) → ℕ → ℕ → Option ℕ → Type 0
+NextFrom P from m r = MatchOption r (Passed P from m) (λ q. Skipped P from m q × q < m)
 
 -- the edges and classes of tables, nobody hidden
 abbrev pub classed : ℕ → List ℕ → List ℕ → Graph

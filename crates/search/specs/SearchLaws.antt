@@ -1,21 +1,22 @@
 -- What the search tries tells which group a node joins.
-use Rattle.std.specs.Prelude.{◌≡◌, not, ◌&&◌, ◌||◌, ◌⊎◌, ltb, length, get_or, take, drop}
+use Rattle.std.specs.Prelude.{◌≡◌, not, ◌&&◌, ◌⊎◌, ltb, length, get_or, take, drop, Option, Some, None, MatchOption, is_some, IsTrue, ◌↔◌}
 use Rattle.std.proofs.Math.Path.{refl, sym}
 use Rattle.std.proofs.Common.{ap, ◌∙◌, inl, inr, length-take, length-drop, get_or-drop, get_or-take}
 use Rattle.std.proofs.Math.Bool.{Bool, true, false, cond, and-false}
 use mathlib.Core.List.{List}
-use Prim.Native.Nat.{ℕ, zero, suc, ◌+◌, ◌*◌, ◌-◌, ◌/◌, ◌%◌, ◌^◌, ◌≤◌, ◌<◌}
+use Prim.Native.Nat.{ℕ, zero, suc, ◌+◌, ◌*◌, ◌-◌, ◌≤◌, ◌<◌}
 use native.Mathlib.Omega.{arith}
 use Rattle.std.specs.Int.Bits.{bit_xor}
 use Rattle.std.proofs.Math.Dec.{eqb}
-use borrow.Author.Tests.{eqb-true, eqb-false, eq-eqb, ltb-false, ltb-true, ne_eqb, not-false, not-true}
+use Rattle.std.proofs.Math.Decide.{ℕ_discrete}
+use borrow.Author.Tests.{eqb-true, eqb-false, eq-eqb, ltb-false, ltb-true, le-ltb, lt-ltb, ne_eqb, not-true}
 use Rattle.model.specs.Graph.{Graph, Proper, View, whole}
 use Rattle.model.specs.Grouping.{closed_key, false_twins, open_key, similar, true_twins}
 use Rattle.model.specs.Tables.{edge_bit, edges_in, edges_of, graph_in, key_pair, keys_of, node_number, row_of}
-use Rattle.model.proofs.TestLaws.{and_fst, and_snd, and_true, decide, differ, iff_eq, or_left, or_none, or_right}
+use Rattle.model.proofs.TestLaws.{and_fst, and_snd, and_true, decide, differ, iff_eq, or_left, or_right}
 use Rattle.model.proofs.TwinLaws.{similar_N, similar_N+, similar_cases, similar_split}
 use Rattle.model.proofs.TableLaws.{edges_in_lem, edge_bit_lem, length_edges, length_keys}
-use Rattle.search.specs.Search.{Passed, Ready, Skipped, Within, classed, first_from, joins, key_agrees, keys_agree, may_join, meets, own_bit, own_bits, row_in, same_class, tried}
+use Rattle.search.specs.Search.{Passed, Ready, Skipped, Within, classed, first_from, found, joins, key_agrees, keys_agree, may_join, meets, own_bits, row_in, same_class, tried}
 use Rattle.search.specs.TwinRowLaws.{false_key, false_meet, keys_apart, meet_false, meet_true, true_key, true_meet}
 
 -- the first that passes
@@ -42,6 +43,60 @@ module _ (P : ℕ → Bool) where
   pub first_none : (n : ℕ) → ((j : ℕ) → j < n → P j ≡ false) → n ≡ first_from P 0 n
   first_none n miss = omega (arith, none_from n 0 (λ j a b. miss j (omega arith)))
 
+-- the first number that passes, or none does
+pub first_cases : (P : ℕ → Bool) (q k : ℕ) → ((first_from P q k < q + k) × (P (first_from P q k) ≡ true)) ⊎ ((first_from P q k ≡ q + k) × ((p : ℕ) → q ≤ p → p < q + k → P p ≡ false))
+unfolding first_from
+first_cases P q zero = inr (omega arith, λ p h h'. absurd (omega arith))
+first_cases P q (suc k) = step (P q) refl (first_cases P (suc q) k)
+  where
+    rest : ℕ
+    rest = first_from P (suc q) k
+
+    later : P q ≡ false → ((p : ℕ) → suc q ≤ p → p < suc q + k → P p ≡ false) → (p : ℕ) → q ≤ p → p < q + suc k → Dec (p ≡ q) → P p ≡ false
+    later e f p h h' (yes i) = ap P i ∙ e
+    later e f p h h' (no i) = f p (omega arith) (omega arith)
+
+    step : (b : Bool) → P q ≡ b → ((rest < suc q + k) × (P rest ≡ true)) ⊎ ((rest ≡ suc q + k) × ((p : ℕ) → suc q ≤ p → p < suc q + k → P p ≡ false))
+        → ((cond b q rest < q + suc k) × (P (cond b q rest) ≡ true)) ⊎ ((cond b q rest ≡ q + suc k) × ((p : ℕ) → q ≤ p → p < q + suc k → P p ≡ false))
+    step true e x = inl (omega arith, e)
+    step false e (inl x) = inl (omega (arith, x.0), x.1)
+    step false e (inr x) = inr (omega (arith, x.0), λ p h h'. later e x.1 p h h' (ℕ_discrete p q))
+
+-- the first as an option
+module _ (P : ℕ → Bool) (m : ℕ) where
+  pub found_here : (r : ℕ) → r < m → ((j : ℕ) → j < r → P j ≡ false) → P r ≡ true → Some r ≡ found m (first_from P 0 m)
+  unfolding found
+  found_here r l miss hit = rw (← first_found P m r l miss hit) (rw (lt-ltb r m l))
+
+  pub found_nowhere : ((j : ℕ) → j < m → P j ≡ false) → None ≡ found m (first_from P 0 m)
+  unfolding found
+  found_nowhere miss = rw (← first_none P m miss) (rw (le-ltb m m (omega arith)))
+
+  -- what a caller learns
+  pub found_tells : {r : Option ℕ} → r ≡ found m (first_from P 0 m) → MatchOption r ((p : ℕ) → p < m → P p ≡ false) (λ q. (q < m) × (P q ≡ true))
+  unfolding found
+  found_tells e = rw e (step (first_cases P 0 m))
+    where
+      f : ℕ
+      f = first_from P 0 m
+
+      step : ((f < 0 + m) × (P f ≡ true)) ⊎ ((f ≡ 0 + m) × ((p : ℕ) → 0 ≤ p → p < 0 + m → P p ≡ false)) → MatchOption (cond (ltb f m) (Some f) None) ((p : ℕ) → p < m → P p ≡ false) (λ q. (q < m) × (P q ≡ true))
+      step (inl x) = rw (lt-ltb f m (omega (arith, x.0))) (omega (arith, x.0), x.1)
+      step (inr x) = rw (le-ltb f m (omega (arith, x.0))) (λ p l. x.1 p (omega arith) (omega arith))
+
+  pub found_none : {r : Option ℕ} {none : Bool} → r ≡ found m (first_from P 0 m) → is_some r ≡ not none → none ≡ eqb (first_from P 0 m) m
+  unfolding found
+  found_none {none = none} e h = step none (first_cases P 0 m) (ap is_some (sym e) ∙ h)
+    where
+      f : ℕ
+      f = first_from P 0 m
+
+      step : (b : Bool) → ((f < 0 + m) × (P f ≡ true)) ⊎ ((f ≡ 0 + m) × ((p : ℕ) → 0 ≤ p → p < 0 + m → P p ≡ false)) → is_some (cond (ltb f m) (Some f) None) ≡ not b → b ≡ eqb f m
+      step true (inl x) k = let h : true ≡ false = rw (lt-ltb f m (omega (arith, x.0))) at k in differ refl h
+      step false (inl x) k = sym (ne_eqb f m (λ e. omega (arith, x.0)))
+      step true (inr x) k = sym (eq-eqb f m (omega (arith, x.0)))
+      step false (inr x) k = let h : false ≡ true = rw (le-ltb f m (omega (arith, x.0))) at k in differ h refl
+
 pub first_cong : (P Q : ℕ → Bool) (k q : ℕ) → ((j : ℕ) → j < q + k → P j ≡ Q j) → first_from P q k ≡ first_from Q q k
 unfolding first_from
 first_cong P Q zero q h = refl
@@ -65,9 +120,6 @@ module _ (P : ℕ → Bool) where
   pub skip_none : (from m : ℕ) → from ≤ m → Skipped P from m from
   skip_none from m l = (omega arith, l, pass_none from)
 
-  pub skip_block : (from m q r : ℕ) → Skipped P from m q → q ≤ r → r ≤ m → Passed P q r → Skipped P from m r
-  skip_block from m q r s a b h = (omega arith, b, pass_on from q r s.2 h)
-
   pub skip_one : (from m q : ℕ) → Skipped P from m q → q < m → P q ≡ false → Skipped P from m (q + 1)
   skip_one from m q s l e = (omega arith, omega arith, pass_one from q s.2 e)
 
@@ -77,14 +129,6 @@ module _ (P : ℕ → Bool) where
 
   pub skip_all : (from m r : ℕ) → Skipped P from m r → m ≤ r → r ≡ first_from P from (m - from)
   skip_all from m r s l = omega (arith, none_from P (m - from) from (λ j a b. s.2 j a (omega arith)))
-
-pub block_more : (keys : List ℕ) (u from q : ℕ) (agree a b : Bool) → (agree ≡ false → Passed (keys_agree keys u) from q) → a ≡ key_agrees keys 0 u q → b ≡ key_agrees keys 1 u q
-    → ((agree || a) || b) ≡ false → Passed (keys_agree keys u) from (q + 1)
-unfolding keys_agree
-block_more keys u from q agree a b h e f no_hit =
-    let before = or_none (agree || a) b no_hit in
-    let first = or_none agree a before.0 in
-    pass_one (keys_agree keys u) from q (h first.0) (rw (sym e ∙ first.1, sym f ∙ before.1))
 
 -- words compared one by one
 module _ (c : Bool) (u q : ℕ) (row other : List ℕ) where
@@ -114,6 +158,9 @@ module _ (c : Bool) (u q : ℕ) (row other : List ℕ) where
 
   pub meets_differ : (i own : ℕ) → i < 8 → own ≡ own_bits c u q i → (bit_xor (get_or row i 0) (get_or other i 0) ≡ own → ⊥) → meets c u q row other 8 ≡ false
   meets_differ i own l e d = meets-not 8 i l (λ h. d (h ∙ sym e))
+
+pub meets_each_is : (c : Bool) (u q : ℕ) (row other : List ℕ) (k : ℕ) {b : Bool} → IsTrue b ↔ ((i : ℕ) → i < k → bit_xor (get_or row i 0) (get_or other i 0) ≡ own_bits c u q i) → b ≡ meets c u q row other k
+meets_each_is c u q row other k {b} h = iff_eq _ _ (λ t. meets-all c u q row other k (h.0 t)) (λ t. h.1 (meets_each c u q row other k t))
 
 pub row_word_lem : (edges : List ℕ) (p k : ℕ) → k < 8 → get_or (row_in edges p) k 0 ≡ get_or edges (8 * p + k) 0
 row_word_lem edges p k l = get_or-take 8 (drop (8 * p) edges) k 0 l ∙ get_or-drop (8 * p) edges k 0
@@ -195,12 +242,12 @@ module _ (n : ℕ) (edges table keys : List ℕ) (ready : Ready n edges keys) (u
           and_true (and_true f.0 (and_true a (and_true (and_fst (not (eqb q w)) (own && similar v u q) b) (and_fst own (similar v u q) d)))) f.1
 
 -- so the search among tried groups finds the group to join
-pub search_joins : (n : ℕ) (edges table keys : List ℕ) (u w m r : ℕ) → Ready n edges keys → u < n → m ≤ n
-    → r ≡ first_from (tried edges table keys u w (take (8 * u + 8 - 8 * u) (drop (8 * u) edges))) 0 m → r ≡ first_from (joins n edges table u w) 0 m
-search_joins n edges table keys u w m r ready hu hm e =
+pub search_joins : (n : ℕ) (edges table keys : List ℕ) (u w m : ℕ) {r : Option ℕ} → Ready n edges keys → u < n → m ≤ n
+    → r ≡ found m (first_from (tried edges table keys u w (take (8 * u + 8 - 8 * u) (drop (8 * u) edges))) 0 m) → r ≡ found m (first_from (joins n edges table u w) 0 m)
+search_joins n edges table keys u w m ready hu hm e =
     e
-    ∙ ap (λ (row : List ℕ). first_from (tried edges table keys u w row) 0 m) (row_part_lem edges u)
-    ∙ first_cong (tried edges table keys u w (row_in edges u)) (joins n edges table u w) m 0 (λ q l. tried-joins n edges table keys ready u w q hu (omega arith))
+    ∙ ap (λ (row : List ℕ). found m (first_from (tried edges table keys u w row) 0 m)) (row_part_lem edges u)
+    ∙ ap (found m) (first_cong (tried edges table keys u w (row_in edges u)) (joins n edges table u w) m 0 (λ q l. tried-joins n edges table keys ready u w q hu (omega arith)))
 
 -- the lengths of tables that are ready
 pub ready_edges : (n : ℕ) (edges keys : List ℕ) → Ready n edges keys → length edges ≡ 8 * n
@@ -246,70 +293,19 @@ ready g h = record {
   keys_of_lem = keys_unhidden g ∙ ap (λ (f : ℕ → ℕ → Bool). keys_of (unhidden g.node_count f)) (sym (edges_in_lem g h));
 }
 
--- the steps of the code
-module _ (keys : List ℕ) (u q : ℕ) where
-  pub keys_first : (r : Bool) → r ≡ key_agrees keys 0 u q → r ≡ true → true ≡ keys_agree keys u q
-  unfolding keys_agree
-  keys_first r e t = sym (or_left (key_agrees keys 1 u q) (sym e ∙ t))
-
-  pub keys_second : (r s : Bool) → r ≡ key_agrees keys 0 u q → r ≡ false → s ≡ key_agrees keys 1 u q → s ≡ keys_agree keys u q
-  unfolding keys_agree
-  keys_second r s e t f = rw (sym e ∙ t) f
-
-least-number : (table : List ℕ) (q : ℕ) → node_number table q 0 ≡ get_or table (5 * q) 0
-unfolding node_number
-least-number table q = let e : 5 * q + 0 ≡ 5 * q = omega arith in rw e
-
-module _ (table keys : List ℕ) (u w q : ℕ) where
-  pub may_no_key : (r : Bool) → r ≡ keys_agree keys u q → not r ≡ true → false ≡ may_join table keys u w q
-  unfolding may_join
-  may_no_key r e t = rw (sym e ∙ not-true r t)
-
-  pub may_not_self : q ≡ u → false ≡ may_join table keys u w q
-  unfolding may_join
-  may_not_self e = rw (eq-eqb q u e) (sym (and-false (keys_agree keys u q)))
-
-  pub may_not_other : q ≡ w → false ≡ may_join table keys u w q
-  unfolding may_join
-  may_not_other e = rw (eq-eqb q w e, and-false (not (eqb q u))) (sym (and-false (keys_agree keys u q)))
-
-  pub may_not_class : (r : Bool) → r ≡ same_class table u q → not r ≡ true → false ≡ may_join table keys u w q
-  unfolding may_join
-  may_not_class r e t = rw (sym e ∙ not-true r t, and-false (not (eqb q w)), and-false (not (eqb q u))) (sym (and-false (keys_agree keys u q)))
-
-  pub may_least : (r s : Bool) (x : ℕ) → r ≡ keys_agree keys u q → not r ≡ false → (q ≡ u → ⊥) → (q ≡ w → ⊥) → s ≡ same_class table u q → not s ≡ false → x ≡ get_or table (5 * q) 0 → eqb x q ≡ may_join table keys u w q
-  unfolding may_join
-  may_least r s x e t a b f i g = rw (sym e ∙ not-false r t, ne_eqb q u a, ne_eqb q w b, sym f ∙ not-false s i, g, least-number table q)
-
-pub own_here : (q i w m : ℕ) → w ≡ q / 64 → w ≡ i → m ≡ 2 ^ (q % 64) → m ≡ own_bit q i
-unfolding own_bit
-own_here q i w m e f g = rw (eq-eqb (q / 64) i (sym e ∙ f)) g
-
-pub own_elsewhere : (q i w : ℕ) → w ≡ q / 64 → (w ≡ i → ⊥) → 0 ≡ own_bit q i
-unfolding own_bit
-own_elsewhere q i w e f = rw (ne_eqb (q / 64) i (λ h. f (e ∙ h)))
-
-pub own_closed : (c : Bool) (u q i a b : ℕ) → c ≡ true → a ≡ own_bit u i → b ≡ own_bit q i → bit_xor a b ≡ own_bits c u q i
-unfolding own_bits
-own_closed c u q i a b t e f = rw (t, e, f)
-
-pub own_open : (c : Bool) (u q i : ℕ) → c ≡ false → 0 ≡ own_bits c u q i
-unfolding own_bits
-own_open c u q i t = rw t
-
 pub tried-not : (edges table keys : List ℕ) (u w : ℕ) (row : List ℕ) (q : ℕ) (r : Bool) → r ≡ may_join table keys u w q → r ≡ false → tried edges table keys u w row q ≡ false
 unfolding tried
 tried-not edges table keys u w row q r e t = rw (sym e ∙ t)
 
 -- up to the next node whose keys agree, nobody is a twin
-pub tried_skipped : (edges table keys : List ℕ) (u w : ℕ) (row : List ℕ) (from m q : ℕ) → ((k : ℕ) → k < from → tried edges table keys u w row k ≡ false) → Skipped (keys_agree keys u) from m q
+pub tried_skipped : (edges table keys : List ℕ) (u w : ℕ) (row : List ℕ) (from q : ℕ) → ((k : ℕ) → k < from → tried edges table keys u w row k ≡ false) → Passed (keys_agree keys u) from q
     → (k : ℕ) → k < q → tried edges table keys u w row k ≡ false
 unfolding tried may_join
-tried_skipped edges table keys u w row from m q h s k l = step (decide (ltb k from))
+tried_skipped edges table keys u w row from q h s k l = step (decide (ltb k from))
   where
     step : (ltb k from ≡ true) ⊎ (ltb k from ≡ false) → tried edges table keys u w row k ≡ false
     step (inl e) = h k (ltb-true k from e)
-    step (inr e) = rw (s.2 k (ltb-false k from e) l)
+    step (inr e) = rw (s k (ltb-false k from e) l)
 
 -- at the group whose row was lent as a part
 module _ (edges table keys : List ℕ) (u w : ℕ) (row : List ℕ) (q : ℕ) (agrees : Bool) (agrees-is : agrees ≡ key_agrees keys 0 u q) where

@@ -3,11 +3,17 @@
 
 ghost use Rattle.std.specs.Prelude.{◌≡◌, false, ◌+◌, ◌*◌, ◌≤◌, ◌<◌, length};
 ghost use Rattle.model.specs.Graph.{max_nodes, row_words, node_numbers};
-ghost use Rattle.search.specs.Search.{Passed, Ready, Skipped, block, first_from, joins, key_agrees, keys_agree, may_join, meets, own_bit, own_bits, same_class, tried};
+ghost use Rattle.search.specs.Search.{NextFrom, Passed, Ready, Skipped, block, first_from, found, joins, key_agrees, keys_agree, may_join, meets, own_bit, own_bits, same_class, tried};
 
 use rows::Graph;
 
-// Whether key k of u and of q agree: 0 the open one, 1 the closed one.
+// The keys of a node.
+const OPEN: usize = 0;
+
+const CLOSED: usize = 1;
+
+// Whether key k of u and of q agree.
+#[tactic(auto, unfolding(crate::specs::Search::key_agrees))]
 fn key_agrees(keys: &[u32], k: usize, u: usize, q: usize) -> bool
     requires { (k < 2) × (u < max_nodes) × (q < max_nodes) × (2 * u + 2 ≤ length keys.now) × (2 * q + 2 ≤ length keys.now) }
     ensures { result ≡ key_agrees keys.now k u q }
@@ -16,17 +22,19 @@ fn key_agrees(keys: &[u32], k: usize, u: usize, q: usize) -> bool
 }
 
 // Whether the open or the closed keys of u and q agree.
+#[tactic(auto, unfolding(crate::specs::Search::keys_agree))]
 fn keys_agree(keys: &[u32], u: usize, q: usize) -> bool
     requires { (u < max_nodes) × (q < max_nodes) × (2 * u + 2 ≤ length keys.now) × (2 * q + 2 ≤ length keys.now) }
     ensures { result ≡ keys_agree keys.now u q }
 {
-    if key_agrees(keys, 0, u, q) {
+    if key_agrees(keys, OPEN, u, q) {
         return true;
     }
-    key_agrees(keys, 1, u, q)
+    key_agrees(keys, CLOSED, u, q)
 }
 
 // Whether u and q are of one class.
+#[tactic(auto, unfolding(crate::specs::Search::same_class, model::specs::Tables::node_number))]
 pub fn same_class(nodes: &[u16], u: usize, q: usize) -> bool
     requires { (u < max_nodes) × (q < max_nodes) × (node_numbers * u + node_numbers ≤ length nodes.now) × (node_numbers * q + node_numbers ≤ length nodes.now) }
     ensures { result ≡ same_class nodes.now u q }
@@ -35,6 +43,7 @@ pub fn same_class(nodes: &[u16], u: usize, q: usize) -> bool
 }
 
 // Whether q, neither u nor w, is the least of a group that u may join by the keys and the class.
+#[tactic(auto, unfolding(crate::specs::Search::may_join, model::specs::Tables::node_number))]
 fn may_join(nodes: &[u16], keys: &[u32], u: usize, w: usize, q: usize) -> bool
     requires { (u < max_nodes) × (q < max_nodes) × (node_numbers * u + node_numbers ≤ length nodes.now) × (node_numbers * q + node_numbers ≤ length nodes.now) × (2 * u + 2 ≤ length keys.now) × (2 * q + 2 ≤ length keys.now) }
     ensures { result ≡ may_join nodes.now keys.now u w q }
@@ -55,6 +64,7 @@ fn may_join(nodes: &[u16], keys: &[u32], u: usize, w: usize, q: usize) -> bool
 }
 
 // Node q's own bit in word i of a row.
+#[tactic(auto, unfolding(crate::specs::Search::own_bit))]
 pub fn own_bit(q: usize, i: usize) -> u64
     ensures { result ≡ own_bit q i }
 {
@@ -65,6 +75,7 @@ pub fn own_bit(q: usize, i: usize) -> u64
 }
 
 // Where word i of the rows of u and q has to differ: nowhere for open rows, in their own bits for closed ones.
+#[tactic(auto, unfolding(crate::specs::Search::own_bits))]
 pub fn own_bits(closed: bool, u: usize, q: usize, i: usize) -> u64
     ensures { result ≡ own_bits closed u q i }
 {
@@ -79,27 +90,24 @@ pub fn same_row(row: &[u64], other: &[u64], closed: bool, u: usize, q: usize) ->
     requires { (length row.now ≡ row_words) × (length other.now ≡ row_words) }
     ensures { result ≡ meets closed u q row.now other.now row_words }
 {
-    let mut i = 0;
-    while i < Graph::ROW_WORDS {
-        if row[i] ^ other[i] != own_bits(closed, u, q, i) {
-            return false;
-        }
-        i += 1;
-    }
-    true
+    row.iter()
+        .zip(other)
+        .enumerate()
+        .all(|(i, (x, y))| *x ^ *y == own_bits(closed, u, q, i))
 }
 
 // How many nodes are passed over at once.
 const BLOCK: usize = 16;
 
 // Whether keys in the block from `from` on agree with u's. The loop is not left early, so that it compares many at a time.
+#[tactic(auto, unfolding(crate::specs::Search::keys_agree))]
 fn block_agrees(keys: &[u32], u: usize, from: usize) -> bool
     requires { (u < max_nodes) × (from + block ≤ max_nodes) × (2 * u + 2 ≤ length keys.now) × (2 * (from + block) ≤ length keys.now) }
     ensures { result ≡ false → Passed (keys_agree keys.now u) from (from + block) }
 {
     let mut agree = false;
     for q in from..from + BLOCK {
-        agree = agree | key_agrees(keys, 0, u, q) | key_agrees(keys, 1, u, q);
+        agree = agree | key_agrees(keys, OPEN, u, q) | key_agrees(keys, CLOSED, u, q);
     }
     agree
 }
@@ -109,6 +117,7 @@ fn skip_blocks(keys: &[u32], m: usize, u: usize, from: usize) -> usize
     requires { (m ≤ max_nodes) × (u < max_nodes) × (from ≤ m) × (2 * m ≤ length keys.now) × (2 * u + 2 ≤ length keys.now) }
     ensures { Skipped (keys_agree keys.now u) from m result }
 {
+    // By hand: with `step_by` a search takes a tenth more time.
     let mut q = from;
     while q + BLOCK <= m {
         if block_agrees(keys, u, q) {
@@ -119,22 +128,20 @@ fn skip_blocks(keys: &[u32], m: usize, u: usize, from: usize) -> usize
     q
 }
 
-// The next node from `from` on whose keys agree with u's; m if there is none.
-fn next_agreeing(keys: &[u32], m: usize, u: usize, from: usize) -> usize
+// The next node from `from` on, below m, whose keys agree with u's.
+fn next_agreeing(keys: &[u32], m: usize, u: usize, from: usize) -> Option<usize>
     requires { (m ≤ max_nodes) × (u < max_nodes) × (from ≤ m) × (2 * m ≤ length keys.now) × (2 * u + 2 ≤ length keys.now) }
-    ensures { Skipped (keys_agree keys.now u) from m result }
+    ensures { NextFrom (keys_agree keys.now u) from m result }
 {
-    let mut q = skip_blocks(keys, m, u, from);
-    while q < m {
+    for q in skip_blocks(keys, m, u, from)..m {
         if keys_agree(keys, u, q) {
-            return q;
+            return Some(q);
         }
-        q += 1;
     }
-    q
+    None
 }
 
-// The least q below m that may join and whose row agrees with u's, as an open or as a closed one; m if there is none.
+// The least q below m that may join and whose row agrees with u's, as an open or as a closed one.
 fn find_twin(
     edges: &[u64],
     nodes: &[u16],
@@ -143,35 +150,29 @@ fn find_twin(
     u: usize,
     w: usize,
     row: &[u64],
-) -> usize
+) -> Option<usize>
     requires { (m ≤ max_nodes) × (u < max_nodes) × (row_words * m ≤ length edges.now) × (node_numbers * m ≤ length nodes.now) × (node_numbers * u + node_numbers ≤ length nodes.now) × (2 * m ≤ length keys.now) × (2 * u + 2 ≤ length keys.now) × (length row.now ≡ row_words) }
-    ensures { result ≡ first_from (tried edges.now nodes.now keys.now u w row.now) 0 m }
+    ensures { result ≡ found m (first_from (tried edges.now nodes.now keys.now u w row.now) 0 m) }
 {
     let mut from = 0;
-    'groups: while from < m {
-        let q = next_agreeing(keys, m, u, from);
-        if q == m {
-            return m;
-        }
+    'groups: while let Some(q) = next_agreeing(keys, m, u, from) {
         from = q + 1;
         if may_join(nodes, keys, u, w, q) {
-            let closed = !key_agrees(keys, 0, u, q);
+            let closed = !key_agrees(keys, OPEN, u, q);
             let a = Graph::ROW_WORDS * q;
             let other = &edges[a..a + Graph::ROW_WORDS];
-            let mut i = 0;
-            while i < Graph::ROW_WORDS {
+            for i in 0..Graph::ROW_WORDS {
                 if row[i] ^ other[i] != own_bits(closed, u, q, i) {
                     continue 'groups;
                 }
-                i += 1;
             }
-            return q;
+            return Some(q);
         }
     }
-    m
+    None
 }
 
-// The least member, below m, of the group that u joins, w left out; m if there is none.
+// The least member, below m, of the group that u joins, w left out.
 pub fn find_group(
     edges: &[u64],
     nodes: &[u16],
@@ -180,10 +181,10 @@ pub fn find_group(
     m: usize,
     u: usize,
     w: usize,
-) -> usize
+) -> Option<usize>
     requires ready { Ready n edges.now keys.now }
     requires nodes_len { (length nodes.now ≡ node_numbers * n) × (m ≤ n) × (u < n) × (w < n) }
-    ensures { result ≡ first_from (joins n edges.now nodes.now u w) 0 m }
+    ensures { result ≡ found m (first_from (joins n edges.now nodes.now u w) 0 m) }
 {
     let a = Graph::ROW_WORDS * u;
     find_twin(edges, nodes, keys, m, u, w, &edges[a..a + Graph::ROW_WORDS])

@@ -18,4 +18,4 @@ find_twin-requires c =
 
 pub returns : goal.returns
 returns c =
-    search_joins _ _ _ _ _ _ _ _ c.requires.ready c.requires.nodes_len.2 c.requires.nodes_len.1 c.find_twin.ensures
+    search_joins _ _ _ _ _ _ _ c.requires.ready c.requires.nodes_len.2 c.requires.nodes_len.1 c.find_twin.ensures

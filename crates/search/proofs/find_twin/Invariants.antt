@@ -1,17 +1,11 @@
 -- Outer invariant: no group before `from` is the one. Inner invariant: the words before i agree.
-use mathlib.Core.Path.{◌≡◌}
-use mathlib.Core.Bool.{false}
-use Prim.Native.Nat.{ℕ, ◌-◌, ◌≤◌, ◌<◌}
-use lib.Bits.{bit_xor}
-use lib.ListN.{get_or}
+use Rattle.std.proofs.Common.{◌≡◌, false, ℕ, ◌-◌, ◌≤◌, ◌<◌, get_or}
+use Rattle.std.specs.Int.Bits.{bit_xor}
 use Rattle.search.specs.Search.{own_bits, tried}
 use Rattle.search.proofs.find_twin.Given as goal
 
 abbrev pub invariant-loop-i : goal.invariant-loop-i
-invariant-loop-i l = (l.i ≤ 8) × ((k : ℕ) → k < l.i → bit_xor (get_or l.row k 0) (get_or l.other k 0) ≡ own_bits l.closed l.u l.q k)
-
-abbrev pub decreases-loop-i : goal.decreases-loop-i
-decreases-loop-i l = 8 - l.i
+invariant-loop-i l = (k : ℕ) → k < l.i → bit_xor (get_or l.row k 0) (get_or l.other k 0) ≡ own_bits l.closed l.u l.q k
 
 abbrev pub invariant-groups : goal.invariant-groups
 invariant-groups l = (l.from ≤ l.m) × ((k : ℕ) → k < l.from → tried l.edges l.nodes l.keys l.u l.w l.row k ≡ false)

@@ -1,19 +1,11 @@
--- `search::same_row` meets its contract.
--- The invariant: the words before i agree.
-use mathlib.Core.Path.{sym, ◌∙◌}
-use native.Mathlib.Omega.{arith}
-use borrow.Author.Count.{below_more, below_none}
-use Rattle.search.specs.SearchLaws.{meets-all, meets_differ}
+use Rattle.std.proofs.Common.{◌≡◌, ◌<◌, ℕ, rules, get_or}
+use Rattle.std.specs.Prelude.{IsTrue, ◌↔◌}
+use Rattle.std.specs.Int.Bits.{bit_xor}
+use Rattle.search.specs.Search.{own_bits}
+use Rattle.search.specs.SearchLaws.{meets_each_is}
 use Rattle.search.proofs.same_row.Goals as goal
 
-pub loop-i-init : goal.loop-i-init
-loop-i-init c = (omega arith, below_none _)
-
-pub returns-then-row-i : goal.returns-then-row-i
-returns-then-row-i c = sym (meets_differ _ _ _ _ _ _ _ (omega arith) c.own_bits.ensures c.if-row-i.true)
-
-pub loop-i-preserved : goal.loop-i-preserved
-loop-i-preserved c = (omega arith, below_more _ _ c.loop-i.invariant.1 (c.if-row-i.false ∙ c.own_bits.ensures))
-
 pub returns : goal.returns
-returns c = sym (meets-all _ _ _ _ _ _ (λ k l. c.loop-i.invariant.1 k (omega arith)))
+returns c =
+    let each : IsTrue c.all.result ↔ ((k : ℕ) → k < 8 → bit_xor (get_or c.args.row.now k 0) (get_or c.args.other.now k 0) ≡ own_bits c.args.closed c.args.u c.args.q k) = search rules in
+    meets_each_is _ _ _ _ _ 8 each
