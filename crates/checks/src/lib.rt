@@ -166,7 +166,7 @@ fn is_alone(
     if !(open | closed) {
         return true;
     }
-    search::find_group(edges, nodes, keys, n, u, u, u) == u
+    search::find_group(edges, nodes, keys, n, u, u, u).is_none()
 }
 
 // Whether no two leaders are similar.

@@ -1,7 +1,7 @@
 -- A member; a leader with keys of its own in its class; or what the search finds.
 use Rattle.std.proofs.Common.{sym, refl, ◌∙◌, arith}
 use Rattle.model.proofs.TestLaws.{or_none}
-use Rattle.search.specs.SearchLaws.{ready_keys}
+use Rattle.search.specs.SearchLaws.{found_none, ready_keys}
 use Rattle.checks.specs.SlotLaws.{alone_fresh, class_place, even_place, seen_leader, seen_member, seen_new}
 use Rattle.checks.specs.StepLaws.{alone_leader, alone-member}
 use Rattle.checks.proofs.is_alone.Goals as goal
@@ -39,4 +39,4 @@ pub returns : goal.returns
 returns c =
     let key = even_place c.args.keys.now c.args.u in
     let class = class_place c.args.nodes.now c.args.u in
-    (alone_leader _ _ _ _ c.number.ensures c.if-number-u.false c.find_group.ensures, seen_leader c.requires.nodes_len.2 key class c.take_slot-open.ensures, seen_leader c.requires.nodes_len.3 refl class c.take_slot-closed.ensures)
+    (found_none _ _ c.find_group.ensures c.is_none.ensures ∙ alone_leader _ _ _ _ c.number.ensures c.if-number-u.false refl, seen_leader c.requires.nodes_len.2 key class c.take_slot-open.ensures, seen_leader c.requires.nodes_len.3 refl class c.take_slot-closed.ensures)
