@@ -7,6 +7,7 @@ use borrow.Author.Tests.{eqb-true, eqb-false, eq-eqb, ne_eqb, not-true}
 use Rattle.model.specs.Tables.{node_number}
 use Rattle.model.proofs.TestLaws.{and_fst, and_snd, and_true, differ}
 use Rattle.search.specs.Search.{first_from, found, joins}
+pub use Rattle.search.specs.SearchLaws.{first_cases}
 use Rattle.search.specs.SearchLaws.{found_tells}
 use Rattle.std.specs.Int.{from_bool}
 use Rattle.rings.specs.Steps.{Fit, OthersLeft, left, stayed}
