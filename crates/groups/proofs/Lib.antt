@@ -1,1 +1,1 @@
-pub mod DiffLaws
+pub mod WalkLaws

@@ -1,5 +1,5 @@
 -- What the calls on the node table ask of the three tables.
-use Rattle.std.specs.Prelude.{◌≡◌, Bool, List, ℕ}
+use Rattle.std.specs.Prelude.{◌≡◌, Bool, List, ℕ, ◌≤◌, ◌<◌, Option, MatchOption}
 use Rattle.model.specs.Graph.{Proper, whole}
 use Rattle.model.specs.Grouping.{similar}
 use Rattle.model.specs.Tables.{Tables, classed_in, graph_of, node_number, tables_of}
@@ -18,3 +18,7 @@ pub record Asked (n : ℕ) (c : Update) (t : Tables) : Type 0 where
   pub proper : Proper (graph_of n t)
   pub same : t ≡ tables_of (graph_of n t)
   pub accepted : refusal (graph_of n t) c ≡ 0
+
+-- r is the next greater member of p's group, where p is followed by one
+abbrev pub NextGreater : List ℕ → ℕ → Option ℕ → Type 0
+NextGreater t p r = MatchOption r (node_number t p 1 ≤ p) (λ b. (b ≡ node_number t p 1) × (p < b))

@@ -1,7 +1,8 @@
 // The node table kept in place: for each node the least member of its group, the next greater member, the previous one, the mark, the class.
 #![tactic(auto)]
 
-ghost use Rattle.std.specs.Prelude.{◌≡◌, ◌≢◌, ◌+◌, ◌*◌, ◌≤◌, ◌<◌, min, max, length};
+ghost use Rattle.std.specs.Prelude.{◌≡◌, ◌≢◌, ◌+◌, ◌*◌, ◌≤◌, ◌<◌, length};
+ghost use Rattle.std.specs.Int.{from_bool};
 ghost use Rattle.std.proofs.Math.IntN.{sub_ℕ};
 ghost use Rattle.model.specs.Graph.{max_nodes, node_numbers};
 ghost use Rattle.model.specs.Tables.{graph_of, node_number, tables_of};
@@ -24,9 +25,8 @@ ghost use Rattle.rings.specs.Steps.{
   Sound,
   Stored,
   Taken,
-  rising,
 };
-ghost use Rattle.groups.specs.Groups.{Asked, change, similar_in};
+ghost use Rattle.groups.specs.Groups.{Asked, NextGreater, change, similar_in};
 
 use rows::Graph;
 
@@ -42,6 +42,7 @@ pub const MARK: usize = 3;
 pub const CLASS: usize = Graph::CLASS;
 
 // Number k of node p.
+#[tactic(auto, unfolding(model::specs::Tables::node_number))]
 pub fn number(nodes: &[u16], p: usize, k: usize) -> usize
     requires { node_numbers * p + k < length nodes.now }
     ensures { result ≡ node_number nodes.now p k }
@@ -65,13 +66,13 @@ fn link(nodes: &mut [u16], n: usize, a: usize, b: usize)
     store(nodes, b, PREVIOUS, a);
 }
 
-// The next greater member of p's group, n if there is none.
-fn next_greater(nodes: &[u16], n: usize, p: usize) -> usize
+// The next greater member of p's group.
+fn next_greater(nodes: &[u16], n: usize, p: usize) -> Option<usize>
     requires { (length nodes.now ≡ node_numbers * n) × (p < n) }
-    ensures { result ≡ rising n nodes.now p }
+    ensures { NextGreater nodes.now p result }
 {
     let b = number(nodes, p, NEXT);
-    if p < b { b } else { n }
+    if p < b { Some(b) } else { None }
 }
 
 // Who had x for its least member has y: x leads its group, which is walked upwards.
@@ -82,10 +83,10 @@ fn rename(nodes: &mut [u16], n: usize, x: usize, y: usize)
     if x == y {
         return;
     }
-    let mut p = x;
-    while p < n {
+    let mut member = Some(x);
+    while let Some(p) = member {
         store(nodes, p, LEAST, y);
-        p = next_greater(nodes, n, p);
+        member = next_greater(nodes, n, p);
     }
 }
 
@@ -102,18 +103,12 @@ fn last_before(nodes: &[u16], n: usize, u: usize, g: usize) -> usize
         return last;
     }
     let mut a = g;
-    let mut b = next_greater(nodes, n, g);
-    while b < u {
+    while let Some(b) = next_greater(nodes, n, a)
+        && b < u
+    {
         a = b;
-        b = next_greater(nodes, n, b);
     }
     a
-}
-
-fn others_left(b: usize, u: usize) -> usize
-    ensures { OthersLeft b u result }
-{
-    if b == u { 0 } else { 1 }
 }
 
 fn new_least(l: usize, u: usize, b: usize) -> usize
@@ -122,33 +117,20 @@ fn new_least(l: usize, u: usize, b: usize) -> usize
     if l == u { b } else { u }
 }
 
-// u leaves its group and is alone. 1 if it leaves others behind, else 0.
-pub fn take_out(nodes: &mut [u16], n: usize, u: usize) -> usize
+// u leaves its group and is alone. Whether it leaves others behind.
+pub fn take_out(nodes: &mut [u16], n: usize, u: usize) -> bool
     requires { Sound n nodes.old × (u < n) }
-    ensures { Taken n u nodes.old nodes.new × OthersLeft (node_number nodes.old u 1) u result }
+    ensures { Taken n u nodes.old nodes.new × OthersLeft (node_number nodes.old u 1) u (from_bool result) }
 {
     let a = number(nodes, u, PREVIOUS);
     let b = number(nodes, u, NEXT);
     let l = number(nodes, u, LEAST);
-    let left = others_left(b, u);
     let y = new_least(l, u, b);
     rename(nodes, n, u, y);
     link(nodes, n, a, b);
     link(nodes, n, u, u);
     store(nodes, u, LEAST, u);
-    left
-}
-
-fn lesser(x: usize, y: usize) -> usize
-    ensures { result ≡ min x y }
-{
-    if x < y { x } else { y }
-}
-
-fn greater(x: usize, y: usize) -> usize
-    ensures { result ≡ max x y }
-{
-    if x < y { y } else { x }
+    b != u
 }
 
 // u, which is alone, joins the group that g leads.
@@ -158,14 +140,14 @@ fn put_in(nodes: &mut [u16], n: usize, u: usize, g: usize)
 {
     let a = last_before(nodes, n, u, g);
     let b = number(nodes, a, NEXT);
-    let h = lesser(u, g);
+    let h = u.min(g);
     rename(nodes, n, g, h);
     store(nodes, u, LEAST, h);
     link(nodes, n, a, u);
     link(nodes, n, u, b);
 }
 
-// u, which is alone, joins its group, if one is led by a node other than w. 1 if it does, else 0.
+// u, which is alone, joins its group, if one is led by a node other than w. Whether it does.
 pub fn put_back(
     edges: &[u64],
     nodes: &mut [u16],
@@ -173,16 +155,15 @@ pub fn put_back(
     n: usize,
     u: usize,
     w: usize,
-) -> usize
+) -> bool
     requires { Sound n nodes.old × Ready n edges.now keys.now × (u < n) × (w < n) }
-    ensures { Back n u w result (similar_in n edges.now nodes.old u) nodes.old nodes.new }
+    ensures { Back n u w (from_bool result) (similar_in n edges.now nodes.old u) nodes.old nodes.new }
 {
-    let g = search::find_group(edges, nodes, keys, n, n, u, w);
-    if g < n {
-        put_in(nodes, n, u, g);
-        return 1;
-    }
-    0
+    let Some(g) = search::find_group(edges, nodes, keys, n, n, u, w) else {
+        return false;
+    };
+    put_in(nodes, n, u, g);
+    true
 }
 
 // p joins the group of its least member: it is the last of the ring, or leads one of its own.
@@ -232,16 +213,16 @@ pub fn update_edge(
     requires { Asked n (change 1 u v wanted) (lent edges.old nodes.old keys.old) }
     ensures { (lent edges.new nodes.new keys.new ≡ tables_of (updated (graph_of n (lent edges.old nodes.old keys.old)) (change 1 u v wanted))) × (result ≡ answer (graph_of n (lent edges.old nodes.old keys.old)) (change 1 u v wanted)) }
 {
-    let a = lesser(u, v);
-    let b = greater(u, v);
+    let a = u.min(v);
+    let b = u.max(v);
     let a_left = take_out(nodes, n, a);
     let b_left = take_out(nodes, n, b);
     rows::change_edge(edges, u, v);
     rows::change_keys(keys, u, v, wanted == 1);
     let a_joined = put_back(edges, nodes, keys, n, a, b);
     let b_joined = put_back(edges, nodes, keys, n, b, b);
-    let left = a_left + b_left;
-    let joined = a_joined + b_joined;
+    let left = usize::from(a_left) + usize::from(b_left);
+    let joined = usize::from(a_joined) + usize::from(b_joined);
     difference(left, joined)
 }
 
@@ -260,5 +241,5 @@ pub fn update_class(
     let others = take_out(nodes, n, u);
     store(nodes, u, CLASS, class);
     let joined = put_back(edges, nodes, keys, n, u, u);
-    difference(others, joined)
+    difference(usize::from(others), usize::from(joined))
 }

@@ -1,16 +1,8 @@
 -- A node that leads, and one that follows the last member so far.
-use native.Mathlib.Omega.{arith}
+use Rattle.std.proofs.Common.{arith}
 use Rattle.rings.specs.StoreLaws.{size}
 use Rattle.rings.specs.BuildLaws.{end_before, end_inside, leader_put, member_put}
 use Rattle.groups.proofs.append.Goals as goal
-
-pub bounds-least-p : goal.bounds-least-p
-bounds-least-p c = omega (arith, c.requires.2.size, c.requires.4)
-
-pub store-requires : goal.store-requires
-store-requires c =
-    let pre = c.requires in
-    (omega (arith, pre.1, pre.4), omega (arith, c.wide-l.ensures, pre.2.low c.args.p pre.4, pre.0, pre.4))
 
 pub returns-then-l-p : goal.returns-then-l-p
 returns-then-l-p c =

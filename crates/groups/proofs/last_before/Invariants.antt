@@ -1,10 +1,10 @@
--- `groups::last_before` meets its contract. The invariant: a is a member before u, and b the next greater one.
-use Prim.Native.Nat.{◌-◌}
-use Rattle.rings.specs.StoreLaws.{Passing}
+-- a is a member before u.
+use Rattle.std.proofs.Common.{◌≡◌, ◌-◌, ◌<◌}
+use Rattle.model.specs.Tables.{node_number}
 use Rattle.groups.proofs.last_before.Given as goal
 
 abbrev pub invariant-loop-b : goal.invariant-loop-b
-invariant-loop-b l = Passing l.n l.u l.g l.a l.b l.nodes
+invariant-loop-b l = (l.a < l.u) × (node_number l.nodes l.a 0 ≡ l.g)
 
 abbrev pub decreases-loop-b : goal.decreases-loop-b
-decreases-loop-b l = l.n - l.b
+decreases-loop-b l = l.u - l.a

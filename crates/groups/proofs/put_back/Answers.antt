@@ -1,19 +1,18 @@
--- `groups::put_back` meets its contract.
-use mathlib.Core.Path.{refl}
-use native.Mathlib.Omega.{arith}
+-- A group is found and joined, or there is none.
+use Rattle.std.proofs.Common.{Some, None, refl, sym, ◌∙◌}
 use Rattle.rings.specs.Steps.{alone, joined}
-use Rattle.rings.specs.UpdateLaws.{found_at, found_none}
-use Rattle.groups.specs.GroupLaws.{found}
+use Rattle.groups.specs.GroupLaws.{fits}
 use Rattle.groups.proofs.put_back.Goals as goal
+
+pub returns-in_default : goal.returns-in_default
+returns-in_default c = alone (fits _ _ _ _ _ None (sym c.in_default.is ∙ c.find_group.ensures)) refl refl
 
 pub put_in-requires : goal.put_in-requires
 put_in-requires c =
-    let f = found_at (found _ _ _ _ _ c.find_group-g.ensures) c.if-g-n.true in
-    (c.requires.0, c.requires.2, omega arith, f.not_u, f.leads)
-
-pub returns-then-g-n : goal.returns-then-g-n
-returns-then-g-n c =
-    joined _ c.if-g-n.true (found_at (found _ _ _ _ _ c.find_group-g.ensures) c.if-g-n.true) c.put_in.ensures refl
+    let f = fits _ _ _ _ _ (Some c.in-Some.g) (sym c.in-Some.is ∙ c.find_group.ensures) in
+    (c.requires.0, c.requires.2, f.0, f.1.not_u, f.1.leads)
 
 pub returns : goal.returns
-returns c = alone (found_none (found _ _ _ _ _ c.find_group-g.ensures) c.if-g-n.false) refl refl
+returns c =
+    let f = fits _ _ _ _ _ (Some c.in-Some.g) (sym c.in-Some.is ∙ c.find_group.ensures) in
+    joined _ f.0 f.1 c.put_in.ensures refl

@@ -1,11 +1,9 @@
--- `groups::rename` meets its contract. The invariant: the nodes below p are renamed, those from p on are as they were, and p is
--- a member of x's group, unless all are done.
-use Prim.Native.Nat.{◌-◌}
-use Rattle.rings.specs.StoreLaws.{Renaming}
+-- The members below p are renamed, those from p on are as they were; or all are done.
+use Rattle.groups.proofs.WalkLaws.{Walking, left}
 use Rattle.groups.proofs.rename.Given as goal
 
-abbrev pub invariant-loop-p : goal.invariant-loop-p
-invariant-loop-p l = Renaming l.n l.p l.x l.y l.initial.nodes l.nodes
+abbrev pub invariant-loop-member : goal.invariant-loop-member
+invariant-loop-member l = Walking l.n l.x l.y l.initial.nodes l.nodes l.member
 
-abbrev pub decreases-loop-p : goal.decreases-loop-p
-decreases-loop-p l = l.n - l.p
+abbrev pub decreases-loop-member : goal.decreases-loop-member
+decreases-loop-member l = left l.n l.member
