@@ -1,12 +1,9 @@
 -- No bit beyond the nodes, and even strips.
-use mathlib.Core.Path.{refl, sym}
-use Rattle.buffers.specs.AllLaws.{failed, passed}
+use mathlib.Core.Path.{refl}
+use Rattle.buffers.specs.AllLaws.{passed}
 use Rattle.symmetry.specs.SymmetryLaws.{symmetric_by}
 use Rattle.std.proofs.Common.{ap, not}
 use Rattle.symmetry.proofs.is_symmetric.Goals as goal
-
-pub returns-then-not-is_inside : goal.returns-then-not-is_inside
-returns-then-not-is_inside c = sym (c.is_inside.ensures.fails (failed refl (ap not c.if-not-is_inside.true)))
 
 pub returns : goal.returns
 returns c =
