@@ -241,13 +241,11 @@ fn is_inside(edges: Edges) -> bool
 }
 
 // Whether every bit has its mirror.
-pub fn is_symmetric(edges: &[u64], n: usize) -> bool
-    requires { (n ≤ max_nodes) × (length edges.now ≡ row_words * n) }
-    ensures { result ≡ symmetric edges.now }
+pub fn is_symmetric(edges: Edges) -> bool
+    ensures { result ≡ symmetric edges.entry.words.now }
 {
-    let table = Edges { n, words: edges };
-    if !is_inside(table) {
+    if !is_inside(edges) {
         return false;
     }
-    are_strips_even(table)
+    are_strips_even(edges)
 }

@@ -7,4 +7,4 @@ use Rattle.symmetry.proofs.is_symmetric.Goals as goal
 
 pub returns : goal.returns
 returns c =
-    symmetric_by _ _ c.requires.1 c.requires.0 (c.is_inside.ensures.holds (passed refl (ap not c.if-not-is_inside.false))) _ c.are_strips_even.ensures
+    symmetric_by _ _ c.args.edges.rows c.args.edges.small (c.is_inside.ensures.holds (passed refl (ap not c.if-not-is_inside.false))) _ c.are_strips_even.ensures
