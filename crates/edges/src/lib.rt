@@ -7,31 +7,31 @@ ghost use Rattle.symmetry.specs.Symmetry.{symmetric};
 ghost use Rattle.edges.specs.Edges.{edges_hold, loopless, mirrored, row_holds};
 
 use bits::Bits;
+use lent::Edges;
 use rows::Graph;
 
 // Whether q is another node, with p's bit in its row.
-pub fn is_mirrored(edges: &[u64], n: usize, p: usize, q: usize) -> bool
-    requires { (n ≤ max_nodes) × (length edges.now ≡ row_words * n) × (p < n) }
-    ensures { result ≡ mirrored n edges.now p q }
+pub fn is_mirrored(edges: Edges, p: usize, q: usize) -> bool
+    requires { p < edges.n }
+    ensures { result ≡ mirrored edges.entry.n edges.entry.words.now p q }
 {
-    if q >= n {
+    if q >= edges.n {
         return false;
     }
     if q == p {
         return false;
     }
-    rows::edge(edges, q, p)
+    edges.tied(q, p)
 }
 
 // Whether the bits of p's row are mirrored. The check of keys has a walk of its own, so that each is inlined in its one caller.
-fn is_row_mirrored(edges: &[u64], n: usize, p: usize) -> bool
-    requires { (n ≤ max_nodes) × (length edges.now ≡ row_words * n) × (p < n) }
-    ensures { result ≡ row_holds n edges.now p }
+fn is_row_mirrored(edges: Edges, p: usize) -> bool
+    requires { p < edges.n }
+    ensures { result ≡ row_holds edges.entry.n edges.entry.words.now p }
 {
-    let a = Graph::ROW_WORDS * p;
     for w in 0..Graph::ROW_WORDS {
-        for k in Bits::of(edges[a + w]) {
-            if !is_mirrored(edges, n, p, 64 * w + k) {
+        for k in Bits::of(edges.word(p, w)) {
+            if !is_mirrored(edges, p, 64 * w + k) {
                 return false;
             }
         }
@@ -40,12 +40,11 @@ fn is_row_mirrored(edges: &[u64], n: usize, p: usize) -> bool
 }
 
 // Whether the table is that of a graph, bit by bit.
-fn hold_by_walks(edges: &[u64], n: usize) -> bool
-    requires { (n ≤ max_nodes) × (length edges.now ≡ row_words * n) }
-    ensures { result ≡ edges_hold n edges.now }
+fn hold_by_walks(edges: Edges) -> bool
+    ensures { result ≡ edges_hold edges.entry.n edges.entry.words.now }
 {
-    for p in 0..n {
-        if !is_row_mirrored(edges, n, p) {
+    for p in 0..edges.n {
+        if !is_row_mirrored(edges, p) {
             return false;
         }
     }
@@ -53,26 +52,24 @@ fn hold_by_walks(edges: &[u64], n: usize) -> bool
 }
 
 // Whether no node has an edge to itself: the own bits, each moved to the lowest place, are united without a branch.
-fn is_loopless(edges: &[u64], n: usize) -> bool
-    requires { (n ≤ max_nodes) × (length edges.now ≡ row_words * n) }
-    ensures { result ≡ loopless n edges.now }
+fn is_loopless(edges: Edges) -> bool
+    ensures { result ≡ loopless edges.entry.n edges.entry.words.now }
 {
     let mut loops = 0u64;
-    for p in 0..n {
-        loops = loops | (edges[rows::place(p, p)] >> rows::bit_of(p));
+    for p in 0..edges.n {
+        loops |= edges.word(p, rows::word_of(p)) >> rows::bit_of(p);
     }
     loops & 1 == 0
 }
 
 // And by strips: whether the table is symmetric and without loops.
-pub fn hold_by_strips(edges: &[u64], n: usize) -> bool
-    requires { (n ≤ max_nodes) × (length edges.now ≡ row_words * n) }
-    ensures { result ≡ (symmetric edges.now && loopless n edges.now) }
+pub fn hold_by_strips(edges: Edges) -> bool
+    ensures { result ≡ (symmetric edges.entry.words.now && loopless edges.entry.n edges.entry.words.now) }
 {
-    if !symmetry::is_symmetric(edges, n) {
+    if !symmetry::is_symmetric(edges) {
         return false;
     }
-    is_loopless(edges, n)
+    is_loopless(edges)
 }
 
 // Whether the table is that of a graph of n nodes.
@@ -80,8 +77,9 @@ pub fn hold(edges: &[u64], n: usize) -> bool
     requires { (n ≤ max_nodes) × (length edges.now ≡ row_words * n) }
     ensures { result ≡ edges_hold n edges.now }
 {
+    let table = Edges { n, words: edges };
     if keys::is_dense(edges, n) {
-        return hold_by_strips(edges, n);
+        return hold_by_strips(table);
     }
-    hold_by_walks(edges, n)
+    hold_by_walks(table)
 }

@@ -4,6 +4,7 @@
 ghost use Rattle.std.specs.Prelude.{◌≡◌, ◌+◌, ◌*◌, ◌≤◌, ◌<◌, length, slice_index, slice_range};
 ghost use Rattle.model.specs.Graph.{max_nodes, row_words};
 ghost use Rattle.model.specs.Tables.{edge_bit};
+ghost use Rattle.rows.specs.Rows.{Words};
 
 use rows::Graph;
 
@@ -11,18 +12,12 @@ use rows::Graph;
 pub struct Edges<'a> {
     pub n: usize,
     pub words: &'a [u64],
-    ghost fits: { (n ≤ max_nodes) × (length words.now ≡ row_words * n) },
+    ghost small: { n ≤ max_nodes },
+    ghost rows: { length words.now ≡ row_words * n },
+    ghost bits: { Words words.now },
 }
 
 impl<'a> Edges<'a> {
-    #[inline]
-    pub fn of(words: &'a [u64], n: usize) -> Self
-        requires { (n ≤ max_nodes) × (length words.now ≡ row_words * n) }
-        ensures { (result.n ≡ n) × (result.words.now ≡ words.now) }
-    {
-        Self { n, words }
-    }
-
     // Word w of p's row.
     #[inline]
     pub fn word(self, p: usize, w: usize) -> u64

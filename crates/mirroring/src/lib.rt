@@ -10,8 +10,8 @@ use rows::Graph;
 use symmetry::STRIP;
 
 // Word j of a transposed strip put into word i of the 64 rows from row 64 * j on.
-fn lay(table: &mut [u64], i: usize, j: usize, strip: &[u64])
-    requires { (row_words * (64 * j + 64) ≤ length table.old) × (i < 8) × (j < 8) × (length strip.now ≡ 512) }
+fn lay(table: &mut [u64], i: usize, j: usize, strip: &[u64; STRIP])
+    requires { (row_words * (64 * j + 64) ≤ length table.old) × (i < 8) × (j < 8) }
     ensures { Added (columns_to i j strip.now 64) table.old table.new }
 {
     for k in 0..64 {
@@ -20,8 +20,8 @@ fn lay(table: &mut [u64], i: usize, j: usize, strip: &[u64])
 }
 
 // The bits of strip i up to the diagonal, set across it; b is room to work in.
-fn mirror_strip(table: &mut [u64], i: usize, b: &mut [u64])
-    requires { StripsFor (64 * i + 64) (length table.old) × (i < 8) × (length b.old ≡ 512) }
+fn mirror_strip(table: &mut [u64], i: usize, b: &mut [u64; STRIP])
+    requires { StripsFor (64 * i + 64) (length table.old) × (i < 8) }
     ensures { MirroredAt (InRow i (i + 1)) table.old table.new }
 {
     let a = STRIP * i;

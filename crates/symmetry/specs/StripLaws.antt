@@ -1,39 +1,26 @@
 -- Laws of strips of 64 rows: eight rows at a time, and transposed in two passes.
-use Rattle.std.specs.Prelude.{◌≡◌, refl, true, false, List, ◌⊎◌, ℕ, ◌+◌, ◌*◌, ◌-◌, ◌/◌, ◌%◌, ◌^◌, ◌≤◌, ◌<◌, eqb, ltb, length, get_or, set, drop, replicate, take}
-use Rattle.std.proofs.Common.{sym, ap, ap₂, ◌∙◌, subst, inl, inr, mul-le-mul_left, arith, length-drop, length-set, length-take, get_or-drop, get_or-set_other, get_or-set_same, get_or-take, below_more, eqb-true, ltb-true, ltb-false}
+use Rattle.std.specs.Prelude.{◌≡◌, refl, true, false, List, ◌⊎◌, ℕ, ◌+◌, ◌*◌, ◌-◌, ◌/◌, ◌%◌, ◌^◌, ◌≤◌, ◌<◌, eqb, ltb, length, get_or, set, drop, replicate, take, ◌++◌}
+use Rattle.std.proofs.Common.{sym, ap, ap₂, ◌∙◌, subst, inl, inr, mul-le-mul_left, arith, length-append, length-drop, length-set, length-take, get_or-drop, get_or-set_other, get_or-set_same, get_or-take, below_more, eqb-true, ltb-true, ltb-false}
 use Rattle.std.proofs.Math.Decide.{ℕ_discrete}
 use Rattle.std.proofs.lemmas.Nat.{and_le_l, and_le_r}
 use Rattle.std.specs.Int.Bits.{bit_xor, xor_add_and, xor_self}
 use Rattle.std.proofs.Math.ListN.{get_or-eq_default}
 use Rattle.std.proofs.lemmas.Bool.{eqb-false}
+use Rattle.std.proofs.lemmas.List.{get_or-append_right, get_or_append_left}
 use Rattle.model.specs.Graph.{row_words}
 use Rattle.model.specs.Tables.{bit_at, edge_bit}
 use Rattle.model.proofs.TestLaws.{decide}
 use Rattle.buffers.specs.FilledLaws.{get_d_zeros}
-use Rattle.buffers.specs.StoreLaws.{stored}
 use Rattle.rows.specs.BitLaws.{word-bit}
 use Rattle.search.specs.TwinRowLaws.{words_eq}
-use Rattle.symmetry.specs.Symmetry.{Across, EightPut, Even, Exchanged, Gathered, Loading, Exchanging, StripAt, EightTaken, Tells, Turned, with_digits, symmetric}
+use Rattle.symmetry.specs.Symmetry.{Across, EightPut, Even, Exchanged, Gathered, Exchanging, StripAt, Tells, Turned, with_digits, symmetric}
 use Rattle.symmetry.specs.SymmetryLaws.{not-symmetric, symmetric-all}
 
 -- eight words, so many words apart
 pub within_eight : (step d : ℕ) → d < 8 → step * d ≤ step * 7
 within_eight step d l = let u : d ≤ 7 = omega arith in mul-le-mul_left step u
 
--- taken
-pub eight_none : (a : List ℕ) (at step : ℕ) (x : List ℕ) → length x ≡ 8 → EightTaken a at step 0 x
-eight_none a at step x e = record { size = e; words = λ d l. absurd (omega arith) }
-
-pub eight_more : {a : List ℕ} {at step m : ℕ} {x : List ℕ} (y : ℕ) → EightTaken a at step m x → m < 8 → y ≡ get_or a (at + step * m) 0 → EightTaken a at step (m + 1) (set x m y)
-eight_more {a} {at} {step} {m} {x} y h l e = record {
-  size = length-set x m y ∙ h.size;
-  words = stored x m y (omega (arith, h.size)) (λ d z. z ≡ get_or a (at + step * d) 0) h.words e;
-}
-
-pub eight_all : {a : List ℕ} {at step m : ℕ} {x : List ℕ} → EightTaken a at step m x → m ≡ 8 → EightTaken a at step 8 x
-eight_all {a} {at} {step} {m} {x} h e = subst (λ i. EightTaken a at step i x) e h
-
--- and put
+-- put
 pub put_none : (at step : ℕ) (x b : List ℕ) → EightPut at step 0 x b b
 put_none at step x b = record { size = refl; put = λ d l. absurd (omega arith); others = λ q h. refl }
 
@@ -157,22 +144,28 @@ strip_part edges i fits =
       words = λ k l. get_or-take 512 (drop (512 * i) edges) k 0 l ∙ get_or-drop (512 * i) edges k 0;
     }
 
-pub loading_none : (edges : List ℕ) (at : ℕ) {strip : List ℕ} → strip ≡ replicate 512 0 → Loading edges at 0 strip
-loading_none edges at e = record { size = ap length e; words = λ k l. absurd (omega arith); zeros = λ k l. ap (λ (s : List ℕ). get_or s k 0) e ∙ get_d_zeros 512 k }
-
-pub loading_more : {edges : List ℕ} {at m : ℕ} {strip : List ℕ} (x : ℕ) → Loading edges at m strip → m < 512 → x ≡ get_or edges (at + m) 0 → Loading edges at (m + 1) (set strip m x)
-loading_more {edges} {at} {m} {strip} x h l e = record {
-  size = length-set strip m x ∙ h.size;
-  words = stored strip m x (omega (arith, h.size)) (λ k y. y ≡ get_or edges (at + k) 0) h.words e;
-  zeros = λ k u. get_or-set_other strip m k x 0 (omega arith) ∙ h.zeros k (omega arith);
-}
-
-pub strip_loaded : {edges : List ℕ} {at m : ℕ} {strip : List ℕ} → Loading edges at m strip → length edges ≤ at + m → StripAt edges at strip
-strip_loaded {edges} {at} {m} {strip} h l = record { size = h.size; words = λ k hk. step k (decide (ltb k m)) }
+-- the end of a table, copied over the first of 512 zeros
+pub strip_copied : {edges x z : List ℕ} {at m : ℕ} → x ≡ take (length edges - at) (drop at edges) → z ≡ replicate 512 0 → m ≡ length edges - at → at ≤ length edges → length edges ≤ at + 512 → StripAt edges at (x ++ drop m z)
+strip_copied {edges} {x} {z} {at} {m} e ez em l r =
+    record {
+      size = omega (arith, length-append x (drop m z), length-drop m z, ap length ez, wide);
+      words = λ k hk. step k (decide (ltb k m));
+    }
   where
-    step : (k : ℕ) → (ltb k m ≡ true) ⊎ (ltb k m ≡ false) → get_or strip k 0 ≡ get_or edges (at + k) 0
-    step k (inl t) = h.words k (ltb-true k m t)
-    step k (inr t) = h.zeros k (ltb-false k m t) ∙ sym (get_or-eq_default edges 0 {n = at + k} (omega (arith, ltb-false k m t)))
+    wide : length x ≡ m
+    wide = ap length e ∙ simp (length-take, length-drop) (omega arith)
+
+    step : (k : ℕ) → (ltb k m ≡ true) ⊎ (ltb k m ≡ false) → get_or (x ++ drop m z) k 0 ≡ get_or edges (at + k) 0
+    step k (inl t) =
+        let h = ltb-true k m t in
+        get_or_append_left x (drop m z) 0 k (omega (arith, wide)) ∙ ap (λ (s : List ℕ). get_or s k 0) e ∙ get_or-take (length edges - at) (drop at edges) k 0 (omega arith) ∙ get_or-drop at edges k 0
+    step k (inr t) =
+        let h = ltb-false k m t in
+        get_or-append_right x (drop m z) m k 0 wide (omega arith)
+        ∙ get_or-drop m z (k - m) 0
+        ∙ ap (λ (s : List ℕ). get_or s (m + (k - m)) 0) ez
+        ∙ get_d_zeros 512 (m + (k - m))
+        ∙ sym (get_or-eq_default edges 0 {n = at + k} (omega arith))
 
 pub strip_across : {edges strip b : List ℕ} {i from to : ℕ} → StripAt edges (512 * i) strip → to ≤ 8 → Turned strip from to b → Across edges i from to b
 strip_across {edges} {strip} {b} {i} {from} {to} s small h = record { size = h.size; bits = bits }

@@ -61,12 +61,6 @@ pub record Exchanging (every step s from to : ℕ) (a prior : List ℕ) (t : ℕ
       → bit_at (get_or b (every * k + w + step * d) 0) c ≡ bit_at (get_or a (every * k + w + step * (c / 2 ^ s % 8)) 0) (with_digits s c d)
   pub rest : (k w d : ℕ) → k < 8 → w < 8 → t ≤ every * k + w → d < 8 → get_or b (every * k + w + step * d) 0 ≡ get_or prior (every * k + w + step * d) 0
 
--- m words of a table, before zeros
-pub record Loading (edges : List ℕ) (at m : ℕ) (strip : List ℕ) : Type 0 where
-  pub size : length strip ≡ 512
-  pub words : (k : ℕ) → k < m → get_or strip k 0 ≡ get_or edges (at + k) 0
-  pub zeros : (k : ℕ) → m ≤ k → get_or strip k 0 ≡ 0
-
 -- a strip of a table
 pub record StripAt (edges : List ℕ) (at : ℕ) (strip : List ℕ) : Type 0 where
   pub size : length strip ≡ 512

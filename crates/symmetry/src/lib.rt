@@ -21,28 +21,20 @@ ghost use Rattle.symmetry.specs.Symmetry.{
   symmetric,
 };
 
+use lent::Edges;
 use rows::Graph;
 
 // The words of a strip.
 pub const STRIP: usize = 512;
 
-#[derive(Clone, Copy)]
-struct Two {
-    low: u64,
-    high: u64,
-}
-
 // Rows x and y with their number, 0 or 1, and digit k of the columns exchanged. The mask has the columns where that digit is 0.
-fn cross(x: u64, y: u64, k: usize, mask: u64) -> Two
+fn cross(x: u64, y: u64, k: usize, mask: u64) -> (u64, u64)
     requires { (k < 6) × Zeros k mask }
-    ensures { Crossed k x y 0 result.low × Crossed k x y 1 result.high }
+    ensures { Crossed k x y 0 result.0 × Crossed k x y 1 result.1 }
 {
     let j = 1usize << k;
     let t = ((x >> j) ^ y) & mask;
-    Two {
-        low: x ^ (t << j),
-        high: y ^ t,
-    }
+    (x ^ (t << j), y ^ t)
 }
 
 // The upper digit of the numbers of eight rows and digit k of the columns exchanged; it comes to be the lower one.
@@ -54,7 +46,7 @@ fn cross_halves(x: [u64; 8], k: usize, mask: u64) -> [u64; 8]
     let b = cross(x[1], x[5], k, mask);
     let c = cross(x[2], x[6], k, mask);
     let d = cross(x[3], x[7], k, mask);
-    [a.low, a.high, b.low, b.high, c.low, c.high, d.low, d.high]
+    [a.0, a.1, b.0, b.1, c.0, c.1, d.0, d.1]
 }
 
 // Byte d of row e is byte e of row d.
@@ -79,25 +71,21 @@ fn eight_at(a: &[u64], at: usize, step: usize) -> [u64; 8]
     requires { (step ≤ 64) × (at + step * 7 < length a.now) × (length a.now ≡ 512) }
     ensures { EightTaken a.now at step 8 result }
 {
-    let mut x = [0u64; 8];
-    for d in 0..8 {
-        x[d] = a[at + step * d];
-    }
-    x
+    std::array::from_fn(|d| a[at + step * d])
 }
 
-fn put_eight(b: &mut [u64], at: usize, step: usize, x: [u64; 8])
-    requires { (0 < step) × (step ≤ 64) × (at + step * 7 < length b.old) × (length b.old ≡ 512) }
+fn put_eight(b: &mut [u64; STRIP], at: usize, step: usize, x: [u64; 8])
+    requires { (0 < step) × (step ≤ 64) × (at + step * 7 < length b.old) }
     ensures { EightPut at step 8 x b.old b.new }
 {
-    for d in 0..8 {
-        b[at + step * d] = x[d];
+    for (d, y) in x.iter().enumerate() {
+        b[at + step * d] = *y;
     }
 }
 
 // The rows k, k + 8, .. of a strip, words from..to.
-fn turn_bytes_at(a: &[u64], b: &mut [u64], k: usize, from: usize, to: usize)
-    requires { (length a.now ≡ 512) × (length b.old ≡ 512) × (k < 8) × (from ≤ to) × (to ≤ 8) }
+fn turn_bytes_at(a: &[u64], b: &mut [u64; STRIP], k: usize, from: usize, to: usize)
+    requires { (length a.now ≡ 512) × (k < 8) × (from ≤ to) × (to ≤ 8) }
     ensures { (prior : List ℕ) → Exchanging 8 64 3 from to a.now prior (8 * k + from) b.old → Exchanging 8 64 3 from to a.now prior (8 * k + to) b.new }
 {
     for t in 8 * k + from..8 * k + to {
@@ -105,8 +93,8 @@ fn turn_bytes_at(a: &[u64], b: &mut [u64], k: usize, from: usize, to: usize)
     }
 }
 
-fn turn_bytes(a: &[u64], b: &mut [u64], from: usize, to: usize)
-    requires { (length a.now ≡ 512) × (length b.old ≡ 512) × (from ≤ to) × (to ≤ 8) }
+fn turn_bytes(a: &[u64], b: &mut [u64; STRIP], from: usize, to: usize)
+    requires { (length a.now ≡ 512) × (from ≤ to) × (to ≤ 8) }
     ensures { Exchanging 8 64 3 from to a.now b.old 64 b.new }
 {
     for k in 0..8 {
@@ -115,17 +103,18 @@ fn turn_bytes(a: &[u64], b: &mut [u64], from: usize, to: usize)
 }
 
 // The rows 8 * k, 8 * k + 1, .. of a strip, words from..to.
-fn turn_bits_at(b: &mut [u64], k: usize, from: usize, to: usize)
-    requires { (length b.old ≡ 512) × (k < 8) × (from ≤ to) × (to ≤ 8) }
+fn turn_bits_at(b: &mut [u64; STRIP], k: usize, from: usize, to: usize)
+    requires { (k < 8) × (from ≤ to) × (to ≤ 8) }
     ensures { (prior : List ℕ) → Exchanging 64 8 0 from to prior prior (64 * k + from) b.old → Exchanging 64 8 0 from to prior prior (64 * k + to) b.new }
 {
     for t in 64 * k + from..64 * k + to {
-        put_eight(b, t, 8, exchange_bits(eight_at(b, t, 8)));
+        let x = exchange_bits(eight_at(b, t, 8));
+        put_eight(b, t, 8, x);
     }
 }
 
-fn turn_bits(b: &mut [u64], from: usize, to: usize)
-    requires { (length b.old ≡ 512) × (from ≤ to) × (to ≤ 8) }
+fn turn_bits(b: &mut [u64; STRIP], from: usize, to: usize)
+    requires { (from ≤ to) × (to ≤ 8) }
     ensures { Exchanging 64 8 0 from to b.old b.old 512 b.new }
 {
     for k in 0..8 {
@@ -134,8 +123,8 @@ fn turn_bits(b: &mut [u64], from: usize, to: usize)
 }
 
 // Words from..to of a strip of 64 rows, rows and columns exchanged; two words side by side are one step.
-pub fn turn(strip: &[u64], b: &mut [u64], from: usize, to: usize)
-    requires { (length strip.now ≡ 512) × (length b.old ≡ 512) × (from ≤ to) × (to ≤ 8) }
+pub fn turn(strip: &[u64], b: &mut [u64; STRIP], from: usize, to: usize)
+    requires { (length strip.now ≡ 512) × (from ≤ to) × (to ≤ 8) }
     ensures { Turned strip.now from to b.new }
 {
     let u = 2 * (from >> 1);
@@ -145,28 +134,28 @@ pub fn turn(strip: &[u64], b: &mut [u64], from: usize, to: usize)
 }
 
 // The words from `at` on, before zeros.
-fn load(edges: &[u64], at: usize, strip: &mut [u64])
-    requires { (at ≤ length edges.now) × (length edges.now ≤ at + 512) × (strip.old ≡ replicate 512 0) }
-    ensures { StripAt edges.now at strip.new }
+fn load(edges: &[u64], at: usize) -> [u64; STRIP]
+    requires { (at ≤ length edges.now) × (length edges.now ≤ at + 512) }
+    ensures { StripAt edges.now at result }
 {
-    for k in 0..edges.len() - at {
-        strip[k] = edges[at + k];
-    }
+    let mut strip = [0u64; STRIP];
+    let rest = &edges[at..];
+    strip[..rest.len()].copy_from_slice(rest);
+    strip
 }
 
 // The columns of words from i on in the rows of strip i, of which the last may be missing.
-fn turn_strip(edges: &[u64], n: usize, i: usize, to: usize, b: &mut [u64])
-    requires { (n ≤ max_nodes) × (length edges.now ≡ row_words * n) × (64 * i < n) × (i ≤ to) × (to ≤ 8) × (length b.old ≡ 512) }
-    ensures { Across edges.now i i to b.new }
+fn turn_strip(edges: Edges, i: usize, to: usize, b: &mut [u64; STRIP])
+    requires { (64 * i < edges.n) × (i ≤ to) × (to ≤ 8) }
+    ensures { Across edges.entry.words.now i i to b.new }
 {
+    let words = edges.words;
     let a = STRIP * i;
-    if a + STRIP <= edges.len() {
-        turn(&edges[a..a + STRIP], b, i, to);
+    if a + STRIP <= words.len() {
+        turn(&words[a..a + STRIP], b, i, to);
         return;
     }
-    let mut strip = [0u64; STRIP];
-    load(edges, a, &mut strip);
-    turn(&strip, b, i, to);
+    turn(&load(words, a), b, i, to);
 }
 
 // How many rows strip i has.
@@ -174,31 +163,27 @@ fn rows_of(n: usize, i: usize) -> usize
     requires { (n ≤ max_nodes) × (64 * i < n) }
     ensures { (result ≤ 64) × (64 * i + result ≤ n) × ((q : ℕ) → q < n → 64 * i ≤ q → q < 64 * i + 64 → q < 64 * i + result) }
 {
-    let rest = n - 64 * i;
-    if rest < 64 {
-        return rest;
-    }
-    64
+    (n - 64 * i).min(64)
 }
 
 // Whether the columns of word w in the rows of strip i are word i of the rows that they stand for.
-fn is_across(edges: &[u64], n: usize, i: usize, w: usize, b: &[u64]) -> bool
-    requires { (n ≤ max_nodes) × (length edges.now ≡ row_words * n) × (64 * w < n) × (i ≤ w) × Across edges.now i w (w + 1) b.now }
-    ensures { Tells (Even n edges.now i w (w + 1)) edges.now result }
+fn is_across(edges: Edges, i: usize, w: usize, b: &[u64; STRIP]) -> bool
+    requires { (64 * w < edges.n) × (i ≤ w) × Across edges.words.now i w (w + 1) b.now }
+    ensures { Tells (Even edges.entry.n edges.entry.words.now i w (w + 1)) edges.entry.words.now result }
 {
     let mut x = 0u64;
-    for c in 0..rows_of(n, w) {
-        x = x | (b[Graph::ROW_WORDS * c + w] ^ edges[Graph::ROW_WORDS * (64 * w + c) + i]);
+    for c in 0..rows_of(edges.n, w) {
+        x |= b[Graph::ROW_WORDS * c + w] ^ edges.word(64 * w + c, i);
     }
     x == 0
 }
 
-fn are_across(edges: &[u64], n: usize, i: usize, to: usize, b: &[u64]) -> bool
-    requires { (n ≤ max_nodes) × (length edges.now ≡ row_words * n) × (64 * to < n + 64) × (i ≤ to) × Across edges.now i i to b.now }
-    ensures { Tells (Even n edges.now i i to) edges.now result }
+fn are_across(edges: Edges, i: usize, to: usize, b: &[u64; STRIP]) -> bool
+    requires { (64 * to < edges.n + 64) × (i ≤ to) × Across edges.words.now i i to b.now }
+    ensures { Tells (Even edges.entry.n edges.entry.words.now i i to) edges.entry.words.now result }
 {
     for w in i..to {
-        if !is_across(edges, n, i, w, b) {
+        if !is_across(edges, i, w, b) {
             return false;
         }
     }
@@ -206,15 +191,14 @@ fn are_across(edges: &[u64], n: usize, i: usize, to: usize, b: &[u64]) -> bool
 }
 
 // Whether the bits from the diagonal on have their mirrors.
-fn are_strips_even(edges: &[u64], n: usize) -> bool
-    requires { (n ≤ max_nodes) × (length edges.now ≡ row_words * n) }
-    ensures { Tells ((i : ℕ) → 64 * i < n → Even n edges.now i i ((n + 63) / 64)) edges.now result }
+fn are_strips_even(edges: Edges) -> bool
+    ensures { Tells ((i : ℕ) → 64 * i < edges.entry.n → Even edges.entry.n edges.entry.words.now i i ((edges.entry.n + 63) / 64)) edges.entry.words.now result }
 {
     let mut b = [0u64; STRIP];
-    let to = rows::word_of(n + 63);
+    let to = rows::word_of(edges.n + 63);
     for i in 0..to {
-        turn_strip(edges, n, i, to, &mut b);
-        if !are_across(edges, n, i, to, &b) {
+        turn_strip(edges, i, to, &mut b);
+        if !are_across(edges, i, to, &b) {
             return false;
         }
     }
@@ -222,13 +206,13 @@ fn are_strips_even(edges: &[u64], n: usize) -> bool
 }
 
 // Whether word w of no row has a bit from bit k on. The loop is not left early.
-fn is_word_below(edges: &[u64], n: usize, w: usize, k: usize) -> bool
-    requires { (n ≤ max_nodes) × (length edges.now ≡ row_words * n) × (w < 8) × (k < 64) × (n ≤ 64 * w + k) }
-    ensures { Tells ((p c : ℕ) → p < n → k ≤ c → c < 64 → edge_bit edges.now p (64 * w + c) ≡ false) edges.now result }
+fn is_word_below(edges: Edges, w: usize, k: usize) -> bool
+    requires { (w < 8) × (k < 64) × (edges.n ≤ 64 * w + k) }
+    ensures { Tells ((p c : ℕ) → p < edges.entry.n → k ≤ c → c < 64 → edge_bit edges.entry.words.now p (64 * w + c) ≡ false) edges.entry.words.now result }
 {
     let mut x = 0u64;
-    for p in 0..n {
-        x = x | edges[Graph::ROW_WORDS * p + w];
+    for p in 0..edges.n {
+        x |= edges.word(p, w);
     }
     x >> k == 0
 }
@@ -245,12 +229,11 @@ fn first_beyond(n: usize, w: usize) -> usize
 }
 
 // Whether no bit stands for a number n or above.
-fn is_inside(edges: &[u64], n: usize) -> bool
-    requires { (n ≤ max_nodes) × (length edges.now ≡ row_words * n) }
-    ensures { Tells (Inside n edges.now) edges.now result }
+fn is_inside(edges: Edges) -> bool
+    ensures { Tells (Inside edges.entry.n edges.entry.words.now) edges.entry.words.now result }
 {
-    for w in rows::word_of(n)..8 {
-        if !is_word_below(edges, n, w, first_beyond(n, w)) {
+    for w in rows::word_of(edges.n)..Graph::ROW_WORDS {
+        if !is_word_below(edges, w, first_beyond(edges.n, w)) {
             return false;
         }
     }
@@ -258,12 +241,11 @@ fn is_inside(edges: &[u64], n: usize) -> bool
 }
 
 // Whether every bit has its mirror.
-pub fn is_symmetric(edges: &[u64], n: usize) -> bool
-    requires { (n ≤ max_nodes) × (length edges.now ≡ row_words * n) }
-    ensures { result ≡ symmetric edges.now }
+pub fn is_symmetric(edges: Edges) -> bool
+    ensures { result ≡ symmetric edges.entry.words.now }
 {
-    if !is_inside(edges, n) {
+    if !is_inside(edges) {
         return false;
     }
-    are_strips_even(edges, n)
+    are_strips_even(edges)
 }

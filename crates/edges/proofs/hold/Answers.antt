@@ -7,7 +7,4 @@ use Rattle.edges.proofs.hold.Goals as goal
 pub returns-then-is_dense : goal.returns-then-is_dense
 returns-then-is_dense c =
     let pre = c.requires in
-    c.hold_by_strips.ensures ∙ symmetric-held _ _ pre.0 pre.1 (λ i. omega (arith, c.shared_slice_known-1.given i))
-
-pub returns : goal.returns
-returns c = c.hold_by_walks.ensures
+    c.hold_by_strips.ensures ∙ symmetric-held _ _ pre.0 pre.1 (λ i. omega (arith, c.type_inv.edges i))

@@ -5,7 +5,7 @@ use Rattle.edges.specs.EdgesLaws.{walk_fails, walk-mirrored, walk_next, walk_on,
 use Rattle.edges.proofs.is_row_mirrored.Goals as goal
 
 pub loop-w-init : goal.loop-w-init
-loop-w-init c = (0, walk_start (omega arith) (λ i. omega (arith, c.type_inv.edges i)))
+loop-w-init c = (0, walk_start (omega arith) c.args.edges.bits)
 
 pub overflow_add-w : goal.overflow_add-w
 overflow_add-w c =
@@ -24,7 +24,7 @@ loop-k-preserved c =
 
 pub loop-w-preserved : goal.loop-w-preserved
 loop-w-preserved c =
-    (_, walk_next c.loop-k.invariant.1 (all_cleared _ (omega arith) c.in-None.ensures.steps.0) (λ i. omega (arith, c.type_inv.edges i)))
+    (_, walk_next c.loop-k.invariant.1 (all_cleared _ (omega arith) c.in-None.ensures.steps.0) c.args.edges.bits)
 
 pub returns : goal.returns
 returns c = walk-mirrored c.loop-w.invariant.1 (omega arith)

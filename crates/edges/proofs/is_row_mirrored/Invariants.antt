@@ -4,7 +4,7 @@ use Rattle.edges.specs.EdgesLaws.{Walking}
 use Rattle.edges.proofs.is_row_mirrored.Given as goal
 
 abbrev pub invariant-loop-w : goal.invariant-loop-w
-invariant-loop-w l = (sum : ℕ) × Walking l.n l.edges l.p l.w (get_or l.edges (8 * l.p + l.w) 0) sum
+invariant-loop-w l = (sum : ℕ) × Walking l.edges.n l.edges.words.now l.p l.w (get_or l.edges.words.now (8 * l.p + l.w) 0) sum
 
 abbrev pub invariant-loop-k : goal.invariant-loop-k
-invariant-loop-k l = (sum : ℕ) × Walking l.n l.edges l.p l.w l.k-iterator.word sum
+invariant-loop-k l = (sum : ℕ) × Walking l.edges.n l.edges.words.now l.p l.w l.k-iterator.word sum

@@ -1,5 +1,4 @@
 -- Before row k: those before it are put in.
-use Prim.Native.Nat.{◌-◌, ◌≤◌}
 use Rattle.drawing.specs.Drawing.{Added}
 use Rattle.mirroring.specs.Mirroring.{columns_to}
 use Rattle.mirroring.proofs.lay.Given as goal

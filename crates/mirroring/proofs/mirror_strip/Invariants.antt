@@ -1,5 +1,4 @@
 -- Before word j: those before it are mirrored.
-use Prim.Native.Nat.{◌+◌, ◌≤◌}
 use Rattle.mirroring.specs.Mirroring.{InRow, MirroredAt}
 use Rattle.mirroring.proofs.mirror_strip.Given as goal
 

@@ -3,7 +3,7 @@ use mathlib.Core.Path.{refl}
 use native.Mathlib.Omega.{arith}
 use Rattle.model.specs.Lists.{all, from, nodes}
 use Rattle.model.specs.Tables.{bit_at}
-use Rattle.symmetry.specs.CrossLaws.{exchanged_bytes, zeros_by}
+use Rattle.symmetry.specs.CrossLaws.{zeros_by}
 use Rattle.symmetry.proofs.exchange_bytes.Goals as goal
 
 pub cross_halves-y-requires : goal.cross_halves-y-requires
@@ -17,6 +17,3 @@ cross_halves-z-requires c = (omega arith, zeros_by 4 0x0000FFFF0000FFFF refl)
 pub cross_halves-requires : goal.cross_halves-requires
 unfolding all nodes from bit_at
 cross_halves-requires c = (omega arith, zeros_by 3 0x00FF00FF00FF00FF refl)
-
-pub returns : goal.returns
-returns c = exchanged_bytes c.cross_halves-y.ensures c.cross_halves-z.ensures c.cross_halves.ensures

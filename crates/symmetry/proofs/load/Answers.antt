@@ -1,21 +1,9 @@
--- The invariant: the words before k are there.
-use mathlib.Core.Path.{refl, sym, ap, ◌∙◌}
-use native.Mathlib.Omega.{arith}
-use lib.ListN.{length}
-use Rattle.symmetry.specs.StripLaws.{loading_more, loading_none, strip_loaded}
+-- The end of the table, copied over zeros.
+use Rattle.std.proofs.Common.{◌-◌, length, take, drop, refl, arith, length-take, length-drop}
+use Rattle.symmetry.specs.StripLaws.{strip_copied}
 use Rattle.symmetry.proofs.load.Goals as goal
 
-pub loop-k-init : goal.loop-k-init
-loop-k-init c = (omega arith, loading_none _ _ c.requires.2)
-
-pub bounds-strip-k : goal.bounds-strip-k
-bounds-strip-k c = omega (arith, c.loop-k.invariant.1.size)
-
-pub loop-k-preserved : goal.loop-k-preserved
-loop-k-preserved c = (omega arith, loading_more _ c.loop-k.invariant.1 (omega arith) refl)
-
-pub shape_of-strip : goal.shape_of-strip
-shape_of-strip c = c.loop-k.invariant.1.size ∙ sym (ap length c.requires.2)
-
 pub returns : goal.returns
-returns c = strip_loaded c.loop-k.invariant.1 (omega arith)
+returns c =
+    let rest = take (length c.args.edges.now - c.args.at) (drop c.args.at c.args.edges.now) in
+    strip_copied {m = length rest} c.copy_from_slice.ensures.after refl (simp (length-take, length-drop) (omega arith)) c.requires.0 c.requires.1

@@ -5,26 +5,11 @@ use native.Mathlib.Omega.{arith}
 use Rattle.symmetry.specs.StripLaws.{bits, exchanging_within, exchanging_to}
 use Rattle.symmetry.proofs.turn_bits_at.Goals as goal
 
-pub loop-t-init : goal.loop-t-init
-loop-t-init c = (omega arith, omega arith, c.requires.0, λ prior h. h)
-
-pub eight_at-requires : goal.eight_at-requires
-eight_at-requires c = (omega arith, omega arith, c.loop-t.invariant.2)
-
-pub exchange_bits-requires : goal.exchange_bits-requires
-exchange_bits-requires c = tt
-
-pub put_eight-requires : goal.put_eight-requires
-put_eight-requires c = let l = c.loop-t.invariant in (omega arith, omega arith, omega (arith, l.2), l.2)
-
 pub loop-t-preserved : goal.loop-t-preserved
 loop-t-preserved c =
     let l = c.loop-t in
     let s = l.invariant in
-    (omega arith, omega arith, c.put_eight.ensures.size ∙ s.2, λ prior h. exchanging_within bits c.requires.3 c.args.k (l.t - 64 * c.args.k) c.requires.1 (omega arith) (omega arith) (s.3 prior h) c.eight_at.ensures.words c.exchange_bits.ensures c.put_eight.ensures)
-
-pub shape_of-b : goal.shape_of-b
-shape_of-b c = omega (arith, c.loop-t.invariant.2, c.requires.0)
+    (c.put_eight.ensures.size ∙ s.0, λ prior h. exchanging_within bits c.requires.2 c.args.k (l.t - 64 * c.args.k) c.requires.0 (omega arith) (omega arith) (s.1 prior h) c.eight_at.ensures.words c.exchange_bits-x.ensures c.put_eight.ensures)
 
 pub returns : goal.returns
-returns c = λ prior h. exchanging_to (c.loop-t.invariant.3 prior h) (omega arith)
+returns c = λ prior h. exchanging_to (c.loop-t.invariant.1 prior h) (omega arith)

@@ -1,10 +1,7 @@
 -- The invariant: the rows before the k-th eight are exchanged.
-use Prim.Native.Nat.{◌+◌, ◌*◌, ◌-◌, ◌≤◌}
+use Prim.Native.Nat.{◌+◌, ◌*◌}
 use Rattle.symmetry.specs.Symmetry.{Exchanging}
 use Rattle.symmetry.proofs.turn_bytes.Given as goal
 
 abbrev pub invariant-loop-k : goal.invariant-loop-k
-invariant-loop-k l = (l.k ≤ 8) × Exchanging 8 64 3 l.from l.to l.a l.initial.b (8 * l.k + l.from) l.b
-
-abbrev pub decreases-loop-k : goal.decreases-loop-k
-decreases-loop-k l = 8 - l.k
+invariant-loop-k l = Exchanging 8 64 3 l.from l.to l.a l.initial.b (8 * l.k + l.from) l.b

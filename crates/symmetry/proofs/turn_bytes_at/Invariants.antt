@@ -1,10 +1,10 @@
 -- The invariant: the rows before word t are exchanged.
 use mathlib.Core.Path.{◌≡◌}
 use mathlib.Core.List.{List}
-use Prim.Native.Nat.{ℕ, ◌+◌, ◌*◌, ◌≤◌}
+use Prim.Native.Nat.{ℕ, ◌+◌, ◌*◌}
 use lib.ListN.{length}
 use Rattle.symmetry.specs.Symmetry.{Exchanging}
 use Rattle.symmetry.proofs.turn_bytes_at.Given as goal
 
 abbrev pub invariant-loop-t : goal.invariant-loop-t
-invariant-loop-t l = (8 * l.k + l.from ≤ l.t) × (l.t ≤ 8 * l.k + l.to) × (length l.b ≡ 512) × ((prior : List ℕ) → Exchanging 8 64 3 l.from l.to l.a prior (8 * l.k + l.from) l.initial.b → Exchanging 8 64 3 l.from l.to l.a prior l.t l.b)
+invariant-loop-t l = (length l.b ≡ 512) × ((prior : List ℕ) → Exchanging 8 64 3 l.from l.to l.a prior (8 * l.k + l.from) l.initial.b → Exchanging 8 64 3 l.from l.to l.a prior l.t l.b)

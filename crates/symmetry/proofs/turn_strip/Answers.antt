@@ -3,10 +3,10 @@ use native.Mathlib.Omega.{arith}
 use Rattle.symmetry.specs.StripLaws.{strip_across, strip_part}
 use Rattle.symmetry.proofs.turn_strip.Goals as goal
 
-pub returns-then-a-edges : goal.returns-then-a-edges
-returns-then-a-edges c =
-    strip_across (strip_part _ _ (omega (arith, c.if-a-edges.true))) c.requires.4 c.turn.ensures
+pub returns-then-a-words : goal.returns-then-a-words
+returns-then-a-words c =
+    strip_across (strip_part _ _ (omega (arith, c.if-a-words.true))) c.requires.2 c.turn.ensures
 
 pub returns : goal.returns
 returns c =
-    strip_across c.load.ensures c.requires.4 c.turn-2.ensures
+    strip_across c.load.ensures c.requires.2 c.turn-2.ensures
