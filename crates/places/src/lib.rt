@@ -5,6 +5,7 @@ ghost use Rattle.std.specs.Prelude.{◌≡◌, ◌≢◌, Bool, true, not, ℕ, 
 ghost use Rattle.model.specs.Lists.{all, nodes};
 ghost use Rattle.model.specs.Graph.{max_nodes};
 ghost use Rattle.model.specs.Store.{max_states, name_bytes, no_states, place_words, store_of, store_words, words_at, wrong_store};
+ghost use Rattle.rows.specs.Rows.{Words};
 ghost use Rattle.search.specs.Search.{first_from};
 ghost use Rattle.places.specs.Places.{Found, Named, SizedStore, free_at, new_at, place_word, put_at, under_at};
 
@@ -48,6 +49,7 @@ pub struct Store<'a> {
     pub n: usize,
     pub words: &'a [u64],
     pub ghost sized: { SizedStore n words.now },
+    pub ghost fits: { Words words.now },
 }
 
 // How many words a place and a store for n nodes have.
