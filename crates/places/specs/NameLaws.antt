@@ -1,6 +1,7 @@
 -- A name is the two words that a place keeps of it.
-use Rattle.std.specs.Prelude.{◌≡◌, true, ◌&&◌, List, ◌++◌, ℕ, suc, ◌+◌, ◌*◌, ◌^◌, ◌<◌, eqb, take, drop}
-use Rattle.std.proofs.Common.{sym, ap, ◌∙◌, arith, drop_at, take_at, pow-add, eqb-true, eq-eqb}
+use Rattle.std.specs.Int.{from_le_bytes}
+use Rattle.std.specs.Prelude.{◌≡◌, true, ◌&&◌, List, [], ◌∷◌, length, ◌++◌, ℕ, suc, ◌+◌, ◌*◌, ◌^◌, ◌<◌, eqb, take, drop}
+use Rattle.std.proofs.Common.{w64, sym, ap, ◌∙◌, arith, drop_at, take_at, pow-add, eqb-true, eq-eqb}
 use Rattle.model.specs.Lists.{same_list}
 use Rattle.model.proofs.ListLaws.{same_eq, same_refl}
 use Rattle.model.specs.Store.{bytes_of, is_name, number}
@@ -37,3 +38,17 @@ module _ (a b : ℕ) where
 
   pub second_word : b < 2 ^ 64 → number (drop 8 (bytes_of 8 a ++ bytes_of 8 b)) ≡ b
   second_word h = rw (drop_at (bytes_of 8 a) (bytes_of 8 b) 8 (length_bytes 8 a)) (number_bytes 8 b h)
+
+-- eight bytes as the library reads them
+pub le_number : (bytes : List ℕ) → length bytes ≡ 8 → from_le_bytes w64 bytes ≡ number bytes
+unfolding number
+le_number (a ∷ (b ∷ (c ∷ (d ∷ (e ∷ (f ∷ (g ∷ (h ∷ [])))))))) size = omega arith
+le_number [] size = absurd (omega arith)
+le_number (a ∷ []) size = absurd (omega arith)
+le_number (a ∷ (b ∷ [])) size = absurd (omega arith)
+le_number (a ∷ (b ∷ (c ∷ []))) size = absurd (omega arith)
+le_number (a ∷ (b ∷ (c ∷ (d ∷ [])))) size = absurd (omega arith)
+le_number (a ∷ (b ∷ (c ∷ (d ∷ (e ∷ []))))) size = absurd (omega arith)
+le_number (a ∷ (b ∷ (c ∷ (d ∷ (e ∷ (f ∷ [])))))) size = absurd (omega arith)
+le_number (a ∷ (b ∷ (c ∷ (d ∷ (e ∷ (f ∷ (g ∷ []))))))) size = absurd (omega arith)
+le_number (a ∷ (b ∷ (c ∷ (d ∷ (e ∷ (f ∷ (g ∷ (h ∷ (x ∷ xs))))))))) size = absurd (omega arith)

@@ -1,6 +1,8 @@
 -- What the searches of a store look at.
-use Rattle.std.specs.Prelude.{◌≡◌, Bool, not, ◌&&◌, ◌||◌, List, ◌++◌, ℕ, ◌+◌, ◌*◌, ◌-◌, ◌^◌, ◌≤◌, ◌<◌, eqb, length, get_or, take, drop}
-use Rattle.model.specs.Store.{Place, free, max_states, number, place_words}
+use Rattle.std.specs.Prelude.{◌≡◌, Bool, not, ◌&&◌, ◌||◌, List, ◌++◌, ℕ, ◌+◌, ◌*◌, ◌-◌, ◌^◌, ◌≤◌, ◌<◌, Option, MatchOption, eqb, length, get_or, take, drop}
+use Rattle.model.specs.Graph.{max_nodes}
+use Rattle.model.specs.Store.{Place, free, max_states, name_bytes, number, place_words, store_words}
+use Rattle.places.specs.declared.Name.{Name}
 use Rattle.rows.specs.Rows.{Words}
 use Rattle.search.specs.Search.{first_from}
 
@@ -29,6 +31,21 @@ pub record HighBytes (bytes : List ℕ) (at i w : ℕ) : Type 0 where
   pub few : i ≤ 8
   pub is : w ≡ number (take (8 - i) (drop (at + i) bytes))
   pub small : w < 2 ^ (8 * (8 - i))
+
+-- a store has as many words as one for n nodes
+pub record SizedStore (n : ℕ) (s : List ℕ) : Type 0 where
+  pub small : n ≤ max_nodes
+  pub words : length s ≡ store_words n
+
+-- the two words of a name of sixteen bytes
+pub record Named (bytes : List ℕ) (name : Name) : Type 0 where
+  pub size : length bytes ≡ name_bytes
+  pub first : name.first ≡ number (take 8 bytes)
+  pub second : name.second ≡ number (drop 8 bytes)
+
+-- a search of the places got to r: no place, or this one
+abbrev pub Found : Option ℕ → ℕ → Type 0
+Found o r = MatchOption o (r ≡ max_states) (λ i. (i ≡ r) × (i < max_states))
 
 -- a store whose words fit, and whose places are free or used
 pub record Readable (n : ℕ) (s : List ℕ) : Type 0 where

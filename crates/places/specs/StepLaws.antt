@@ -1,6 +1,11 @@
 -- What the steps of the searches do with the words of a store.
-use Rattle.std.specs.Prelude.{◌≡◌, refl, Bool, true, false, not, List, ◌++◌, map, eqb, ltb, length, get_or, take, drop, set, replicate}
-use Rattle.std.proofs.Common.{sym, ap, ◌∙◌, mul-le-mul_left, arith, length-drop, length-take, pow_mono, drop-cons, drop-drop, take_all}
+use Rattle.std.proofs.lemmas.Option.{same_Some}
+use Rattle.std.specs.Array.{IsWholeChunk}
+use Rattle.std.specs.Int.{from_le_bytes}
+use Rattle.std.specs.Option.{is_some}
+use Rattle.std.specs.Result.{result_ok}
+use Rattle.std.specs.Prelude.{◌≡◌, refl, Bool, true, false, not, ◌&&◌, Option, None, Some, Result, Ok, Err, MatchResult, List, ◌++◌, map, eqb, ltb, length, get_or, take, drop, set, replicate}
+use Rattle.std.proofs.Common.{w64, sym, ap, ◌∙◌, mul-le-mul_left, arith, length-drop, length-take, pow_mono, drop-cons, drop-drop, take_all}
 use Rattle.std.proofs.Math.Bool.{and-false}
 use Prim.Native.Nat.{ℕ, suc, zero, ◌+◌, ◌*◌, ◌-◌, ◌^◌, ◌≤◌, ◌<◌}
 use Rattle.std.proofs.lemmas.List.{replicate-append-replicate}
@@ -9,8 +14,8 @@ use Rattle.model.specs.Lists.{concat}
 use Rattle.model.specs.Store.{free, no_states, number, place_of, place_words, store_of, store_words, words_at, wrong_store}
 use Rattle.model.proofs.TestLaws.{or_none}
 use Rattle.search.specs.Search.{first_from}
-use Rattle.places.specs.NameLaws.{byte_more}
-use Rattle.places.specs.Places.{HighBytes, free_at, new_at, place_word, put_at, under_at}
+use Rattle.places.specs.NameLaws.{byte_more, le_number}
+use Rattle.places.specs.Places.{Found, HighBytes, Named, free_at, new_at, place_word, put_at, under_at}
 
 -- the length of a store
 pub many_nodes : (n k : ℕ) → 512 < n → false ≡ not (wrong_store n k)
@@ -86,6 +91,25 @@ high_done {bytes} {at} {i} {w} h l =
     let d : at + i ≡ at = omega arith in
     rw (← e, ← d) h.is
 
+-- a name from its bytes
+pub name_read : (bytes first rest second : List ℕ) {E : Type 0} (r : Result (List ℕ) E) (Q : E → Type 0) (a b : ℕ)
+    → (first ≡ take 8 bytes) × (rest ≡ drop 8 bytes) × (length rest + 8 ≡ length bytes) → MatchResult r (λ y. IsWholeChunk rest y 8) Q → Some second ≡ result_ok r
+    → a ≡ from_le_bytes w64 first → b ≡ from_le_bytes w64 second → Named bytes (record { first = a; second = b })
+name_read bytes first rest second (Err x) Q a b h m e p q = cc
+name_read bytes first rest second (Ok y) Q a b h m e p q = record {
+  size = omega (arith, h.2, m.long);
+  first = p ∙ ap (from_le_bytes w64) h.0 ∙ le_number (take 8 bytes) (simp length-take (omega (arith, h.2, m.long)));
+  second = q ∙ ap (from_le_bytes w64) same ∙ le_number (drop 8 bytes) (simp length-drop (omega (arith, h.2, m.long)));
+}
+  where
+    same : second ≡ drop 8 bytes
+    same = same_Some _ _ e ∙ m.same ∙ h.1
+
+-- a search that found nothing
+pub found_nothing : (o : Option ℕ) (r : ℕ) {b : Bool} → Found o r → is_some o ≡ not b → b ≡ eqb r 8
+found_nothing None r {b} h e = not-false b (sym e) ∙ sym (eq-eqb r 8 h)
+found_nothing (Some i) r {b} h e = not-true b (sym e) ∙ sym (ne_eqb r 8 (λ k. omega (arith, h.0, h.1)))
+
 -- the steps of the code
 module _ (n : ℕ) (s : List ℕ) (a b i : ℕ) where
   pub under_free : (x : ℕ) → x ≡ place_word n s i 0 → (x ≡ 1 → ⊥) → false ≡ under_at n s a b i
@@ -99,6 +123,10 @@ module _ (n : ℕ) (s : List ℕ) (a b i : ℕ) where
   pub under_second : (x y z : ℕ) → x ≡ place_word n s i 0 → x ≡ 1 → y ≡ place_word n s i 1 → y ≡ a → z ≡ place_word n s i 2 → eqb z b ≡ under_at n s a b i
   unfolding under_at
   under_second x y z e u f v g = rw (eq-eqb (place_word n s i 0) 1 (sym e ∙ u), eq-eqb (place_word n s i 1) a (sym f ∙ v), ← g)
+
+  pub under_used : {x y z : ℕ} {r : Bool} → x ≡ place_word n s i 0 → x ≡ 1 → y ≡ place_word n s i 1 → z ≡ place_word n s i 2 → r ≡ (eqb y a && eqb z b) → r ≡ under_at n s a b i
+  unfolding under_at
+  under_used e u f g h = rw (← e, eq-eqb _ 1 u, ← f, ← g) h
 
 module _ (n : ℕ) (s : List ℕ) (i : ℕ) where
   pub free_is : {b : Bool} (x : ℕ) → x ≡ place_word n s i 0 → eqb x 0 ≡ b → free_at n s i ≡ b

@@ -1,18 +1,18 @@
 -- The test of a store, place by place, is the model's.
-use Rattle.std.specs.Prelude.{◌≡◌, Bool, ◌&&◌, ◌≢◌, ◌⊎◌, ℕ, suc, zero, ◌+◌, ◌*◌, ◌/◌, ◌%◌, ◌-◌, ◌^◌, ◌≤◌, ◌<◌, eqb, ltb, length, take, drop, replicate}
+use Rattle.std.specs.Prelude.{◌≡◌, Bool, ◌&&◌, ◌≢◌, ℕ, suc, zero, ◌+◌, ◌*◌, ◌/◌, ◌%◌, ◌-◌, ◌≤◌, ◌<◌, eqb, ltb, length, take, drop, replicate}
 use Rattle.std.proofs.Math.Path.{refl, ap}
-use Rattle.std.proofs.Common.{sym, ap₂, ◌∙◌, inl, inr, arith, length-take, take-append-drop, drop-drop, get_or-drop, get_or-take, take_all, eqb-true, eq-eqb, ne_eqb, ltb-true, ltb-false, lt-ltb}
+use Rattle.std.proofs.Common.{sym, ap₂, ◌∙◌, arith, take-append-drop, drop-drop, take_all, eqb-true, eq-eqb, ne_eqb, ltb-true, lt-ltb}
 use Rattle.std.proofs.Math.Bool.{true, false}
 use mathlib.Core.List.Memᴰ
 use mathlib.Core.List.{List, [], ◌∷◌, ◌++◌, map}
 use Rattle.std.proofs.Math.Decide.{ℕ_discrete}
-use Rattle.std.proofs.Math.ListN.{get_or, length-drop, get_or-eq_default}
+use Rattle.std.proofs.Math.ListN.{get_or, length-drop}
 use Rattle.std.proofs.Math.Seq.{length-take-le}
 use Rattle.model.specs.Lists.{◌∈◌, all, nodes, same_list}
 use Rattle.model.specs.Graph.{Graph, max_classes, max_nodes, row_words}
 use Rattle.model.specs.Tables.{edges_of, is_graph, simple}
 use Rattle.model.specs.Store.{are_apart, are_states, graph_at, is_state, is_store, max_states, node_words, place_in, place_of, place_words, places_in, state_graph, store_of, store_words, words_at}
-use Rattle.model.proofs.TestLaws.{and_fst, and_one, and_snd, and_true, decide, differ, iff_eq}
+use Rattle.model.proofs.TestLaws.{and_fst, and_one, and_snd, and_true, differ, iff_eq}
 use Rattle.model.proofs.ListLaws.{all_elim, all_intro, nodes_in_lem, nodes_out, same_eq, same_refl}
 use Rattle.model.proofs.TableLaws.{length_edges}
 use Rattle.model.proofs.StoreLaws.{AllFit, Sound, all_states, length_store, place_at, places_fit, places_length, state_proper, store_ext, store_sound, store_words_lem, words_at_lem}
@@ -22,7 +22,7 @@ use Rattle.edges.specs.Edges.{edges_hold}
 use Rattle.edges.specs.EdgesLaws.{held_with, same_of}
 use Rattle.places.specs.Places.{Readable, new_at}
 use Rattle.places.specs.PlacesLaws.{apart_found, word_at}
-use Rattle.places.specs.StepLaws.{part_words, place_inside}
+use Rattle.places.specs.StepLaws.{place_inside}
 use Rattle.places.specs.NameLaws.{first_word, second_word}
 use Rattle.states.specs.States.{State, word_limit}
 use Rattle.states.specs.StateLaws.{told_class, words_told}
@@ -242,15 +242,6 @@ module _ (n : ℕ) (w : List ℕ) (size : length w ≡ place_words n) (h : place
     unfolding place_in graph_at
     held-graph = rw (ne_eqb (get_or w 0 0) 0 (omega arith))
 
--- the words of a place are words
-pub place_words_lem : (n : ℕ) (s : List ℕ) (i : ℕ) → Words s → Words (words_at n s i)
-unfolding words_at
-place_words_lem n s i h k = step (decide (ltb k (place_words n)))
-  where
-    step : (ltb k (place_words n) ≡ true) ⊎ (ltb k (place_words n) ≡ false) → get_or (take (place_words n) (drop (1 + place_words n * i) s)) k 0 < 2 ^ 64
-    step (inl t) = rw (get_or-take (place_words n) (drop (1 + place_words n * i) s) k 0 (ltb-true k (place_words n) t), get_or-drop (1 + place_words n * i) s k 0) (h (1 + place_words n * i + k))
-    step (inr t) = omega (arith, get_or-eq_default (take (place_words n) (drop (1 + place_words n * i) s)) 0 {n = k} (omega (arith, ltb-false k (place_words n) t, length-take (place_words n) (drop (1 + place_words n * i) s))))
-
 -- the steps of the code
 module _ (n : ℕ) (small : n ≤ max_nodes) (s : List ℕ) (size : length s ≡ store_words n) where
   pub place_size : (i : ℕ) → i < max_states → length (words_at n s i) ≡ place_words n
@@ -278,30 +269,26 @@ module _ (n : ℕ) (small : n ≤ max_nodes) (s : List ℕ) (size : length s ≡
 
 -- edges, then words of nodes
 module _ (n : ℕ) (edges words : List ℕ) where
-  pub edges_fail : edges_hold n edges ≡ false → false ≡ (edges_hold n edges && all words (λ x. ltb x word_limit))
-  edges_fail e = rw e
-
   pub words_tell : {b : Bool} → edges_hold n edges ≡ true → b ≡ all words (λ x. ltb x word_limit) → b ≡ (edges_hold n edges && all words (λ x. ltb x word_limit))
   words_tell e k = rw e k
 
 -- the parts of a place as they are lent
-module _ (n : ℕ) (w : List ℕ) (size : length w ≡ place_words n) where
-  pub edges_part : take (3 + row_words * n - 3) (drop 3 w) ≡ take (row_words * n) (drop 3 w)
-  edges_part = let e : 3 + row_words * n - 3 ≡ row_words * n = omega arith in rw e
+module _ (n : ℕ) (w : List ℕ) (size : length w ≡ place_words n) {x y : List ℕ} (edges : x ≡ take (row_words * n) (take (length w - 3) (drop 3 w))) (nodes : y ≡ drop (row_words * n) (take (length w - 3) (drop 3 w))) where
+  rest_part : take (length w - 3) (drop 3 w) ≡ drop 3 w
+  rest_part = take_all (length w - 3) (drop 3 w) (omega (arith, length-drop 3 w))
 
-  pub nodes_part : take (length w - (3 + row_words * n)) (drop (3 + row_words * n) w) ≡ drop (3 + row_words * n) w
-  nodes_part = take_all (length w - (3 + row_words * n)) (drop (3 + row_words * n) w) (omega (arith, length-drop (3 + row_words * n) w))
+  edges_part : x ≡ take (row_words * n) (drop 3 w)
+  edges_part = edges ∙ ap (take (row_words * n)) rest_part
+
+  nodes_part : y ≡ drop (3 + row_words * n) w
+  nodes_part = nodes ∙ ap (drop (row_words * n)) rest_part ∙ drop-drop (row_words * n) 3 w
 
   module _ (h : place_holds n w ≡ true) (small : n ≤ max_nodes) (words : Words w) (used : get_or w 0 0 ≡ 1) where
-    pub parts_state : State n (take (3 + row_words * n - 3) (drop 3 w)) (take (length w - (3 + row_words * n)) (drop (3 + row_words * n) w))
+    pub parts_state : State n x y
     parts_state = rw (edges_part, nodes_part) (held_state n w size h small words used)
 
-    pub parts_graph : state_graph n (take (3 + row_words * n - 3) (drop 3 w)) (take (length w - (3 + row_words * n)) (drop (3 + row_words * n) w)) ≡ graph_at (place_in n w)
+    pub parts_graph : state_graph n x y ≡ graph_at (place_in n w)
     parts_graph = ap₂ (state_graph n) edges_part nodes_part ∙ held-graph n w size h small words used
 
-  pub used_parts : {r : Bool} → Words w → get_or w 0 0 ≡ 1
-      → r ≡ (edges_hold n (take (3 + row_words * n - 3) (drop 3 w)) && all (take (length w - (3 + row_words * n)) (drop (3 + row_words * n) w)) (λ x. ltb x word_limit)) → r ≡ place_holds n w
+  pub used_parts : {r : Bool} → Words w → get_or w 0 0 ≡ 1 → r ≡ (edges_hold n x && all y (λ x. ltb x word_limit)) → r ≡ place_holds n w
   used_parts words e k = k ∙ ap₂ (λ (x y : List ℕ). edges_hold n x && all y (λ x. ltb x word_limit)) edges_part nodes_part ∙ used-holds n w size words e
-
-pub part_holds : (n : ℕ) (s : List ℕ) (i a b : ℕ) → a ≡ 1 + place_words n * i → b ≡ 1 + place_words n * (i + 1) → {r : Bool} → r ≡ place_holds n (take (b - a) (drop a s)) → r ≡ place_holds n (words_at n s i)
-part_holds n s i a b begins ends k = k ∙ ap (place_holds n) (part_words n s i a b begins ends)

@@ -1,31 +1,23 @@
 -- `store::drop` meets its contract.
-use native.Mathlib.Omega.{arith}
-use Rattle.model.proofs.StoreLaws.{name-length}
-use Rattle.store.proofs.StoredLaws.{drop_done, drop-judged, drop_refused, drop_unknown, found_below}
+use Rattle.std.proofs.Common.{ℕ, ap, ◌∙◌, refl}
+use Rattle.answers.specs.NumberLaws.{refused_not_0}
+use Rattle.store.specs.Stored.{stored}
+use Rattle.store.proofs.StoredLaws.{drop_done, drop_refused, drop_unknown, found_place, judged, none_refused, refused_as}
 use Rattle.store.proofs.drop.Goals as goal
 
-pub returns-then-number-ne0 : goal.returns-then-number-ne0
-returns-then-number-ne0 c =
-    drop_refused _ _ _ _ c.refusal-number.ensures c.if-number-ne0.true
+pub returns-in_err-kept : goal.returns-in_err-kept
+returns-in_err-kept c =
+    ap (λ (r : ℕ). stored r c.args.store.now) (refused_as _ _ c.from_residual.ensures.1 refl) ∙ drop_refused _ _ _ c.in_err-kept.ensures.number (refused_not_0 _)
 
-pub name_in-requires : goal.name_in-requires
-name_in-requires c =
-    name-length c.args.name.now (drop-judged _ c.args.store.now c.args.name.now _ c.refusal-number.ensures c.if-number-ne0.false).named
-
-pub find-i-requires : goal.find-i-requires
-find-i-requires c =
-    let j = (drop-judged _ c.args.store.now c.args.name.now _ c.refusal-number.ensures c.if-number-ne0.false) in
-    (j.small, omega arith, j.size)
-
-pub returns-then-i-eq-PLACES : goal.returns-then-i-eq-PLACES
-returns-then-i-eq-PLACES c =
-    drop_unknown _ c.args.store.now c.args.name.now _ c.refusal-number.ensures c.if-number-ne0.false (λ i. omega (arith, c.slice_known-1.given i)) _ _ c.name_in.ensures.0 c.name_in.ensures.1 _ c.find-i.ensures c.if-i-eq-PLACES.true
+pub returns-in_err-i : goal.returns-in_err-i
+returns-in_err-i c =
+    ap (λ (r : ℕ). stored r c.args.store.now) (none_refused _ _ _ _ c.from_residual-in_err-i.ensures.1 c.in_err-i.ensures.value refl)
+    ∙ drop_unknown _ _ _ c.in_ok-kept.ensures.number c.in_ok-kept.ensures.same _ c.find.ensures c.in_err-i.ensures.ok_part
 
 pub clear-requires : goal.clear-requires
 clear-requires c =
-    let j = (drop-judged _ c.args.store.now c.args.name.now _ c.refusal-number.ensures c.if-number-ne0.false) in
-    (j.small, found_below _ _ _ j (λ i. omega (arith, c.slice_known-1.given i)) _ _ c.name_in.ensures.0 c.name_in.ensures.1 _ c.find-i.ensures c.if-i-eq-PLACES.false, j.size)
+    let j = judged _ _ _ c.in_ok-kept.ensures.number in
+    record { sized = record { small = j.small; words = j.size }; place = found_place _ _ c.find.ensures c.in_ok-i.ensures.ok_part }
 
 pub returns : goal.returns
-returns c =
-    drop_done _ c.args.store.now c.args.name.now _ c.refusal-number.ensures c.if-number-ne0.false (λ i. omega (arith, c.slice_known-1.given i)) _ _ c.name_in.ensures.0 c.name_in.ensures.1 _ c.find-i.ensures c.if-i-eq-PLACES.false c.clear.ensures
+returns c = drop_done _ _ _ c.in_ok-kept.ensures.number c.in_ok-kept.ensures.same _ c.find.ensures c.in_ok-i.ensures.ok_part c.clear.ensures

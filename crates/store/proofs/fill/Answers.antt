@@ -1,14 +1,13 @@
 -- `store::fill` meets its contract.
-use mathlib.Core.Path.{ap, ◌∙◌}
-use native.Mathlib.Omega.{arith}
+use Rattle.std.proofs.Common.{ap, ◌∙◌, arith}
 use Rattle.model.specs.Tables.{tables_of}
 use Rattle.store.proofs.JudgeLaws.{parts_graph, parts_state}
 use Rattle.store.proofs.fill.Goals as goal
 
 pub restore-requires : goal.restore-requires
 restore-requires c =
-    (c.requires.0, parts_state _ _ c.requires.1 c.requires.2 c.requires.0.small (λ i. omega (arith, c.shared_slice_known-1.given i)) c.requires.3)
+    (c.requires.0, parts_state _ _ c.requires.1 c.split_at.ensures.front c.split_at.ensures.back c.requires.2 c.requires.0.small (λ i. omega (arith, c.type_inv.place i)) c.requires.3)
 
 pub returns : goal.returns
 returns c =
-    c.restore.ensures ∙ ap tables_of (parts_graph _ _ c.requires.1 c.requires.2 c.requires.0.small (λ i. omega (arith, c.shared_slice_known-1.given i)) c.requires.3)
+    c.restore.ensures ∙ ap tables_of (parts_graph _ _ c.requires.1 c.split_at.ensures.front c.split_at.ensures.back c.requires.2 c.requires.0.small (λ i. omega (arith, c.type_inv.place i)) c.requires.3)

@@ -1,11 +1,7 @@
 -- `store::soundness::state_holds` meets its contract.
-use Rattle.buffers.specs.AllLaws.{failed, passed}
-use Rattle.store.proofs.JudgeLaws.{edges_fail, words_tell}
-use Rattle.std.proofs.Common.{ap, not}
+use Rattle.std.proofs.Common.{sym, ◌∙◌}
+use Rattle.store.proofs.JudgeLaws.{words_tell}
 use Rattle.store.proofs.soundness.state_holds.Goals as goal
 
-pub returns-then-not-hold : goal.returns-then-not-hold
-returns-then-not-hold c = edges_fail _ _ _ (failed c.hold.ensures (ap not c.if-not-hold.true))
-
-pub returns : goal.returns
-returns c = words_tell _ _ _ (passed c.hold.ensures (ap not c.if-not-hold.false)) (c.union_of.ensures 9)
+pub returns-then-hold : goal.returns-then-hold
+returns-then-hold c = words_tell _ _ _ (sym c.hold.ensures ∙ c.if-hold.true) (c.union_of.ensures 9)
