@@ -5,31 +5,16 @@ ghost use Rattle.std.specs.Prelude.{◌≡◌, ◌+◌, ◌*◌, ◌≤◌, ◌<
 ghost use Rattle.std.proofs.lemmas.List.Edits.{sets};
 ghost use Rattle.model.specs.Graph.{max_nodes, row_words, node_numbers};
 ghost use Rattle.model.specs.Tables.{node_number};
-ghost use Rattle.model.specs.Queries.{pairs};
+ghost use Rattle.model.specs.Queries.{kind_number, pairs};
+ghost use Rattle.answers.specs.Numbers.{code, kind_told, value_or};
 ghost use Rattle.buffers.specs.Scan.{scan};
 ghost use Rattle.buffers.specs.WordBits.{bits_from};
 ghost use Rattle.buffers.specs.Wrote.{Wrote};
 ghost use Rattle.queries.specs.Query.{Reaches, kind_by, leader_at, led_by, listed, row_nodes, row_told};
 
+use answers::{Kind, Refusal};
 use groups::{LEAST, NEXT, number};
-use rows::Graph;
-
-// A list of nodes that was asked for, beside the result: how many there are, 0 where it is refused.
-#[derive(Clone, Copy)]
-pub struct Listed {
-    pub result: u16,
-    pub count: u16,
-}
-
-// A list that is not told, for a reason with a number.
-pub fn unlisted(number: u16) -> Listed
-    ensures { (result.result ≡ number) × (result.count ≡ 0) }
-{
-    Listed {
-        result: number,
-        count: 0,
-    }
-}
+use tables::Tables;
 
 // How many nodes a row has.
 fn count_row(row: &[u64]) -> usize
@@ -37,8 +22,8 @@ fn count_row(row: &[u64]) -> usize
     ensures { result ≡ length (row_nodes row.now) }
 {
     let mut count = 0;
-    for w in 0..Graph::ROW_WORDS {
-        count += u64::count_ones(row[w]) as usize;
+    for word in row {
+        count += word.count_ones() as usize;
     }
     count
 }
@@ -74,53 +59,49 @@ fn write_row(row: &[u64], least: &[u16], stride: usize, out: &mut [u16])
     ensures { out.new ≡ sets out.old 0 (pairs (leader_at least.now stride) (row_nodes row.now)) }
 {
     let mut to = 0;
-    for w in 0..Graph::ROW_WORDS {
-        to = write_word(row[w], 64 * w, least, stride, out, to);
+    for (w, word) in row.iter().enumerate() {
+        to = write_word(*word, 64 * w, least, stride, out, to);
     }
 }
 
 // The nodes of a row in pairs with the least members of their groups, or 18. `least` has `stride` numbers for each node, of
 // which the first is its least member.
-pub fn list_row(row: &[u64], least: &[u16], stride: usize, out: &mut [u16]) -> Listed
+pub fn list_row(row: &[u64], least: &[u16], stride: usize, out: &mut [u16]) -> Result<u16, Refusal>
     requires { (length row.now ≡ row_words) × Reaches least.now stride (row_nodes row.now) }
-    ensures { listed result.result result.count out.new ≡ row_told row.now least.now stride out.old }
+    ensures { listed (code result) (value_or 0 result) out.new ≡ row_told row.now least.now stride out.old }
 {
     let count = count_row(row);
     if out.len() < 2 * count {
-        return unlisted(18);
+        return Err(Refusal::ShortBuffer);
     }
     write_row(row, least, stride, out);
-    Listed {
-        result: 0,
-        count: count as u16,
-    }
+    Ok(count as u16)
 }
 
 // How many members the group has that l leads.
-pub fn group_size(nodes: &[u16], n: usize, l: usize) -> usize
-    requires { (n ≤ max_nodes) × (length nodes.now ≡ node_numbers * n) }
-    ensures { result ≡ length (scan (led_by nodes.now l) n 0) }
+pub fn group_size(tables: Tables<'_>, l: usize) -> usize
+    ensures { result ≡ length (scan (led_by tables.entry.nodes.now l) tables.entry.n 0) }
 {
     let mut size = 0;
-    for q in 0..n {
-        if number(nodes, q, LEAST) == l {
+    for q in 0..tables.n {
+        if number(tables.nodes, q, LEAST) == l {
             size += 1;
         }
     }
     size
 }
 
-// The kind of the group that l leads: 0 singleton, 1 independent, 2 clique.
-pub fn kind_of(edges: &[u64], nodes: &[u16], n: usize, l: usize) -> u16
-    requires { (n ≤ max_nodes) × (length edges.now ≡ row_words * n) × (length nodes.now ≡ node_numbers * n) × (l < n) × (node_number nodes.now l 1 < n) }
-    ensures { result ≡ kind_by edges.now nodes.now l }
+// The kind of the group that l leads: the member that follows l tells it.
+pub fn kind_of(tables: Tables<'_>, l: usize) -> Kind
+    requires { (l < tables.n) × (node_number tables.nodes.now l 1 < tables.n) }
+    ensures { kind_number (kind_told result) ≡ kind_by tables.entry.edges.now tables.entry.nodes.now l }
 {
-    let next = number(nodes, l, NEXT);
+    let next = number(tables.nodes, l, NEXT);
     if next == l {
-        return 0;
+        return Kind::Singleton;
     }
-    if rows::edge(edges, l, next) {
-        return 2;
+    if rows::edge(tables.edges, l, next) {
+        return Kind::Clique;
     }
-    1
+    Kind::Independent
 }

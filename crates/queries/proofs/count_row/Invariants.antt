@@ -5,8 +5,8 @@ use Rattle.buffers.specs.Scan.{scan, Counting}
 use Rattle.model.specs.Tables.{edge_bit}
 use Rattle.queries.proofs.count_row.Given as goal
 
-abbrev pub invariant-loop-w : goal.invariant-loop-w
-invariant-loop-w l = (l.w ≤ 8) × (l.count ≤ 64 * l.w) × Counting (edge_bit l.row 0) 512 (length (scan (edge_bit l.row 0) 512 0)) l.count (64 * l.w)
+abbrev pub invariant-loop-word : goal.invariant-loop-word
+invariant-loop-word l = (l.word-index ≤ 8) × (l.count ≤ 64 * l.word-index) × Counting (edge_bit l.row 0) 512 (length (scan (edge_bit l.row 0) 512 0)) l.count (64 * l.word-index)
 
-abbrev pub decreases-loop-w : goal.decreases-loop-w
-decreases-loop-w l = 8 - l.w
+abbrev pub decreases-loop-word : goal.decreases-loop-word
+decreases-loop-word l = 8 - l.word-index

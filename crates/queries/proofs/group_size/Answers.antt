@@ -1,12 +1,16 @@
 -- `group_size` meets its contract.
 use native.Mathlib.Omega.{arith}
 use Rattle.buffers.specs.ScanLaws.{counting_start, counting_yes, counting_no, counting_done}
+use Rattle.tables.specs.LentLaws.{held_sized}
 use Rattle.queries.proofs.QueryLaws.{led_yes, led_no}
 use Rattle.queries.proofs.group_size.Goals as goal
 use Rattle.queries.proofs.group_size.Goals.{then-number-l, else-number-l}
 
 pub loop-q-init : goal.loop-q-init
 loop-q-init c = (omega arith, counting_start _ _ _)
+
+pub number-requires : goal.number-requires
+number-requires c = omega (arith, c.loop-q-test.true, (held_sized c.args.tables.held).nodes)
 
 pub loop-q-preserved : goal.loop-q-preserved
 loop-q-preserved c =

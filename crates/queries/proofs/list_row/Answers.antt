@@ -9,9 +9,7 @@ overflow_mul-count c =
     omega arith
 
 pub returns-then-out-count : goal.returns-then-out-count
-returns-then-out-count c =
-    let e = c.unlisted.ensures in
-    rw (e.0, e.1) (row_short _ _ _ _ c.count_row-count.ensures c.if-out-count.true)
+returns-then-out-count c = row_short _ _ _ _ c.count_row-count.ensures c.if-out-count.true
 
 pub overflow_cast-result : goal.overflow_cast-result
 overflow_cast-result c =
