@@ -1,4 +1,4 @@
--- `write_visible` meets its contract.
+-- What is known of lent tables that hold a graph gives what each step asks.
 use mathlib.Core.Path.{refl, ◌∙◌}
 use Prim.Native.Nat.{ℕ}
 use native.Mathlib.Omega.{arith}
@@ -8,19 +8,15 @@ use Rattle.release.specs.ReleaseLaws.{drawn-held, visible_labelled, visible_part
 use Rattle.release.proofs.write_visible.Goals as goal
 
 pub take_numbers-requires : goal.take_numbers-requires
-take_numbers-requires c =
-    let s = held_sized c.requires in
-    (s.small, s.nodes, omega arith, s.small)
+take_numbers-requires c = let s = held_sized c.args.tables.held in (s.small, s.nodes, omega arith, s.small)
 
 pub take_numbers-requires-2 : goal.take_numbers-requires-2
-take_numbers-requires-2 c =
-    let s = held_sized c.requires in
-    (s.small, s.nodes, omega arith, s.small)
+take_numbers-requires-2 c = let s = held_sized c.args.tables.held in (s.small, s.nodes, omega arith, s.small)
 
 pub least_members-requires : goal.least_members-requires
 least_members-requires c =
-    let s = held_sized c.requires in
-    (drawn-held c.requires (omega (arith, length-replicate {A = ℕ} 512 0, s.small)) (omega (arith, length-replicate {A = ℕ} 512 0, s.small)) c.take_numbers.ensures c.take_numbers-2.ensures, s.small)
+    let s = held_sized c.args.tables.held in
+    (drawn-held c.args.tables.held (omega (arith, length-replicate {A = ℕ} 512 0, s.small)) (omega (arith, length-replicate {A = ℕ} 512 0, s.small)) c.take_numbers.ensures c.take_numbers-2.ensures, s.small)
 
 pub write-requires : goal.write-requires
 write-requires c =
