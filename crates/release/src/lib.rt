@@ -43,27 +43,25 @@ fn summarise(
 }
 
 // The least members of the groups of the visible nodes.
-fn least_members(edges: &[u64], hidden: &[u16], classes: &[u16], n: usize, least: &mut [u16])
-    requires { Drawn n edges.now hidden.now classes.now × (n ≤ length least.old) }
-    ensures { Truth (drawn n edges.now hidden.now classes.now) least.new classes.now edges.now }
+fn least_members(edges: &[u64], hidden: &[u16], classes: &[u16], n: usize) -> [u16; Graph::NODES]
+    requires { Drawn n edges.now hidden.now classes.now }
+    ensures { Truth (drawn n edges.now hidden.now classes.now) result classes.now edges.now }
 {
     let mut masked = [0u64; Graph::NODES * Graph::ROW_WORDS];
+    let mut least = [0u16; Graph::NODES];
     let end = Graph::ROW_WORDS * n;
-    summarise(edges, hidden, classes, n, &mut masked[..end], least);
+    summarise(edges, hidden, classes, n, &mut masked[..end], &mut least);
+    least
 }
 
 // The release of the graph that tables hold, if the buffer is long enough.
 fn write_visible(tables: Tables<'_>, out: &mut [u8]) -> Result<Written, Refusal>
     ensures { released_by result out.new ≡ told (graph_of tables.entry.n (lent tables.entry.edges.now tables.entry.nodes.now tables.entry.keys.now)) out.old }
 {
-    let n = tables.n;
-    let mut hidden = [0u16; Graph::NODES];
-    copies::take_numbers(tables.nodes, n, groups::MARK, &mut hidden);
-    let mut classes = [0u16; Graph::NODES];
-    copies::take_numbers(tables.nodes, n, groups::CLASS, &mut classes);
-    let mut least = [0u16; Graph::NODES];
-    least_members(tables.edges, &hidden, &classes, n, &mut least);
-    writer::write(n, &least, &classes, tables.edges, out)
+    let hidden = copies::take_numbers(tables, groups::MARK);
+    let classes = copies::take_numbers(tables, groups::CLASS);
+    let least = least_members(tables.edges, &hidden, &classes, tables.n);
+    writer::write(tables.n, &least, &classes, tables.edges, out)
 }
 
 // The release file of the visible part, and its m, g, s and length.
