@@ -1,5 +1,5 @@
 // Marks and classes taken from a node table, and put into one.
-ghost use Rattle.std.specs.Prelude.{◌≡◌, ℕ, ◌+◌, ◌*◌, ◌≤◌, ◌<◌, get_or, length};
+ghost use Rattle.std.specs.Prelude.{◌≡◌, ℕ, ◌+◌, ◌*◌, ◌≤◌, ◌<◌, get_or, length, replicate};
 ghost use Rattle.model.specs.Graph.{max_nodes, node_numbers};
 ghost use Rattle.model.specs.Tables.{node_number};
 ghost use Rattle.buffers.specs.Filled.{Filled};
@@ -8,25 +8,31 @@ ghost use Rattle.rings.specs.Steps.{LabelsPut};
 ghost use Rattle.release.specs.Fill.{class_for, mark_for};
 
 use rows::Graph;
+use tables::Tables;
 
-// Number k of each node, into a list of their own.
-pub fn take_numbers(nodes: &[u16], n: usize, k: usize, to: &mut [u16])
-    requires { (n ≤ max_nodes) × (length nodes.now ≡ node_numbers * n) × (k < node_numbers) × (n ≤ length to.old) }
-    ensures { Filled (λ p. node_number nodes.now p k) n to.old to.new }
+// Number k of each node, in a list of their own.
+#[tactic(auto, using(tables::specs::LentLaws::held_sized))]
+pub fn take_numbers(tables: Tables<'_>, k: usize) -> [u16; Graph::NODES]
+    requires { k < node_numbers }
+    ensures { Filled (λ p. node_number tables.entry.nodes.now p k) tables.entry.n (replicate max_nodes 0) result }
 {
-    for p in 0..n {
-        to[p] = nodes[Graph::NODE_NUMBERS * p + k];
+    let mut numbers = [0u16; Graph::NODES];
+    for p in 0..tables.n {
+        numbers[p] = tables.nodes[Graph::NODE_NUMBERS * p + k];
     }
+    numbers
 }
 
 // The mark of a node by its first member: 1 for none.
+#[tactic(auto, unfolding(crate::specs::Fill::mark_for))]
 fn mark_for(first: u16) -> u16
     ensures { result ≡ mark_for first }
 {
-    if first == Graph::NONE { 1 } else { 0 }
+    u16::from(first == Graph::NONE)
 }
 
 // The class of a node by its first member, where the group's is told: 0 for none.
+#[tactic(auto, unfolding(crate::specs::Fill::class_for))]
 fn class_for(classes: &[u16], first: u16) -> u16
     requires { (first ≡ no_node → ⊥) → first < length classes.now }
     ensures { result ≡ class_for classes.now first }

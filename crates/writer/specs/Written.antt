@@ -1,13 +1,17 @@
 -- What measuring finds, and what `write` returns and leaves as the model's record.
-use Rattle.std.specs.Prelude.{◌≡◌, List, ℕ, ◌≤◌, take}
-use Rattle.model.specs.Calls.{Released}
+use Rattle.std.specs.Prelude.{◌≡◌, List, ℕ, ◌≤◌, Result, Ok, Err, take}
+use Rattle.model.specs.Calls.{Released, release_refused}
+use Rattle.answers.specs.declared.Refusal.{Refusal}
+use Rattle.answers.specs.Numbers.{number}
 use Rattle.layout.specs.File.{file_groups, file_length, file_nodes, file_superedges, leaders_of}
 use Rattle.layout.specs.Words.{LeaderSet}
 use Rattle.writer.specs.declared.Sizes.{Sizes}
 use Rattle.writer.specs.declared.Written.{Written}
 
-abbrev pub released_by : Written → List ℕ → Released
-released_by r out = record { result = r.result; nodes = r.nodes; groups = r.groups; superedges = r.superedges; bytes = r.bytes; out = out }
+-- a release by its numbers, or by document 01's number for why it is refused
+abbrev pub released_by : Result Written Refusal → List ℕ → Released
+released_by (Ok w) out = record { result = 0; nodes = w.nodes; groups = w.groups; superedges = w.superedges; bytes = w.bytes; out = out }
+released_by (Err refusal) out = release_refused out (number refusal)
 
 -- the leaders stand first in the list, and the numbers are the file's
 pub record SizesTold (n : ℕ) (least edges leaders : List ℕ) (r : Sizes) : Type 0 where

@@ -13,6 +13,7 @@ ghost use Rattle.layout.specs.File.{Ahead, NextLinked, Partition, Rows, chain, f
 ghost use Rattle.layout.specs.Words.{AscendingLeaders, LeaderPlaces, LeaderSet, Rowed, later_word, marked_edge, positions_of};
 ghost use Rattle.writer.specs.Written.{SizesTold, released_by};
 
+use answers::Refusal;
 use rows::Graph;
 
 // The mark, the count and the class before the members of a group.
@@ -21,13 +22,12 @@ const GROUP_HEAD: usize = 6;
 // The greatest node that there can be.
 const LAST: usize = Graph::NODES - 1;
 
-// The two bytes of a mark; the place after them.
-fn put_mark(out: &mut [u8], at: usize, mark: &[u8; 2]) -> usize
+// Two bytes, as those of a mark; the place after them.
+fn put_two(out: &mut [u8], at: usize, bytes: &[u8; 2]) -> usize
     requires { at + 2 ≤ length out.old }
-    ensures { Wrote out.old at (get_or mark.now 0 0 ∷ get_or mark.now 1 0 ∷ []) out.new result }
+    ensures { Wrote out.old at bytes.now out.new result }
 {
-    out[at] = mark[0];
-    out[at + 1] = mark[1];
+    out[at..at + 2].copy_from_slice(bytes);
     at + 2
 }
 
@@ -36,9 +36,7 @@ fn put_u16(out: &mut [u8], at: usize, v: usize) -> usize
     requires { (v < u16_limit) × (at + 2 ≤ length out.old) }
     ensures { Wrote out.old at (u16 v) out.new result }
 {
-    out[at] = (v % 256) as u8;
-    out[at + 1] = (v / 256) as u8;
-    at + 2
+    put_two(out, at, &(v as u16).to_le_bytes())
 }
 
 // The head: nodes n, visible nodes m, groups g.
@@ -46,7 +44,7 @@ fn write_head(out: &mut [u8], at: usize, n: usize, m: usize, g: usize) -> usize
     requires { (n < u16_limit) × (m < u16_limit) × (g < u16_limit) × (at + 8 ≤ length out.old) }
     ensures { Wrote out.old at (head_record n m g) out.new result }
 {
-    let a = put_mark(out, at, b"HD");
+    let a = put_two(out, at, b"HD");
     let b = put_u16(out, a, n);
     let c = put_u16(out, b, m);
     put_u16(out, c, g)
@@ -57,16 +55,16 @@ fn put_group_mark(out: &mut [u8], at: usize, clique: bool) -> usize
     ensures { Wrote out.old at (group_mark clique) out.new result }
 {
     if clique {
-        return put_mark(out, at, b"GC");
+        return put_two(out, at, b"GC");
     }
-    put_mark(out, at, b"GI")
+    put_two(out, at, b"GI")
 }
 
 fn put_superedge(out: &mut [u8], at: usize, i: usize, j: usize) -> usize
     requires { (i < u16_limit) × (j < u16_limit) × (at + 6 ≤ length out.old) }
     ensures { Wrote out.old at (superedge_record (i, j)) out.new result }
 {
-    let a = put_mark(out, at, b"SE");
+    let a = put_two(out, at, b"SE");
     let b = put_u16(out, a, i);
     put_u16(out, b, j)
 }
@@ -138,8 +136,8 @@ fn write_groups(
     ensures { Wrote out.old at (groups_bytes (edge_bit edges.now) classes.now (chain n next.now n) leaders.now) out.new result }
 {
     let mut to = at;
-    for i in 0..leaders.len() {
-        to = write_group(out, to, next, n, classes, edges, rows::wide(leaders[i]));
+    for l in leaders {
+        to = write_group(out, to, next, n, classes, edges, rows::wide(*l));
     }
     to
 }
@@ -235,10 +233,8 @@ fn count_words(edges: &[u64], set: &[u64; Graph::ROW_WORDS], p: usize, from: usi
 {
     let a = Graph::ROW_WORDS * p;
     let mut count: usize = 0;
-    let mut w = from;
-    while w < Graph::ROW_WORDS {
+    for w in from..Graph::ROW_WORDS {
         count = add_ones(count, set[w] & edges[a + w]);
-        w += 1;
     }
     count
 }
@@ -326,8 +322,8 @@ fn positions_of(leaders: &[u16]) -> [u16; Graph::NODES]
     ensures { LeaderPlaces leaders.now result }
 {
     let mut position = [0u16; Graph::NODES];
-    for i in 0..leaders.len() {
-        position[rows::wide(leaders[i])] = i as u16;
+    for (i, l) in leaders.iter().enumerate() {
+        position[rows::wide(*l)] = i as u16;
     }
     position
 }
@@ -338,9 +334,7 @@ fn link(least: &[u16], n: usize, next: &mut [u16])
     ensures { NextLinked n least.now next.new }
 {
     let mut head = [Graph::NONE; Graph::NODES];
-    let mut p = n;
-    while 0 < p {
-        p -= 1;
+    for p in (0..n).rev() {
         let l = rows::wide(least[p]);
         if l < n {
             next[p] = head[l];
@@ -374,12 +368,12 @@ fn write_file(
     let a = write_head(out, 0, n, m, leaders.len());
     let b = write_groups(out, a, &next, n, classes, edges, leaders);
     let c = write_superedges(out, b, edges, leaders, set, &position);
-    put_mark(out, c, b"EN")
+    put_two(out, c, b"EN")
 }
 
 // What is known of a file before its first byte: document 01's m, g and s, the length, and the least members as a set of bits.
 #[derive(Clone, Copy)]
-pub struct Sizes {
+struct Sizes {
     pub nodes: usize,
     pub groups: usize,
     pub superedges: usize,
@@ -405,41 +399,39 @@ fn measure(n: usize, least: &[u16], edges: &[u64], leaders: &mut [u16]) -> Sizes
     }
 }
 
-// What a release returns: the result, then document 01's m, g and s, and the length.
-#[derive(Clone, Copy)]
+// What a release returns: document 01's m, g and s, and the length.
+#[derive(Clone, Copy, Debug, PartialEq, Eq)]
 pub struct Written {
-    pub result: u16,
     pub nodes: u16,
     pub groups: u16,
     pub superedges: u32,
     pub bytes: u32,
 }
 
-// The release file into a lent buffer; 18, and nothing written, if the buffer is too short.
-pub fn write(n: usize, least: &[u16], classes: &[u16], edges: &[u64], out: &mut [u8]) -> Written
+// The release file into a lent buffer; nothing is written if the buffer is too short.
+pub fn write(
+    n: usize,
+    least: &[u16],
+    classes: &[u16],
+    edges: &[u64],
+    out: &mut [u8],
+) -> Result<Written, Refusal>
     requires { Partition n least.now edges.now × (n ≤ length classes.now) }
     ensures { released_by result out.new ≡ written_file n least.now classes.now edges.now out.old }
 {
     let mut leaders = [0u16; Graph::NODES];
     let measured = measure(n, least, edges, &mut leaders);
     if out.len() < measured.bytes {
-        return Written {
-            result: 18,
-            nodes: 0,
-            groups: 0,
-            superedges: 0,
-            bytes: 0,
-        };
+        return Err(Refusal::ShortBuffer);
     }
     let m = measured.nodes;
     let g = measured.groups;
     let set = measured.set;
     write_file(n, m, least, classes, edges, &leaders[..g], &set, out);
-    Written {
-        result: 0,
+    Ok(Written {
         nodes: m as u16,
         groups: g as u16,
         superedges: measured.superedges as u32,
         bytes: measured.bytes as u32,
-    }
+    })
 }

@@ -1,28 +1,29 @@
--- `release::ask_with` meets its contract.
+-- The file is judged first, then p; then the buffer is tested.
 use borrow.Author.Rules.{rules}
-use mathlib.Core.Path.{sym, ◌∙◌}
+use mathlib.Core.Path.{refl, sym, ◌∙◌}
 use native.Mathlib.Omega.{arith}
+use Rattle.std.proofs.lemmas.Result.{err_from_is_err_and}
 use Rattle.release.specs.ReadLaws.{ask_hidden, ask_none, ask_reached, ask_told}
 use Rattle.release.proofs.ask_with.Goals as goal
 
 pub returns-in_default : goal.returns-in_default
-returns-in_default c =
-    let e = c.unlisted.ensures in
-    rw (e.0, e.1) (ask_none _ _ _ c.judge-judged.ensures c.in_default.is)
+returns-in_default c = ask_none _ _ _ c.judge-judged.ensures c.in_default.is
 
-pub is_placed-requires : goal.is_placed-requires
-is_placed-requires c =
+pub find_node-requires : goal.find_node-requires
+find_node-requires c =
     let x = (c.judge-judged.ensures.exact _ c.in-Graph.is).compressed in
     omega (arith, x.small, x.nodes)
 
-pub returns-then-not-is_placed : goal.returns-then-not-is_placed
-returns-then-not-is_placed c =
-    let e = c.unlisted-then-not-is_placed.ensures in
-    rw (e.0, e.1) (ask_hidden _ _ _ c.judge-judged.ensures _ c.in-Graph.is c.is_placed.ensures c.if-not-is_placed.true)
+pub returns-in_err-node : goal.returns-in_err-node
+returns-in_err-node c =
+    let p = err_from_is_err_and c.from_residual.result c.from_residual.ensures.1 in
+    let h = c.in_err-node.ensures.hidden in
+    rw (p.1, p.2, h.0) (ask_hidden _ _ _ c.judge-judged.ensures _ c.in-Graph.is refl h.1)
 
 pub neighbour_row-row-requires : goal.neighbour_row-row-requires
 neighbour_row-row-requires c =
-    ((c.judge-judged.ensures.exact _ c.in-Graph.is).compressed, sym c.is_placed.ensures ∙ c.if-not-is_placed.false)
+    let f = c.in_ok-node.ensures.found in
+    ((c.judge-judged.ensures.exact _ c.in-Graph.is).compressed, rw f.0 f.1)
 
 pub list_row-requires : goal.list_row-requires
 list_row-requires c =
@@ -30,4 +31,5 @@ list_row-requires c =
 
 pub returns : goal.returns
 returns c =
-    c.list_row.ensures ∙ ask_told _ _ _ c.judge-judged.ensures _ c.in-Graph.is c.is_placed.ensures c.if-not-is_placed.false c.neighbour_row-row.ensures
+    let f = c.in_ok-node.ensures.found in
+    c.list_row.ensures ∙ ask_told _ _ _ c.judge-judged.ensures _ c.in-Graph.is refl f.1 (rw f.0 at c.neighbour_row-row.ensures)

@@ -1,44 +1,43 @@
--- `release::measure_with` meets its contract.
-use mathlib.Core.Path.{sym, ◌∙◌}
+-- The file is judged first, then p, then q.
+use mathlib.Core.Path.{refl}
 use native.Mathlib.Omega.{arith}
+use Rattle.std.proofs.lemmas.Result.{err_from_is_err_and}
 use Rattle.release.specs.ReadLaws.{measure_done, measure_first, measure_none, measure_second}
 use Rattle.release.proofs.measure_with.Goals as goal
 
 pub returns-in_default : goal.returns-in_default
-returns-in_default c =
-    let e = c.unmeasured.ensures in
-    rw (e.0, e.1) (measure_none _ _ _ c.judge-judged.ensures c.in_default.is)
+returns-in_default c = measure_none _ _ _ c.judge-judged.ensures c.in_default.is
 
-pub is_placed-requires : goal.is_placed-requires
-is_placed-requires c =
+pub find_node-requires : goal.find_node-requires
+find_node-requires c =
     let x = (c.judge-judged.ensures.exact _ c.in-Graph.is).compressed in
     omega (arith, x.small, x.nodes)
 
-pub returns-then-not-is_placed : goal.returns-then-not-is_placed
-returns-then-not-is_placed c =
-    let e = c.unmeasured-then-not-is_placed.ensures in
-    rw (e.0, e.1) (measure_first _ _ _ c.judge-judged.ensures _ c.in-Graph.is c.is_placed.ensures c.if-not-is_placed.true)
+pub returns-in_err-from : goal.returns-in_err-from
+returns-in_err-from c =
+    let p = err_from_is_err_and c.from_residual.result c.from_residual.ensures.1 in
+    let h = c.in_err-from.ensures.hidden in
+    rw (p.1, p.2, h.0) (measure_first _ _ _ c.judge-judged.ensures _ c.in-Graph.is refl h.1)
 
-pub is_placed-requires-2 : goal.is_placed-requires-2
-is_placed-requires-2 c =
+pub find_node-requires-2 : goal.find_node-requires-2
+find_node-requires-2 c =
     let x = (c.judge-judged.ensures.exact _ c.in-Graph.is).compressed in
     omega (arith, x.small, x.nodes)
 
-pub returns-then-not-is_placed-2 : goal.returns-then-not-is_placed-2
-returns-then-not-is_placed-2 c =
-    let e = c.unmeasured-then-not-is_placed-2.ensures in
-    rw (e.0, e.1) (measure_second _ _ _ c.judge-judged.ensures _ c.in-Graph.is c.is_placed-2.ensures c.if-not-is_placed-2.true)
+pub returns-in_err-to : goal.returns-in_err-to
+returns-in_err-to c =
+    let p = err_from_is_err_and c.from_residual-in_err-to.result c.from_residual-in_err-to.ensures.1 in
+    let h = c.in_err-to.ensures.hidden in
+    rw (p.1, p.2, h.0) (measure_second _ _ _ c.judge-judged.ensures _ c.in-Graph.is refl h.1)
 
-pub distance-distance-requires : goal.distance-distance-requires
-distance-distance-requires c = (
-  (c.judge-judged.ensures.exact _ c.in-Graph.is).compressed,
-  sym c.is_placed.ensures ∙ c.if-not-is_placed.false,
-  sym c.is_placed-2.ensures ∙ c.if-not-is_placed-2.false,
-)
+pub distance-requires : goal.distance-requires
+distance-requires c =
+    let f = c.in_ok-from.ensures.found in
+    let t = c.in_ok-to.ensures.found in
+    ((c.judge-judged.ensures.exact _ c.in-Graph.is).compressed, rw f.0 f.1, rw t.0 t.1)
 
 pub returns : goal.returns
 returns c =
-    measure_done _ _ _ c.judge-judged.ensures _ c.in-Graph.is
-    (sym c.is_placed.ensures ∙ c.if-not-is_placed.false)
-    (sym c.is_placed-2.ensures ∙ c.if-not-is_placed-2.false)
-    c.distance-distance.ensures
+    let f = c.in_ok-from.ensures.found in
+    let t = c.in_ok-to.ensures.found in
+    measure_done _ _ _ c.judge-judged.ensures _ c.in-Graph.is f.1 t.1 (rw (f.0, t.0) at c.distance.ensures)

@@ -6,7 +6,4 @@ use Rattle.layout.specs.Words.{marked_edge}
 use Rattle.writer.proofs.count_words.Given as goal
 
 abbrev pub invariant-loop-w : goal.invariant-loop-w
-invariant-loop-w l = (l.w ≤ 8) × Counting (marked_edge l.edges l.set l.p) 512 (length (scan (marked_edge l.edges l.set l.p) 512 (64 * l.from))) l.count (64 * l.w)
-
-abbrev pub decreases-loop-w : goal.decreases-loop-w
-decreases-loop-w l = 8 - l.w
+invariant-loop-w l = Counting (marked_edge l.edges l.set l.p) 512 (length (scan (marked_edge l.edges l.set l.p) 512 (64 * l.from))) l.count (64 * l.w)

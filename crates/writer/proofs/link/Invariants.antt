@@ -6,6 +6,3 @@ use Rattle.writer.proofs.link.Given as goal
 
 abbrev pub invariant-loop-p : goal.invariant-loop-p
 invariant-loop-p l = Linking l.n l.least l.head l.next l.p × (length l.next ≡ length l.initial.next)
-
-abbrev pub decreases-loop-p : goal.decreases-loop-p
-decreases-loop-p l = l.p

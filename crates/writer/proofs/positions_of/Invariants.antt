@@ -5,4 +5,4 @@ use Rattle.layout.specs.WordLaws.{Placing}
 use Rattle.writer.proofs.positions_of.Given as goal
 
 abbrev pub invariant-loop-i : goal.invariant-loop-i
-invariant-loop-i l = (l.i ≤ length l.leaders) × Placing l.leaders l.position l.i
+invariant-loop-i l = Placing l.leaders l.position l.i

@@ -1,11 +1,11 @@
 -- The low byte, then the high byte.
-use native.Mathlib.Omega.{arith}
-use lib.ListN.{length-set}
-use Rattle.layout.specs.FileLaws.{wrote_u16}
+use Rattle.std.specs.Prelude.{◌≡◌, ◌/◌, ◌%◌}
+use Rattle.std.proofs.Common.{arith}
+use Rattle.model.specs.Release.{u16}
 use Rattle.writer.proofs.put_u16.Goals as goal
 
-pub bounds-out-at-2 : goal.bounds-out-at-2
-bounds-out-at-2 c = simp length-set (omega arith)
-
 pub returns : goal.returns
-returns c = wrote_u16 _ _ _
+unfolding u16
+returns c =
+    let high : c.args.v / 256 % 256 ≡ c.args.v / 256 = omega arith in
+    rw high at (rw c.to_le_bytes.ensures at c.put_two.ensures)

@@ -18,8 +18,8 @@ write_groups-b-requires c = record { ahead = linked_ahead _ _ _ c.requires.parti
 pub write_superedges-c-requires : goal.write_superedges-c-requires
 write_superedges-c-requires c = record { rowed = rowed_of (rows_of c.requires.partition.0 c.requires.leaders_value.0); leader_set = (c.requires.leaders_value.1, c.positions_of-position.ensures); leaders_in_bounds = room_super _ _ _ _ _ _ c.requires.partition.0 c.link.ensures c.requires.leaders_value.0 _ c.requires.edges_in_bounds _ _ c.write_head-a.ensures c.write_groups-b.ensures }
 
-pub put_mark-requires : goal.put_mark-requires
-put_mark-requires c = room_end _ _ _ _ _ _ c.requires.partition.0 c.link.ensures c.requires.leaders_value.0 _ c.requires.edges_in_bounds _ _ c.write_head-a.ensures c.write_groups-b.ensures c.write_superedges-c.ensures
+pub put_two-requires : goal.put_two-requires
+put_two-requires c = room_end _ _ _ _ _ _ c.requires.partition.0 c.link.ensures c.requires.leaders_value.0 _ c.requires.edges_in_bounds _ _ c.write_head-a.ensures c.write_groups-b.ensures c.write_superedges-c.ensures
 
 pub returns : goal.returns
-returns c = wrote_file _ _ _ _ _ _ c.requires.partition.0 c.link.ensures c.requires.leaders_value.0 _ c.requires.edges_in_bounds _ _ c.write_head-a.ensures c.write_groups-b.ensures c.write_superedges-c.ensures c.requires.m_value refl c.put_mark.ensures
+returns c = wrote_file _ _ _ _ _ _ c.requires.partition.0 c.link.ensures c.requires.leaders_value.0 _ c.requires.edges_in_bounds _ _ c.write_head-a.ensures c.write_groups-b.ensures c.write_superedges-c.ensures c.requires.m_value refl c.put_two.ensures

@@ -6,18 +6,18 @@ use Rattle.buffers.specs.ScanLaws.{flat_end}
 use Rattle.buffers.specs.WroteLaws.{left_done, left_start}
 use Rattle.writer.proofs.write_groups.Goals as goal
 
-pub loop-i-init : goal.loop-i-init
+pub loop-l-init : goal.loop-l-init
 unfolding groups_bytes
-loop-i-init c = left_start _ _ _
+loop-l-init c = left_start _ _ _
 
 pub write_group-to-requires : goal.write_group-to-requires
-write_group-to-requires c = record { ahead = c.requires.ahead; l_lt_n = (omega (arith, c.wide.ensures, c.requires.rows.0.below c.loop-i.i c.loop-i-test.true), c.requires.rows.0.rows, c.requires.rows.1); l_in_bounds = rw c.wide.ensures (flat_room _ _ _ c.loop-i.invariant c.requires.leaders_in_bounds c.loop-i-test.true) }
+write_group-to-requires c = record { ahead = c.requires.ahead; l_lt_n = (omega (arith, c.wide.ensures, c.requires.rows.0.below c.loop-l.l-index c.loop-l-test.true), c.requires.rows.0.rows, c.requires.rows.1); l_in_bounds = rw c.wide.ensures (flat_room _ _ _ c.loop-l.invariant c.requires.leaders_in_bounds c.loop-l-test.true) }
 
-pub loop-i-preserved : goal.loop-i-preserved
-loop-i-preserved c = flat_more _ _ _ c.loop-i.invariant c.loop-i-test.true (rw c.wide.ensures at c.write_group-to.ensures)
+pub loop-l-preserved : goal.loop-l-preserved
+loop-l-preserved c = flat_more _ _ _ c.loop-l.invariant c.loop-l-test.true (rw c.wide.ensures at c.write_group-to.ensures)
 
 pub shape_of-out : goal.shape_of-out
-shape_of-out c = c.loop-i.invariant.size
+shape_of-out c = c.loop-l.invariant.size
 
 pub returns : goal.returns
-returns c = left_done c.loop-i.invariant (flat_end _ _ _ c.loop-i-test.false)
+returns c = left_done c.loop-l.invariant (flat_end _ _ _ c.loop-l-test.false)

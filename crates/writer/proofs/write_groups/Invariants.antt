@@ -6,5 +6,5 @@ use Rattle.buffers.specs.Scan.{flat}
 use Rattle.buffers.specs.Wrote.{Left}
 use Rattle.writer.proofs.write_groups.Given as goal
 
-abbrev pub invariant-loop-i : goal.invariant-loop-i
-invariant-loop-i l = Left l.initial.out l.at (groups_bytes (edge_bit l.edges) l.classes (chain l.n l.next l.n) l.leaders) l.out l.to (flat (λ i'. group_bytes (edge_bit l.edges) l.classes (chain l.n l.next l.n (get_or l.leaders i' 0))) (length l.leaders) l.i)
+abbrev pub invariant-loop-l : goal.invariant-loop-l
+invariant-loop-l l = Left l.initial.out l.at (groups_bytes (edge_bit l.edges) l.classes (chain l.n l.next l.n) l.leaders) l.out l.to (flat (λ i'. group_bytes (edge_bit l.edges) l.classes (chain l.n l.next l.n (get_or l.leaders i' 0))) (length l.leaders) l.l-index)

@@ -13,4 +13,4 @@ unfolding u16
 put_u16-requires c = search rules
 
 pub returns : goal.returns
-returns c = wrote_head _ _ _ c.put_mark-a.ensures c.put_u16-b.ensures c.put_u16-c.ensures c.put_u16.ensures
+returns c = wrote_head _ _ _ c.put_two-a.ensures c.put_u16-b.ensures c.put_u16-c.ensures c.put_u16.ensures

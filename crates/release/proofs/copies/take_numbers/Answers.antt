@@ -1,18 +1,10 @@
--- `take_numbers` meets its contract.
-use native.Mathlib.Omega.{arith}
-use mathlib.Core.Path.{refl}
+-- One node's number more.
+use Rattle.std.proofs.Common.{refl, arith, ℕ}
+use Rattle.std.proofs.lemmas.List.{length-replicate}
 use Rattle.model.specs.Tables.{node_number}
-use Rattle.buffers.specs.FilledLaws.{filled-all, filled_more, filled_none}
+use Rattle.buffers.specs.FilledLaws.{filled_more}
+use Rattle.tables.specs.LentLaws.{held_sized}
 use Rattle.release.proofs.copies.take_numbers.Goals as goal
 
-pub loop-p-init : goal.loop-p-init
-loop-p-init c = (filled_none _ _, omega arith)
-
 pub loop-p-preserved : goal.loop-p-preserved
-loop-p-preserved c = (filled_more c.loop-p.invariant.0 (omega arith) (unfold node_number in refl), omega arith)
-
-pub shape_of-to : goal.shape_of-to
-shape_of-to c = c.loop-p.invariant.0.size
-
-pub returns : goal.returns
-returns c = filled-all c.loop-p.invariant.0 c.loop-p-test.false
+loop-p-preserved c = filled_more c.loop-p.invariant (omega (arith, length-replicate {A = ℕ} 512 0, (held_sized c.args.tables.held).small)) (unfold node_number in refl)

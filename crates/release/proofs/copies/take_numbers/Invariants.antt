@@ -1,11 +1,8 @@
--- `take_numbers` meets its contract.
-use Prim.Native.Nat.{◌-◌, ◌≤◌}
+-- The numbers of the nodes below p are taken.
+use Rattle.std.proofs.Common.{replicate}
 use Rattle.model.specs.Tables.{node_number}
 use Rattle.buffers.specs.Filled.{Filled}
 use Rattle.release.proofs.copies.take_numbers.Given as goal
 
 abbrev pub invariant-loop-p : goal.invariant-loop-p
-invariant-loop-p l = Filled (λ q. node_number l.nodes q l.k) l.p l.initial.to l.to × (l.p ≤ l.n)
-
-abbrev pub decreases-loop-p : goal.decreases-loop-p
-decreases-loop-p l = l.n - l.p
+invariant-loop-p l = Filled (λ q. node_number l.tables.nodes.now q l.k) l.p (replicate 512 0) l.numbers
