@@ -1,5 +1,5 @@
 -- Laws of superedges drawn one way, then mirrored.
-use Rattle.std.specs.Prelude.{◌≡◌, refl, Bool, ◌&&◌, ◌||◌, ◌⊎◌, ℕ, zero, suc, ◌+◌, ◌*◌, ◌/◌, ◌%◌, ◌≤◌, ◌<◌, leb, ltb, length, get_or, drop, replicate}
+use Rattle.std.specs.Prelude.{◌≡◌, refl, Bool, ◌&&◌, ◌||◌, ◌⊎◌, ℕ, zero, suc, ◌+◌, ◌*◌, ◌/◌, ◌%◌, ◌≤◌, ◌<◌, leb, ltb, length, get_or, drop, replicate, Some}
 use Rattle.std.proofs.Common.{sym, ap, ap₂, ◌∙◌, inl, inr, mul-le-mul, arith}
 use Rattle.std.proofs.Math.Bool.{true, false, and_comm, or-false}
 use mathlib.Core.List.{List, [], ◌∷◌}
@@ -66,7 +66,7 @@ drawn_lower n g s firsts up (suc k) last at a b t =
         let y = eqb-true b (get_or firsts i 0) (and_snd (eqb a (get_or firsts j 0)) (eqb b (get_or firsts i 0)) v) in
         (omega (arith, up.order i j (ordered_first g last i j f) (ordered_second g last i j f)), omega (arith, up.small j (ordered_second g last i j f)))
 
-    goes : (i j : ℕ) → item_in (drop at s) ≡ Superedge i j → follows g last i j ≡ true → (drawn_by false firsts (pairs_to g s (pair_key i j) k (at + 6)) a b ≡ true → (b < a) × (a < n)) → (b < a) × (a < n)
+    goes : (i j : ℕ) → item_in (drop at s) ≡ Some (Superedge i j) → follows g last i j ≡ true → (drawn_by false firsts (pairs_to g s (pair_key i j) k (at + 6)) a b ≡ true → (b < a) × (a < n)) → (b < a) × (a < n)
     goes i j e f rest = by (or_cases (pair_bits false (get_or firsts i 0) (get_or firsts j 0) a b) (drawn_by false firsts (pairs_to g s (pair_key i j) k (at + 6)) a b) here)
       where
         here : (pair_bits false (get_or firsts i 0) (get_or firsts j 0) a b || drawn_by false firsts (pairs_to g s (pair_key i j) k (at + 6)) a b) ≡ true

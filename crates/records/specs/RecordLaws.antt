@@ -160,6 +160,15 @@ module _ (s : List ℕ) (at : ℕ) (r : Read) (read : Some r ≡ record_at s at)
   pub fits_at : (i : Record) → r.item ≡ i → Fits (drop at s) (Some i)
   fits_at i e = subst (Fits (drop at s)) (both.0 ∙ ap Some e) (item_fits (drop at s))
 
+-- no record at a place
+pub none_in : (s : List ℕ) (at : ℕ) → None ≡ record_at s at → None ≡ item_in (drop at s)
+unfolding record_at
+none_in s at read = by (item_in (drop at s)) read
+  where
+    by : (o : Option Record) → None ≡ option_map (read_as at) o → None ≡ o
+    by None e = refl
+    by (Some i) e = absurd (none-some (read_as at i) e)
+
 -- a superedge from a group: six bytes, the mark and the group
 from_first : (i a j : ℕ) → is_from i (Some (Superedge a j)) ≡ true → a ≡ i
 unfolding is_from
