@@ -363,6 +363,10 @@ module _ (n : ℕ) (f : ℕ → Bool) (low : ℕ) (c : Counts) (s : List ℕ) (a
       by-item (Some End) g k = absurd (none-some a k)
       by-item None g k = absurd (none-some a k)
 
+-- its first member is a node
+pub taken-first : (n low : ℕ) (c : Counts) (s : List ℕ) (at : ℕ) (t after : List ℕ) (a : Taken) → GroupTaken n low c s at t after (Some a) → a.first < n
+taken-first n low c s at t after a got = let told = taken-told n (taken t) low c s at a (sym got.result) in (told.free a.first told.listed).0
+
 -- only which nodes of the graph are taken counts
 module _ (n : ℕ) where
   abbrev Alike : (ℕ → Bool) → (ℕ → Bool) → Type 0

@@ -1,7 +1,7 @@
 // A release file read record by record into the groups and superedges that it tells.
 #![tactic(auto)]
 
-ghost use Rattle.std.specs.Prelude.{◌≡◌, ◌+◌, ◌*◌, ◌≤◌, ◌<◌, length, replicate};
+ghost use Rattle.std.specs.Prelude.{◌≡◌, ◌+◌, ◌*◌, ◌≤◌, ◌<◌, IfSome, length, replicate};
 ghost use Rattle.model.specs.Graph.{max_nodes, row_words};
 ghost use Rattle.rows.specs.Rows.{no_node};
 ghost use Rattle.compressed.specs.Compressed.{kind_marked, single};
@@ -12,7 +12,7 @@ ghost use Rattle.sums.specs.Joined.{SumsAdded};
 ghost use Rattle.sums.specs.Sums.{FirstsAreNodes};
 ghost use Rattle.reader.specs.Decoding.{AfterHead, Blank, BodyRead, Decodes, FirstsAscend, FirstsPlaced, GroupTaken, GroupsRead, JoinedRead, MembersRead, RunRead, SumsKept, SuperedgesRead, counts_fit, ends_at, is_few, least_count, nodes_in, numbers_at, pair_adds};
 
-use compressed::{CLIQUE, INDEPENDENT, SINGLE};
+use compressed::{CLIQUE, Groups, INDEPENDENT, SINGLE};
 use records::{Counts, Record};
 use rows::Graph;
 
@@ -93,7 +93,8 @@ fn take_group(
     least: &mut [u16],
 ) -> Option<Taken>
     requires { (n ≤ max_nodes) × (n ≤ length least.old) }
-    ensures { GroupTaken n low counts file.now at least.old least.new result }
+    ensures taken { GroupTaken n low counts file.now at least.old least.new result }
+    ensures first { IfSome result (λ group. group.first < n) }
 {
     let read = records::record_at(file, at)?;
     let Record::Group {
@@ -133,29 +134,27 @@ struct Rest {
     left: Counts,
 }
 
-// The groups of a file, by ascending first members.
+// The groups of a file, as many as there is room for their first members, which ascend.
 fn read_groups(
     file: &[u8],
     from: usize,
     n: usize,
-    g: usize,
     counts: Counts,
-    least: &mut [u16],
+    groups: &mut Groups,
     firsts: &mut [u16],
-    kinds: &mut [u16],
-    classes: &mut [u16],
 ) -> Option<Rest>
-    requires { (n ≤ max_nodes) × (g ≤ max_nodes) × (g ≤ length firsts.old) × (least.old ≡ replicate max_nodes no_node) × (kinds.old ≡ replicate max_nodes single) × (classes.old ≡ replicate max_nodes 0) }
-    ensures { GroupsRead n g counts file.now from least.new firsts.old firsts.new kinds.new classes.new result }
+    requires { (n ≤ max_nodes) × (length firsts.old ≤ max_nodes) × (groups.old.least ≡ replicate max_nodes no_node) × (groups.old.kinds ≡ replicate max_nodes single) × (groups.old.classes ≡ replicate max_nodes 0) }
+    ensures read { GroupsRead n (length firsts.old) counts file.now from groups.new.least firsts.old firsts.new groups.new.kinds groups.new.classes result }
+    ensures sums { groups.new.sums ≡ groups.old.sums }
 {
     let mut at = from;
     let mut low = 0;
     let mut left = counts;
-    for i in 0..g {
-        let group = take_group(file, at, n, low, left, least)?;
-        kinds[group.first] = group.kind;
-        classes[group.first] = group.class;
-        firsts[i] = group.first as u16;
+    for first in firsts {
+        let group = take_group(file, at, n, low, left, &mut groups.least)?;
+        groups.kinds[group.first] = group.kind;
+        groups.classes[group.first] = group.class;
+        *first = group.first as u16;
         low = group.first + 1;
         at = group.next;
         left = group.left;
@@ -180,15 +179,14 @@ fn join(joined: &mut [u64], sums: &mut [u32], p: usize, q: usize, few: bool)
 fn read_run(
     file: &[u8],
     from: usize,
-    g: usize,
     i: usize,
     few: bool,
     firsts: &[u16],
     joined: &mut [u64],
     sums: &mut [u32],
 ) -> usize
-    requires { FirstsPlaced g (length joined.old) firsts.now × (i < g) × (length sums.old ≡ 2 * max_nodes) }
-    ensures { RunRead g i few file.now from firsts.now joined.old joined.new sums.old sums.new result }
+    requires { FirstsPlaced (length firsts.now) (length joined.old) firsts.now × (i < length firsts.now) × (length sums.old ≡ 2 * max_nodes) }
+    ensures { RunRead (length firsts.now) i few file.now from firsts.now joined.old joined.new sums.old sums.new result }
 {
     let p = rows::wide(firsts[i]);
     let mut at = from;
@@ -201,7 +199,7 @@ fn read_run(
         if j <= last {
             return at;
         }
-        if j >= g {
+        if j >= firsts.len() {
             return at;
         }
         join(joined, sums, p, rows::wide(firsts[j]), few);
@@ -215,18 +213,17 @@ fn read_run(
 fn read_superedges(
     file: &[u8],
     from: usize,
-    g: usize,
     few: bool,
     firsts: &[u16],
     joined: &mut [u64],
     sums: &mut [u32],
 ) -> usize
-    requires { FirstsPlaced g (length joined.old) firsts.now × (length sums.old ≡ 2 * max_nodes) }
-    ensures { SuperedgesRead g few file.now from firsts.now joined.old joined.new sums.old sums.new result }
+    requires { FirstsPlaced (length firsts.now) (length joined.old) firsts.now × (length sums.old ≡ 2 * max_nodes) }
+    ensures { SuperedgesRead (length firsts.now) few file.now from firsts.now joined.old joined.new sums.old sums.new result }
 {
     let mut at = from;
-    for i in 0..g {
-        at = read_run(file, at, g, i, few, firsts, joined, sums);
+    for i in 0..firsts.len() {
+        at = read_run(file, at, i, few, firsts, joined, sums);
     }
     at
 }
@@ -245,21 +242,20 @@ fn read_joined(
     file: &[u8],
     from: usize,
     n: usize,
-    g: usize,
     least: &[u16],
     firsts: &[u16],
     joined: &mut [u64],
     sums: &mut [u32],
 ) -> usize
-    requires firsts_are_nodes { FirstsAreNodes n least.now × FirstsPlaced g (length joined.old) firsts.now × FirstsAscend n g firsts.now }
+    requires firsts_are_nodes { FirstsAreNodes n least.now × FirstsPlaced (length firsts.now) (length joined.old) firsts.now × FirstsAscend n (length firsts.now) firsts.now }
     requires joined_value { (joined.old ≡ replicate (length joined.old) 0) × StripsFor n (length joined.old) × (sums.old ≡ replicate (2 * max_nodes) 0) }
-    ensures { JoinedRead n g file.now from least.now firsts.now joined.old joined.new sums.new result }
+    ensures { JoinedRead n (length firsts.now) file.now from least.now firsts.now joined.old joined.new sums.new result }
 {
     if are_few(file.len(), n) {
         sums::sum_groups(least, n, sums);
-        return read_superedges(file, from, g, true, firsts, joined, sums);
+        return read_superedges(file, from, true, firsts, joined, sums);
     }
-    let at = read_superedges(file, from, g, false, firsts, joined, sums);
+    let at = read_superedges(file, from, false, firsts, joined, sums);
     mirroring::mirror(joined, n);
     at
 }
@@ -293,34 +289,30 @@ fn read_body(
     n: usize,
     m: usize,
     g: usize,
-    least: &mut [u16],
-    kinds: &mut [u16],
-    classes: &mut [u16],
+    groups: &mut Groups,
     joined: &mut [u64],
-    sums: &mut [u32],
 ) -> bool
-    requires { (from ≡ 8) × (n ≤ max_nodes) × (g ≤ max_nodes) × Blank file.now least.old kinds.old classes.old joined.old × StripsFor n (length joined.old) × (sums.old ≡ replicate (2 * max_nodes) 0) }
-    ensures { BodyRead file.now n m g least.new kinds.new classes.new joined.new sums.new result }
+    requires { (from ≡ 8) × (n ≤ max_nodes) × (g ≤ max_nodes) × Blank file.now groups.old.least groups.old.kinds groups.old.classes joined.old × StripsFor n (length joined.old) × (groups.old.sums ≡ replicate (2 * max_nodes) 0) }
+    ensures { BodyRead file.now n m g groups.new.least groups.new.kinds groups.new.classes joined.new groups.new.sums result }
 {
-    let mut firsts = [0u16; Graph::NODES];
+    let mut room = [0u16; Graph::NODES];
+    let firsts = &mut room[..g];
     let counts = Counts {
         members: m,
         groups: g,
     };
-    let Some(rest) = read_groups(
-        file,
-        from,
-        n,
-        g,
-        counts,
-        least,
-        &mut firsts,
-        kinds,
-        classes,
-    ) else {
+    let Some(rest) = read_groups(file, from, n, counts, groups, firsts) else {
         return false;
     };
-    let at = read_joined(file, rest.next, n, g, least, &firsts, joined, sums);
+    let at = read_joined(
+        file,
+        rest.next,
+        n,
+        &groups.least,
+        firsts,
+        joined,
+        &mut groups.sums,
+    );
     is_end(file, at, rest.left)
 }
 
@@ -329,28 +321,23 @@ fn graph_at(
     file: &[u8],
     at: usize,
     head: Record,
-    least: &mut [u16],
-    kinds: &mut [u16],
-    classes: &mut [u16],
+    groups: &mut Groups,
     joined: &mut [u64],
-    sums: &mut [u32],
 ) -> Option<usize>
-    requires { AfterHead file.now at head × (Blank file.now least.old kinds.old classes.old joined.old × (sums.old ≡ replicate (2 * max_nodes) 0)) }
-    ensures decodes { Decodes file.now least.new kinds.new classes.new joined.new result }
-    ensures sums_kept { SumsKept file.now least.new joined.new sums.new }
+    requires { AfterHead file.now at head × (Blank file.now groups.old.least groups.old.kinds groups.old.classes joined.old × (groups.old.sums ≡ replicate (2 * max_nodes) 0)) }
+    ensures decodes { Decodes file.now groups.new.least groups.new.kinds groups.new.classes joined.new result }
+    ensures sums_kept { SumsKept file.now groups.new.least joined.new groups.new.sums }
 {
     let Record::Head { n, m, g } = head else {
         return None;
     };
     let nodes = usize::from(n);
     let visible = usize::from(m);
-    let groups = usize::from(g);
-    if !head_fits(nodes, visible, groups) {
+    let count = usize::from(g);
+    if !head_fits(nodes, visible, count) {
         return None;
     }
-    if !read_body(
-        file, at, nodes, visible, groups, least, kinds, classes, joined, sums,
-    ) {
+    if !read_body(file, at, nodes, visible, count, groups, joined) {
         return None;
     }
     Some(nodes)
@@ -391,22 +378,12 @@ impl<'a> Reader<'a> {
 
 impl<'a> Reader<'a> {
     // How many nodes the graph of the file has whose head was just read; none if the bytes are no release.
-    fn graph(
-        self,
-        head: Record,
-        least: &mut [u16],
-        kinds: &mut [u16],
-        classes: &mut [u16],
-        joined: &mut [u64],
-        sums: &mut [u32],
-    ) -> Option<usize>
-        requires { AfterHead self.file.now self.at head × (Blank self.file.now least.old kinds.old classes.old joined.old × (sums.old ≡ replicate (2 * max_nodes) 0)) }
-        ensures decodes { Decodes self.entry.file.now least.new kinds.new classes.new joined.new result }
-        ensures sums_kept { SumsKept self.entry.file.now least.new joined.new sums.new }
+    fn graph(self, head: Record, groups: &mut Groups, joined: &mut [u64]) -> Option<usize>
+        requires { AfterHead self.file.now self.at head × (Blank self.file.now groups.old.least groups.old.kinds groups.old.classes joined.old × (groups.old.sums ≡ replicate (2 * max_nodes) 0)) }
+        ensures decodes { Decodes self.entry.file.now groups.new.least groups.new.kinds groups.new.classes joined.new result }
+        ensures sums_kept { SumsKept self.entry.file.now groups.new.least joined.new groups.new.sums }
     {
-        graph_at(
-            self.file, self.at, head, least, kinds, classes, joined, sums,
-        )
+        graph_at(self.file, self.at, head, groups, joined)
     }
 }
 
@@ -421,22 +398,13 @@ pub fn nodes_in(file: &[u8]) -> usize
     records::node_at(file, 2)
 }
 
-// A release file read into the lent arrays, in which no node has a group, a kind, a class, a bit or a sum before: how many nodes its graph has, or none if the bytes are no release.
-pub fn decode(
-    file: &[u8],
-    least: &mut [u16],
-    kinds: &mut [u16],
-    classes: &mut [u16],
-    joined: &mut [u64],
-    sums: &mut [u32],
-) -> Option<usize>
-    requires { Blank file.now least.old kinds.old classes.old joined.old × (sums.old ≡ replicate (2 * max_nodes) 0) }
-    ensures decodes { Decodes file.now least.new kinds.new classes.new joined.new result }
-    ensures sums_kept { SumsKept file.now least.new joined.new sums.new }
+// A release file read into blank groups and rows without a bit: how many nodes its graph has, or none if the bytes are no release.
+pub fn decode(file: &[u8], groups: &mut Groups, joined: &mut [u64]) -> Option<usize>
+    requires { Blank file.now groups.old.least groups.old.kinds groups.old.classes joined.old × (groups.old.sums ≡ replicate (2 * max_nodes) 0) }
+    ensures decodes { Decodes file.now groups.new.least groups.new.kinds groups.new.classes joined.new result }
+    ensures sums_kept { SumsKept file.now groups.new.least joined.new groups.new.sums }
 {
     let reader = start(file, 0);
     let read = reader.record()?;
-    reader
-        .moved(read.next)
-        .graph(read.item, least, kinds, classes, joined, sums)
+    reader.moved(read.next).graph(read.item, groups, joined)
 }
