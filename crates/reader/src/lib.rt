@@ -144,7 +144,7 @@ fn read_groups(
     firsts: &mut [u16],
 ) -> Option<Rest>
     requires { (n ≤ max_nodes) × (length firsts.old ≤ max_nodes) × (groups.old.least ≡ replicate max_nodes no_node) × (groups.old.kinds ≡ replicate max_nodes single) × (groups.old.classes ≡ replicate max_nodes 0) }
-    ensures read { GroupsRead n (length firsts.old) counts file.now from groups.new.least firsts.old firsts.new groups.new.kinds groups.new.classes result }
+    ensures read { GroupsRead n (length firsts.new) counts file.now from groups.new.least firsts.new groups.new.kinds groups.new.classes result }
     ensures sums { groups.new.sums ≡ groups.old.sums }
 {
     let mut at = from;
