@@ -7,7 +7,7 @@ use mathlib.Core.List.{List, [], ◌∷◌}
 use Rattle.std.proofs.Math.Dec.{eqb}
 use Rattle.std.proofs.lemmas.List.{length-replicate}
 use Rattle.std.proofs.Math.Seq.{drop-drop}
-use borrow.Author.Tests.{eqb-false, ne_eqb, le-leb, le-ltb, lt-leb, lt-ltb, leb-true, ltb-false, ltb-true, not-true}
+use borrow.Author.Tests.{eqb-false, ne_eqb, le-ltb, leb-true, ltb-false, ltb-true, not-true}
 use Rattle.model.specs.Graph.{max_nodes}
 use Rattle.model.specs.Reading.{groups_at, is_mark, superedges_at, u16_at}
 use Rattle.model.specs.Reading as reading
@@ -32,27 +32,11 @@ use Rattle.reader.specs.MirrorLaws.{sums_size}
 use Rattle.reader.specs.SuperedgeLaws.{here_or_not, positions, stop_goes, stop_pair, stops, stops_empty, told_by}
 
 -- the nodes that the head tells
-pub no_nodes : (s : List ℕ) → length s < 8 → 0 ≡ nodes_in s
-unfolding nodes_in
-no_nodes s l = rw (lt-ltb (length s) 8 l)
-
 pub nodes-told : (s : List ℕ) → 8 ≤ length s → u16_at s 2 ≡ nodes_in s
 unfolding nodes_in
 nodes-told s l = rw (le-ltb (length s) 8 l)
 
--- the numbers of the head, tested one after the other
-pub too_many : (n m g : ℕ) → 512 < n → false ≡ counts_fit n m g
-unfolding counts_fit
-too_many n m g l = rw (lt-leb n 512 l)
-
-pub too_visible : (n m g : ℕ) → n ≤ 512 → n < m → false ≡ counts_fit n m g
-unfolding counts_fit
-too_visible n m g l h = rw (le-leb n 512 l, lt-leb m n h)
-
-pub by_groups : (n m g : ℕ) → n ≤ 512 → m ≤ n → leb g m ≡ counts_fit n m g
-unfolding counts_fit
-by_groups n m g l h = rw (le-leb n 512 l, le-leb m n h)
-
+-- the numbers of a head that fit
 pub sized_n : (n m g : ℕ) → true ≡ counts_fit n m g → n ≤ 512
 unfolding counts_fit
 sized_n n m g e = leb-true n 512 (and_fst (leb n 512) (leb m n && leb g m) (sym e))

@@ -25,31 +25,10 @@ use Rattle.records.specs.declared.Read.{Read}
 use Rattle.records.specs.Records.{item_in, less_group, less_member, record_at, size_of}
 use Rattle.records.specs.RecordLaws.{Fits, fits_at, item_fits, item_is, next_is, none_in, u16-drop}
 use Rattle.rows.specs.Rows.{leads, no_node}
-use Rattle.compressed.specs.Compressed.{class_of, clique, first_at, first_member_of, independent, kind_in, kind_marked, led_by, single}
+use Rattle.compressed.specs.Compressed.{class_of, first_at, first_member_of, kind_in, kind_marked, led_by, single}
 use Rattle.reader.specs.declared.Taken.{Taken}
 use Rattle.reader.specs.declared.Rest.{Rest}
-use Rattle.reader.specs.Decoding.{GroupTaken, GroupsHeld, GroupsLeft, GroupsRead, LeastPut, LeastPutting, MembersRead, NumbersLeft, bytes_after, count_at, group_by, group_head, group_taken, groups_from, groups_read, least_count, listed_at, members_read, numbers_at, rest_at, taken}
-
--- the kind and the least count of a group
-pub kind_clique : (count : ℕ) → clique ≡ kind_marked true count
-unfolding kind_marked
-kind_clique count = refl
-
-pub kind_single : (count : ℕ) → count ≡ 1 → single ≡ kind_marked false count
-unfolding kind_marked
-kind_single count e = rw (eq-eqb count 1 e)
-
-pub kind_independent : (count : ℕ) → (count ≡ 1 → ⊥) → independent ≡ kind_marked false count
-unfolding kind_marked
-kind_independent count h = rw (ne_eqb count 1 h)
-
-pub least-clique : 2 ≡ least_count true
-unfolding least_count
-least-clique = refl
-
-pub least_other : 1 ≡ least_count false
-unfolding least_count
-least_other = refl
+use Rattle.reader.specs.Decoding.{GroupTaken, GroupsLeft, GroupsRead, LeastPut, LeastPutting, MembersRead, NumbersLeft, bytes_after, count_at, group_by, group_head, group_taken, groups_from, groups_read, least_count, listed_at, members_read, numbers_at, rest_at, taken}
 
 -- numbers in a file, one after the other
 module _ (s : List ℕ) (at count : ℕ) where

@@ -1,6 +1,6 @@
 -- Laws of superedges drawn one way, then mirrored.
-use Rattle.std.specs.Prelude.{◌≡◌, refl, Bool, ◌&&◌, ◌||◌, ◌⊎◌, ℕ, zero, suc, ◌+◌, ◌*◌, ◌/◌, ◌%◌, ◌≤◌, ◌<◌, leb, ltb, length, get_or, drop, replicate, Some}
-use Rattle.std.proofs.Common.{sym, ap, ap₂, ◌∙◌, inl, inr, mul-le-mul, arith}
+use Rattle.std.specs.Prelude.{◌≡◌, refl, Bool, ◌&&◌, ◌||◌, ◌⊎◌, ℕ, zero, suc, ◌+◌, ◌*◌, ◌%◌, ◌≤◌, ◌<◌, ltb, length, get_or, drop, replicate, Some}
+use Rattle.std.proofs.Common.{sym, ap, ap₂, ◌∙◌, inl, inr, arith}
 use Rattle.std.proofs.Math.Bool.{true, false, and_comm, or-false}
 use mathlib.Core.List.{List, [], ◌∷◌}
 use Rattle.std.proofs.Math.Dec.{eqb}
@@ -18,14 +18,6 @@ use Rattle.drawing.specs.BitLaws.{added_only, blank_bit, no_bits}
 use Rattle.mirroring.specs.Mirroring.{StripsFor, Lower, Mirrored}
 use Rattle.reader.specs.Decoding.{FirstsAscend, JoinedRead, SuperedgesRead, drawn_by, is_few, pairs_to}
 use Rattle.reader.specs.SuperedgeLaws.{here_or_not, ordered_first, ordered_second, refuted, stop_pair, stops_empty}
-
--- few superedges, or many
-pub few_bound : (w n : ℕ) → w ≤ 8 → n ≤ max_nodes → (8 + 24 * w) * n ≤ 200 * max_nodes
-few_bound w n h l = let k : 8 + 24 * w ≤ 200 = omega arith in mul-le-mul k l
-
-pub few_is : (bytes n w : ℕ) → w ≡ (n + 63) / 64 → leb bytes (384 + (8 + 24 * w) * n) ≡ is_few bytes n
-unfolding is_few
-few_is bytes n w e = rw e
 
 -- sums before anything is added
 pub sums_size : (t : List ℕ) → t ≡ replicate (2 * max_nodes) 0 → length t ≡ 2 * max_nodes

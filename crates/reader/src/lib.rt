@@ -374,9 +374,7 @@ impl<'a> Reader<'a> {
             at,
         }
     }
-}
 
-impl<'a> Reader<'a> {
     // How many nodes the graph of the file has whose head was just read; none if the bytes are no release.
     fn graph(self, head: Record, groups: &mut Groups, joined: &mut [u64]) -> Option<usize>
         requires { AfterHead self.file.now self.at head × (Blank self.file.now groups.old.least groups.old.kinds groups.old.classes joined.old × (groups.old.sums ≡ replicate (2 * max_nodes) 0)) }

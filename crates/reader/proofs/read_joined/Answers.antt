@@ -1,6 +1,6 @@
 -- `reader::read_joined` meets its contract.
 use mathlib.Core.Path.{◌∙◌, sym}
-use Rattle.reader.specs.MirrorLaws.{both_ways, one_way, sums_size}
+use Rattle.reader.specs.MirrorLaws.{both_ways, one_way}
 use Rattle.reader.specs.SummedLaws.{both_read}
 use Rattle.reader.proofs.read_joined.Goals as goal
 

@@ -1,5 +1,5 @@
 -- `reader::read_members` meets its contract.
-use Prim.Native.Nat.{◌-◌, ◌≤◌}
+use Prim.Native.Nat.{◌≤◌}
 use mathlib.Core.Path.{◌≡◌}
 use Rattle.reader.specs.Decoding.{LeastPutting, members_read, numbers_at, rest_at, taken}
 use Rattle.reader.proofs.read_members.Given as goal

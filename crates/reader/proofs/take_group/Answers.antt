@@ -1,6 +1,6 @@
 -- `reader::take_group` meets its contract.
 use native.Mathlib.Omega.{arith}
-use Rattle.reader.specs.GroupLaws.{all_members, few_members, group-told, large_class, numbers_room, taken-first, no_group, no_members, no_room, other_record}
+use Rattle.reader.specs.GroupLaws.{all_members, few_members, group-told, numbers_room, taken-first, no_group, no_members, no_room}
 use Rattle.reader.proofs.take_group.Goals as goal
 
 pub returns-then-members-least_count-clause-taken : goal.returns-then-members-least_count-clause-taken
