@@ -3,6 +3,7 @@
 
 ghost use Rattle.std.specs.Prelude.{◌≡◌, ℕ, ◌+◌, ◌*◌, ◌<◌, ◌≤◌, Bool, true, false, List, length};
 ghost use Rattle.model.specs.Graph.{max_nodes, row_words};
+ghost use Rattle.rows.specs.Rows.{Words};
 ghost use Rattle.layout.specs.Truth.{Truth};
 ghost use Rattle.masking.specs.Masking.{Apart, drawn, shown};
 ghost use Rattle.search.specs.Search.{row_in};
@@ -95,17 +96,6 @@ fn slot_by_sum(sums: &[u32], closed: bool, u: usize) -> usize
         return slot_in(sums[u].wrapping_add(sums[Graph::NODES + u]) as u64);
     }
     slot_in(sums[u] as u64)
-}
-
-// The slot of u's row: by its sum where superedges are few, else by its words.
-fn slot_for_group(joined: &[u64], few: bool, sums: &[u32], closed: bool, u: usize) -> usize
-    requires { (u < max_nodes) × (row_words * u + row_words ≤ length joined.now) × (length sums.now ≡ 2 * max_nodes) }
-    ensures { result ≡ group_slot joined.now few sums.now closed u }
-{
-    if few {
-        return slot_by_sum(sums, closed, u);
-    }
-    slot_of(joined, closed, u)
 }
 
 // Leaders chained by slots, all counted from 1: the last in each slot, and before each leader the one before it in its slot.
@@ -309,37 +299,68 @@ fn is_new(
     true
 }
 
-// Whether the group that u leads, if it leads one, could be one with none before it.
-// A clique is no candidate by open rows, an independent group none by closed ones.
-fn is_apart(
-    joined: &[u64],
-    least: &[u16],
-    kinds: &[u16],
-    classes: &[u16],
+// The groups of a compressed graph. The sums of cubes tell slots where they were kept (few superedges), else the rows do.
+#[derive(Clone, Copy)]
+struct Groups<'a> {
+    joined: &'a [u64],
+    least: &'a [u16],
+    kinds: &'a [u16],
+    classes: &'a [u16],
     few: bool,
-    sums: &[u32],
-    opens: &mut Leaders,
-    closeds: &mut Leaders,
-    u: usize,
-) -> bool
-    requires u_lt_max_nodes { (u < max_nodes) × (row_words * u + row_words ≤ length joined.now) × (u < length least.now) × (u < length kinds.now) × (u < length classes.now) × (length sums.now ≡ 2 * max_nodes) × (few ≡ true → SumsTold joined.now sums.now) }
-    requires parted { Parted (classed_slot classes.now (group_slot joined.now few sums.now)) least.now kinds.now u opens.old closeds.old }
-    ensures value { result ≡ apart_at least.now kinds.now classes.now joined.now u }
-    ensures parted_2 { result ≡ true → Parted (classed_slot classes.now (group_slot joined.now few sums.now)) least.now kinds.now (u + 1) opens.new closeds.new }
-{
-    if rows::wide(least[u]) != u {
-        return true;
-    }
-    let kind = kinds[u];
-    let a = slot_in_class(slot_for_group(joined, few, sums, false, u), classes[u]);
-    let b = slot_in_class(slot_for_group(joined, few, sums, true, u), classes[u]);
-    if !is_new(joined, classes, opens, false, kind != CLIQUE, u, a) {
-        return false;
-    }
-    is_new(joined, classes, closeds, true, kind != INDEPENDENT, u, b)
+    sums: &'a [u32],
 }
 
-// Whether no two groups of a compressed graph could be one. The sums of cubes tell slots where they were kept (few superedges), else the rows do.
+impl<'a> Groups<'a> {
+    // The slot of u's row: by its sum where superedges are few, else by its words.
+    fn slot(&self, closed: bool, u: usize) -> usize
+        requires { (u < max_nodes) × (row_words * u + row_words ≤ length self.now.joined.now) × (length self.now.sums.now ≡ 2 * max_nodes) }
+        ensures { result ≡ group_slot self.now.joined.now self.now.few self.now.sums.now closed u }
+    {
+        if self.few {
+            return slot_by_sum(self.sums, closed, u);
+        }
+        slot_of(self.joined, closed, u)
+    }
+
+    // Whether the group that u leads, if it leads one, could be one with none before it.
+    // A clique is no candidate by open rows, an independent group none by closed ones.
+    fn is_apart(&self, opens: &mut Leaders, closeds: &mut Leaders, u: usize) -> bool
+        requires u_lt_max_nodes { (u < max_nodes) × (row_words * u + row_words ≤ length self.now.joined.now) × (u < length self.now.least.now) × (u < length self.now.kinds.now) × (u < length self.now.classes.now) × (length self.now.sums.now ≡ 2 * max_nodes) × (self.now.few ≡ true → SumsTold self.now.joined.now self.now.sums.now) }
+        requires words { Words self.now.joined.now }
+        requires parted { Parted (classed_slot self.now.classes.now (group_slot self.now.joined.now self.now.few self.now.sums.now)) self.now.least.now self.now.kinds.now u opens.old closeds.old }
+        ensures value { result ≡ apart_at self.now.least.now self.now.kinds.now self.now.classes.now self.now.joined.now u }
+        ensures parted_2 { result ≡ true → Parted (classed_slot self.now.classes.now (group_slot self.now.joined.now self.now.few self.now.sums.now)) self.now.least.now self.now.kinds.now (u + 1) opens.new closeds.new }
+    {
+        if rows::wide(self.least[u]) != u {
+            return true;
+        }
+        let kind = self.kinds[u];
+        let a = slot_in_class(self.slot(false, u), self.classes[u]);
+        let b = slot_in_class(self.slot(true, u), self.classes[u]);
+        if !is_new(
+            self.joined,
+            self.classes,
+            opens,
+            false,
+            kind != CLIQUE,
+            u,
+            a,
+        ) {
+            return false;
+        }
+        is_new(
+            self.joined,
+            self.classes,
+            closeds,
+            true,
+            kind != INDEPENDENT,
+            u,
+            b,
+        )
+    }
+}
+
+// Whether no two groups of a compressed graph could be one. Chains of leaders are kept on the way.
 pub fn are_apart(
     joined: &[u64],
     least: &[u16],
@@ -352,6 +373,14 @@ pub fn are_apart(
     requires { (n ≤ max_nodes) × (row_words * n ≤ length joined.now) × (n ≤ length least.now) × (n ≤ length kinds.now) × (n ≤ length classes.now) × (length sums.now ≡ 2 * max_nodes) × (few ≡ true → SumsTold joined.now sums.now) }
     ensures { result ≡ apart n least.now kinds.now classes.now joined.now }
 {
+    let groups = Groups {
+        joined,
+        least,
+        kinds,
+        classes,
+        few,
+        sums,
+    };
     let mut opens = Leaders {
         last: [0u16; SLOTS],
         earlier: [0u16; Graph::NODES],
@@ -361,17 +390,7 @@ pub fn are_apart(
         earlier: [0u16; Graph::NODES],
     };
     for u in 0..n {
-        if !is_apart(
-            joined,
-            least,
-            kinds,
-            classes,
-            few,
-            sums,
-            &mut opens,
-            &mut closeds,
-            u,
-        ) {
+        if !groups.is_apart(&mut opens, &mut closeds, u) {
             return false;
         }
     }
