@@ -1,5 +1,5 @@
 -- The groups of visible nodes, where hidden ones have no edges.
-use Rattle.std.specs.Prelude.{◌≡◌, Bool, true, false, ◌&&◌, cond, List, ℕ, ◌≤◌, ◌<◌, eqb, ltb, length, get_or}
+use Rattle.std.specs.Prelude.{◌≡◌, Bool, true, false, ◌&&◌, cond, List, ℕ, ◌≤◌, ◌<◌, eqb, ltb, length, get_or, Option, MatchOption}
 use Rattle.model.specs.Lists.{all}
 use Rattle.model.specs.Graph.{Graph, Proper, max_classes}
 use Rattle.model.specs.Grouping.{least, similar}
@@ -38,10 +38,9 @@ is_hidden first p = eqb (get_or first p 0) no_node
 unfoldable pub is_isolated : List ℕ → List ℕ → List ℕ → ℕ → Bool
 is_isolated edges classes first p = leads first p && is_bare edges classes p
 
--- r is the least of the numbers below n that pass, no_node if none does
-pub record First (P : ℕ → Bool) (n r : ℕ) : Type 0 where
-  pub hit : (r ≡ no_node → ⊥) → (r < n) × (P r ≡ true)
-  pub miss : (p : ℕ) → p < n → p < r → P p ≡ false
+-- the first of the numbers below n that pass; none passes if there is none
+abbrev pub First : (ℕ → Bool) → ℕ → Option ℕ → Type 0
+First P n r = MatchOption r ((p : ℕ) → p < n → P p ≡ false) (λ x. (x < n) × (P x ≡ true) × ((p : ℕ) → p < x → P p ≡ false))
 
 -- of the first n numbers, those that were x are y
 pub record NumbersRenamed (n x y : ℕ) (t after : List ℕ) : Type 0 where

@@ -1,6 +1,6 @@
 -- Hidden nodes, which have no edges and class 0, share the group of the nodes of class 0 without edges; the others' groups are those of
 -- the visible nodes.
-use Rattle.std.specs.Prelude.{◌≡◌, Bool, not, cond, ◌&&◌, ◌⊎◌, ltb, drop, length}
+use Rattle.std.specs.Prelude.{◌≡◌, Bool, not, cond, ◌&&◌, ◌⊎◌, ltb, drop, length, None, Some}
 use Rattle.std.proofs.Math.Path.{refl, sym, ap}
 use Rattle.std.proofs.Common.{◌∙◌, inl, inr, arith}
 use Rattle.std.proofs.Math.Bool.{true, false, and-false}
@@ -139,14 +139,14 @@ module _ {n : ℕ} {edges first classes : List ℕ} (a : VisibleTold n edges fir
   told-all p v h = a.told p v ∙ (unfold hiding in least-visible g proper-hiding no_edge p v h)
 
   -- no node is hidden
-  pub told_none : {h : ℕ} → First (is_hidden first) n h → h ≡ 65535 → LeastTold n edges (class_in n first classes) first
-  told_none {h} f e = record { size = a.size; told = λ p l. told-all p (seen p l) (λ q m s. seen q m) }
+  pub told_none : First (is_hidden first) n None → LeastTold n edges (class_in n first classes) first
+  told_none f = record { size = a.size; told = λ p l. told-all p (seen p l) (λ q m s. seen q m) }
     where
       seen : (p : ℕ) → p < n → is_visible (hiding n edges first classes) p ≡ true
-      seen p l = unhidden p l (λ z. differ (hidden_here first p z) (f.miss p l (omega (arith, a.within.small))))
+      seen p l = unhidden p l (λ z. differ (hidden_here first p z) (f p l))
 
-  -- the first hidden node h, and i, the first member of the group of class 0 without edges
-  module _ {h i : ℕ} (fh : First (is_hidden first) n h) (d : h ≡ 65535 → ⊥) (fi : First (is_isolated edges classes first) n i) where
+  -- the first hidden node h, and i, the first member of the group of class 0 without edges, n or more if there is none
+  module _ {h : ℕ} (fh : First (is_hidden first) n (Some h)) {i : ℕ} (hit : i < n → is_isolated edges classes first i ≡ true) (miss : (p : ℕ) → p < n → p < i → is_isolated edges classes first p ≡ false) where
     hidden-alone : (p : ℕ) → p < n → get_or first p 0 ≡ 65535 → Lone p
     hidden-alone p l z = (λ q. a.none p q l z, unfold class_in placed in rw (z, lt-ltb p n l))
 
@@ -154,12 +154,12 @@ module _ {n : ℕ} {edges first classes : List ℕ} (a : VisibleTold n edges fir
     hidden-below p l z = step (decide (ltb p h))
       where
         step : (ltb p h ≡ true) ⊎ (ltb p h ≡ false) → h ≤ p
-        step (inl t) = differ (hidden_here first p z) (fh.miss p l (ltb-true p h t))
+        step (inl t) = differ (hidden_here first p z) (fh.2 p (ltb-true p h t))
         step (inr t) = ltb-false p h t
 
     h-here : (h < n) × (get_or first h 0 ≡ 65535)
     unfolding is_hidden
-    h-here = let t = fh.hit d in (t.0, eqb-true (get_or first h 0) 65535 t.1)
+    h-here = (fh.0, eqb-true (get_or first h 0) 65535 fh.1)
 
     -- the class of a first member is told there
     own_class : (p : ℕ) → p < n → get_or first p 0 ≡ p → class_in n first classes p ≡ get_or classes p 0
@@ -169,7 +169,7 @@ module _ {n : ℕ} {edges first classes : List ℕ} (a : VisibleTold n edges fir
     i-here : i < n → (get_or first i 0 ≡ i) × Lone i
     unfolding is_isolated is_bare leads
     i-here l =
-        let t = (fi.hit (λ z. omega (arith, a.within.small))).1 in
+        let t = hit l in
         let own = eqb-true (get_or first i 0) i (and_fst (eqb (get_or first i 0) i) _ t) in
         let bare = and_snd (eqb (get_or first i 0) i) _ t in
         (own, (empty_isolated a.within i (and_snd (eqb (get_or classes i 0) 0) _ bare), own_class i l own ∙ eqb-true (get_or classes i 0) 0 (and_fst (eqb (get_or classes i 0) 0) _ bare)))
@@ -223,7 +223,7 @@ module _ {n : ℕ} {edges first classes : List ℕ} (a : VisibleTold n edges fir
         (a.told p v ∙ least_eq (visible (hiding n edges first classes)).nodes (similar (visible (hiding n edges first classes))) (eqv p v) (up p v) p i (p-in p v) (p-in i vi) like ∙ sym (a.told i vi) ∙ (i-here li).0, li)
       where
         below : (k : ℕ) → k < n → is_isolated edges classes first k ≡ true → (ltb k i ≡ true) ⊎ (ltb k i ≡ false) → i < n
-        below k l t (inl z) = differ t (fi.miss k l (ltb-true k i z))
+        below k l t (inl z) = differ t (miss k l (ltb-true k i z))
         below k l t (inr z) = omega (arith, ltb-false k i z)
 
     -- a node with an edge, or of another class
@@ -269,6 +269,16 @@ module _ {n : ℕ} {edges first classes : List ℕ} (a : VisibleTold n edges fir
             → cond (eqb (get_or first p 0) 65535) i (get_or first p 0) ≡ least (nodes n) (similar (whole (classed_in n edges (class_in n first classes)))) p
         at p l (inl e) (inl z) = rw z (isolated-least i li (i-here li).1 (omega arith) (λ y. omega arith) p l e)
         at p l (inl e) (inr z) = rw z ((isolated-first p (unhidden p l (eqb-false (get_or first p 0) 65535 z)) (lone_is p e)).0 ∙ isolated-least i li (i-here li).1 (omega arith) (λ y. omega arith) p l e)
+        at p l (inr e) (inl z) = absurd ((edge-first p l e).1 (eqb-true (get_or first p 0) 65535 z))
+        at p l (inr e) (inr z) = rw z (edge-first p l e).0
+
+    pub told_alone : {after : List ℕ} → n ≤ i → NumbersRenamed n 65535 h first after → LeastTold n edges (class_in n first classes) after
+    told_alone {after} b t = record { size = omega (arith, a.size, t.size); told = λ p l. t.names p l ∙ at p l (decide (lone p)) (decide (eqb (get_or first p 0) 65535)) }
+      where
+        at : (p : ℕ) → p < n → (lone p ≡ true) ⊎ (lone p ≡ false) → (eqb (get_or first p 0) 65535 ≡ true) ⊎ (eqb (get_or first p 0) 65535 ≡ false)
+            → cond (eqb (get_or first p 0) 65535) h (get_or first p 0) ≡ least (nodes n) (similar (whole (classed_in n edges (class_in n first classes)))) p
+        at p l (inl e) (inl z) = rw z (isolated-least h h-here.0 (hidden-alone h h-here.0 h-here.1) (omega arith) (λ y. omega arith) p l e)
+        at p l (inl e) (inr z) = let y = (isolated-first p (unhidden p l (eqb-false (get_or first p 0) 65535 z)) (lone_is p e)).1 in absurd (omega arith)
         at p l (inr e) (inl z) = absurd ((edge-first p l e).1 (eqb-true (get_or first p 0) 65535 z))
         at p l (inr e) (inr z) = rw z (edge-first p l e).0
 

@@ -23,38 +23,36 @@ fn is_bare(edges: &[u64], classes: &[u16], p: usize) -> bool
     requires { (p < max_nodes) × (p < length classes.now) × (row_words * p + row_words ≤ length edges.now) }
     ensures { result ≡ is_bare edges.now classes.now p }
 {
-    if classes[p] != 0 {
-        return false;
-    }
-    is_empty(edges, p)
+    classes[p] == 0 && is_empty(edges, p)
 }
 
-// The first member of the group of class 0 without edges, NONE if there is none. Classes are told at first members.
-fn find_isolated(edges: &[u64], classes: &[u16], least: &[u16], n: usize) -> u16
+// Whether p is a first member of class 0 without edges. Classes are told at first members.
+fn is_isolated(edges: &[u64], classes: &[u16], least: &[u16], p: usize) -> bool
+    requires { (p < max_nodes) × (p < length least.now) × (p < length classes.now) × (row_words * p + row_words ≤ length edges.now) }
+    ensures { result ≡ is_isolated edges.now classes.now least.now p }
+{
+    rows::wide(least[p]) == p && is_bare(edges, classes, p)
+}
+
+// The first member of the group of class 0 without edges.
+fn find_isolated(edges: &[u64], classes: &[u16], least: &[u16], n: usize) -> Option<usize>
     requires { (n ≤ max_nodes) × (n ≤ length least.now) × (n ≤ length classes.now) × (row_words * n ≤ length edges.now) }
     ensures { First (is_isolated edges.now classes.now least.now) n result }
 {
     for p in 0..n {
-        if rows::wide(least[p]) == p {
-            if is_bare(edges, classes, p) {
-                return p as u16;
-            }
+        if is_isolated(edges, classes, least, p) {
+            return Some(p);
         }
     }
-    Graph::NONE
+    None
 }
 
-// The first hidden node, NONE if there is none.
-fn find_hidden(least: &[u16], n: usize) -> u16
+// The first hidden node.
+fn find_hidden(least: &[u16], n: usize) -> Option<usize>
     requires { (n ≤ max_nodes) × (n ≤ length least.now) }
     ensures { First (is_hidden least.now) n result }
 {
-    for p in 0..n {
-        if least[p] == Graph::NONE {
-            return p as u16;
-        }
-    }
-    Graph::NONE
+    least[..n].iter().position(|first| *first == Graph::NONE)
 }
 
 // Whoever has x for its first member has y.
@@ -62,9 +60,9 @@ fn rename(least: &mut [u16], n: usize, x: u16, y: u16)
     requires { n ≤ length least.old }
     ensures { NumbersRenamed n x y least.old least.new }
 {
-    for p in 0..n {
-        if least[p] == x {
-            least[p] = y;
+    for first in &mut least[..n] {
+        if *first == x {
+            *first = y;
         }
     }
 }
@@ -75,15 +73,19 @@ pub fn adopt_hidden(edges: &[u64], classes: &[u16], n: usize, least: &mut [u16])
     requires { VisibleTold n edges.now least.old classes.now }
     ensures { LeastTold n edges.now (class_in n least.old classes.now) least.new }
 {
-    let hidden = find_hidden(least, n);
-    if hidden == Graph::NONE {
+    let Some(hidden) = find_hidden(least, n) else {
         return;
+    };
+    match find_isolated(edges, classes, least, n) {
+        Some(isolated) if isolated < hidden => {
+            rename(least, n, Graph::NONE, isolated as u16);
+        }
+        Some(isolated) => {
+            rename(least, n, Graph::NONE, hidden as u16);
+            rename(least, n, isolated as u16, hidden as u16);
+        }
+        None => {
+            rename(least, n, Graph::NONE, hidden as u16);
+        }
     }
-    let isolated = find_isolated(edges, classes, least, n);
-    if isolated < hidden {
-        rename(least, n, Graph::NONE, isolated);
-        return;
-    }
-    rename(least, n, Graph::NONE, hidden);
-    rename(least, n, isolated, hidden);
 }

@@ -67,8 +67,8 @@ module _ {n : ℕ} {joined : List ℕ} (h : SuperedgeRows n joined) where
 
   module _ {i j d : ℕ} {seen frontier : List ℕ} (s : Searching n joined i j d seen frontier) where
     -- a node of the frontier is joined to j
-    pub search_found : {b : Bool} → j < n → b ≡ have_common (take (8 * j + 8 - 8 * j) (drop (8 * j) joined)) frontier → b ≡ true → Shortest (rows_view n joined) i j (d + 1)
-    search_found hj e t = record { there = inl (rw (add-one d) (last (within-walk (rows_view n joined) (suc d) i j near))); least = λ k c. omega (arith, within-least (rows_view n joined) d k i j s.apart c) }
+    pub search_found : {b : Bool} → j < n → b ≡ have_common (take (8 * j + 8 - 8 * j) (drop (8 * j) joined)) frontier → b ≡ true → {k : ℕ} → k ≡ d + 1 → Shortest (rows_view n joined) i j k
+    search_found hj e t z = rw z (record { there = inl (rw (add-one d) (last (within-walk (rows_view n joined) (suc d) i j near))); least = λ k c. omega (arith, within-least (rows_view n joined) d k i j s.apart c) })
       where
         near : within (rows_view n joined) (suc d) i j ≡ true
         near =
@@ -139,9 +139,9 @@ module _ {n : ℕ} {joined : List ℕ} (h : SuperedgeRows n joined) where
           stop q hq w (inr t) = new_in q hq w t
 
       -- one step is done
-      pub search_step : {after : List ℕ} → i < n → d < n → within (rows_view n joined) (suc d) i j ≡ false → Added (row_to 0 fresh) seen after → Searching n joined i j (d + 1) after fresh
+      pub search_step : {after : List ℕ} → i < n → d < n → within (rows_view n joined) (suc d) i j ≡ false → Added (row_to 0 fresh) seen after → {k : ℕ} → k ≡ d + 1 → Searching n joined i j k after fresh
       unfolding row_to
-      search_step {after} hi hd far a = rw (add-one d) (record {
+      search_step {after} hi hd far a z = rw (z, add-one d) (record {
         few = omega arith;
         reached = record { size = a.size ∙ s.reached.size; bits = λ q l. iff_eq (edge_bit after 0 q) (within (rows_view n joined) (suc d) i q) (out q l) (into q l (decide (edge_bit fresh 0 q))) };
         size = left.size;

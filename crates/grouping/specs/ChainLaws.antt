@@ -1,5 +1,5 @@
 -- Laws of chains: what a walk over one finds, and a leader put in.
-use Rattle.std.specs.Prelude.{◌≡◌, ℕ, suc, ◌+◌, ◌-◌, ◌*◌, ◌^◌, ◌<◌, ◌≤◌, Bool, true, false, cond, ◌&&◌, ◌⊎◌, List, length, take, drop, replicate, ◌==◌, ◌≢◌, nat_lt, slice_index, slice_index_or, slice_set}
+use Rattle.std.specs.Prelude.{◌≡◌, ℕ, suc, ◌+◌, ◌-◌, ◌*◌, ◌^◌, ◌<◌, ◌≤◌, Bool, true, false, cond, ◌&&◌, ◌⊎◌, List, length, take, drop, replicate, ◌==◌, ◌≢◌, nat_lt, slice_index, slice_index_or, slice_set, Option, None, Some}
 use Rattle.std.proofs.Math.Path.{refl, sym, ap, ap₂}
 use Rattle.std.proofs.Common.{◌∙◌, inl, inr, arith, length-set, pow_pos, get_or-set_other, get_or-set_same, eqb-true, eq-eqb, ltb-true, ltb-false, ne_eqb}
 use Rattle.std.proofs.Math.Bool.{and-false, xor}
@@ -14,6 +14,7 @@ use Rattle.rows.specs.BitLaws.{bit_xor_lem, bit_zero}
 use Rattle.search.specs.TwinRowLaws.{own_bit_lem, own_bit-lt, own_bits_lem, words_eq, xor_swap}
 use Rattle.search.specs.SearchLaws.{meets-all, meets_differ, meets_words, row-length, row_part_lem}
 use Rattle.compressed.specs.Compressed.{alike}
+use Rattle.grouping.specs.declared.Leaders.{Leaders}
 use Rattle.grouping.specs.Chains.{Chains, Entered, Links, Met, SlotsTell, class_alike, classed_slot, rotated, row_slot, row_word, slot_for, slot_in_class, unrotated}
 use Rattle.grouping.specs.HashLaws.{hash_same}
 
@@ -99,7 +100,7 @@ module _ (edges classes : List ℕ) (closed : Bool) (u q : ℕ) where
     alike-agrees e h = and_true (eq-eqb (slice_index classes u) (slice_index classes q) (sym e)) (rw (← mine) (meets-all closed u q row (row_in edges q) 8 (λ k l. rw row_part_lem at (h k l))))
 
 -- a chain goes down
-pub links_less : {u : ℕ} {t : List ℕ} {c c' : ℕ} → Links u t → (c ≢ 0) → c ≤ 512 → c' ≡ slice_index t (1024 + (c - 1)) → c' < c
+pub links_less : {u : ℕ} {t : Leaders} {c c' : ℕ} → Links u t → (c ≢ 0) → c ≤ 512 → c' ≡ slice_index t.earlier (c - 1) → c' < c
 links_less {u} {t} {c} {c'} l some small e = omega (arith, l.falls (c - 1) (omega arith))
 
 -- a walk over the chain of u's slot: c is the node that it has come to, counted from 1
@@ -107,24 +108,24 @@ pub record Seeking (slot : ℕ → ℕ) (leads twin : ℕ → Bool) (u c : ℕ) 
   pub on : (d : ℕ) → c ≡ suc d → (leads d ≡ true) × (slot d ≡ slot u)
   pub left : (q : ℕ) → q < u → leads q ≡ true → slot q ≡ slot u → twin q ≡ true → q < c
 
-module _ {slot : ℕ → ℕ} {leads : ℕ → Bool} (twin : ℕ → Bool) {u : ℕ} {t : List ℕ} (k : Chains slot leads u t) where
-  pub seeking_start : {s c : ℕ} → slot u ≡ s → s < 1024 → c ≡ slice_index t s → Seeking slot leads twin u c
+module _ {slot : ℕ → ℕ} {leads : ℕ → Bool} (twin : ℕ → Bool) {u : ℕ} {t : Leaders} (k : Chains slot leads u t) where
+  pub seeking_start : {s c : ℕ} → slot u ≡ s → s < 1024 → c ≡ slice_index t.last s → Seeking slot leads twin u c
   seeking_start {s} {c} es l ec = record {
     on = λ d h. let i = k.last_in s d l (sym ec ∙ h) in (i.0, i.1 ∙ sym es);
-    left = λ q hq hl hs ht. let z : slice_index_or t (slot q) 0 ≡ c = ap (λ (x : ℕ). slice_index t x) (hs ∙ es) ∙ sym ec in omega (arith, k.last q hq hl);
+    left = λ q hq hl hs ht. let z : slice_index_or t.last (slot q) 0 ≡ c = ap (λ (x : ℕ). slice_index t.last x) (hs ∙ es) ∙ sym ec in omega (arith, k.last q hq hl);
   }
 
   module _ {c : ℕ} (h : Seeking slot leads twin u c) (some : c ≡ 0 → ⊥) (low : c ≤ u) where
     at : c ≡ suc (c - 1)
     at = omega arith
 
-    pub seeking_on : {c' : ℕ} → twin (c - 1) ≡ false → c' ≡ slice_index t (1024 + (c - 1)) → Seeking slot leads twin u c'
+    pub seeking_on : {c' : ℕ} → twin (c - 1) ≡ false → c' ≡ slice_index t.earlier (c - 1) → Seeking slot leads twin u c'
     seeking_on {c'} f ec = record {
       on = λ d g. let i = k.earlier_in (c - 1) d (omega arith) (h.on (c - 1) at).0 (here ∙ g) in (i.0, i.1 ∙ (h.on (c - 1) at).1);
       left = λ q hq hl hs ht. let m : q < c - 1 = less q (h.left q hq hl hs ht) ht in omega (arith, here, k.earlier (c - 1) q m (omega arith) (h.on (c - 1) at).0 hl (hs ∙ sym (h.on (c - 1) at).1));
     }
       where
-        here : slice_index_or t (1024 + (c - 1)) 0 ≡ c'
+        here : slice_index_or t.earlier (c - 1) 0 ≡ c'
         here = sym ec
 
         less : (q : ℕ) → q < c → twin q ≡ true → q < c - 1
@@ -134,21 +135,21 @@ module _ {slot : ℕ → ℕ} {leads : ℕ → Bool} (twin : ℕ → Bool) {u : 
             step (inl y) = differ ht (ap twin (eqb-true q (c - 1) y) ∙ f)
             step (inr y) = let d : q ≡ c - 1 → ⊥ = eqb-false q (c - 1) y in omega arith
 
-    pub met_hit : twin (c - 1) ≡ true → Met slot leads twin u (c - 1)
-    met_hit f = record { hit = λ l. ((h.on (c - 1) at).0, f); miss = λ z. absurd (omega arith) }
+    pub met_hit : twin (c - 1) ≡ true → Met slot leads twin u (Some (c - 1))
+    met_hit f = record { hit = λ q z. let e : c - 1 ≡ q = cc in (omega arith, ap leads (sym e) ∙ (h.on (c - 1) at).0, ap twin (sym e) ∙ f); miss = λ z. cc }
 
-pub met_miss : {slot : ℕ → ℕ} {leads twin : ℕ → Bool} {u c : ℕ} → Seeking slot leads twin u c → c ≡ 0 → Met slot leads twin u u
-met_miss {slot} {leads} {twin} {u} {c} h e = record { hit = λ l. absurd (omega arith); miss = λ z q hq hl hs. step q hq hl hs (decide (twin q)) }
+pub met_miss : {slot : ℕ → ℕ} {leads twin : ℕ → Bool} {u c : ℕ} → Seeking slot leads twin u c → c ≡ 0 → Met slot leads twin u None
+met_miss {slot} {leads} {twin} {u} {c} h e = record { hit = λ q z. cc; miss = λ z q hq hl hs. step q hq hl hs (decide (twin q)) }
   where
     step : (q : ℕ) → q < u → leads q ≡ true → slot q ≡ slot u → (twin q ≡ true) ⊎ (twin q ≡ false) → twin q ≡ false
     step q hq hl hs (inl y) = absurd (omega (arith, h.left q hq hl hs y))
     step q hq hl hs (inr y) = y
 
 -- nothing in the chains
-pub links_none : Links 0 (replicate 1536 0)
-links_none = record { size = refl; below = λ s h. omega (arith, get_d_zeros 1536 s); falls = λ c h. omega (arith, get_d_zeros 1536 (1024 + c)) }
+pub links_none : Links 0 (record { last = replicate 1024 0; earlier = replicate 512 0 })
+links_none = record { last_size = refl; earlier_size = refl; below = λ s h. omega (arith, get_d_zeros 1024 s); falls = λ c h. omega (arith, get_d_zeros 512 c) }
 
-pub chains_none : (slot : ℕ → ℕ) (leads : ℕ → Bool) {t : List ℕ} → Links 0 t → Chains slot leads 0 t
+pub chains_none : (slot : ℕ → ℕ) (leads : ℕ → Bool) {t : Leaders} → Links 0 t → Chains slot leads 0 t
 chains_none slot leads l = record {
   last = λ q h. absurd (omega arith);
   earlier = λ c q h g. absurd (omega arith);
@@ -157,8 +158,8 @@ chains_none slot leads l = record {
 }
 
 -- u does not lead
-pub links_keep : {u : ℕ} {t : List ℕ} → Links u t → Links (u + 1) t
-links_keep l = record { size = l.size; below = λ s h. omega (arith, l.below s h); falls = l.falls }
+pub links_keep : {u : ℕ} {t : Leaders} → Links u t → Links (u + 1) t
+links_keep l = record { last_size = l.last_size; earlier_size = l.earlier_size; below = λ s h. omega (arith, l.below s h); falls = l.falls }
 
 below : (q u : ℕ) → q < u + 1 → (q < u) ⊎ (q ≡ u)
 below q u h = step (decide (nat_lt q u))
@@ -167,7 +168,7 @@ below q u h = step (decide (nat_lt q u))
     step (inl t) = inl (ltb-true q u t)
     step (inr t) = inr (omega (arith, ltb-false q u t))
 
-pub chains_keep : {slot : ℕ → ℕ} {leads : ℕ → Bool} {u : ℕ} {t : List ℕ} → Chains slot leads u t → leads u ≡ false → Chains slot leads (u + 1) t
+pub chains_keep : {slot : ℕ → ℕ} {leads : ℕ → Bool} {u : ℕ} {t : Leaders} → Chains slot leads u t → leads u ≡ false → Chains slot leads (u + 1) t
 chains_keep {slot} {leads} {u} {t} k f = record {
   last = λ q h hl. k.last q (low q h hl) hl;
   earlier = λ c q m h hc hl hs. k.earlier c q m (low c h hc) hc hl hs;
@@ -183,44 +184,39 @@ chains_keep {slot} {leads} {u} {t} k f = record {
         step (inr y) = differ hl (ap leads y ∙ f)
 
 -- u leads, and is put in
-module _ {u s : ℕ} {t : List ℕ} (l : Links u t) (hu : u < 512) (hs : s < 1024) where
-  abbrev one : List ℕ
-  one = slice_set t (1024 + u) (slice_index t s)
+module _ {u s : ℕ} {t : Leaders} (l : Links u t) (hu : u < 512) (hs : s < 1024) where
+  abbrev two : Leaders
+  two = record { last = slice_set t.last s (u + 1); earlier = slice_set t.earlier u (slice_index t.last s) }
 
-  abbrev two : List ℕ
-  two = slice_set (slice_set t (1024 + u) (slice_index t s)) s (u + 1)
+  slot-here : slice_index_or two.last s 0 ≡ u + 1
+  slot-here = get_or-set_same t.last s (u + 1) 0 (omega (arith, l.last_size))
 
-  size_one : length (slice_set t (1024 + u) (slice_index t s)) ≡ length t
-  size_one = length-set t (1024 + u) (slice_index t s)
+  slot-off : (i : ℕ) → (i ≢ s) → slice_index two.last i ≡ slice_index t.last i
+  slot-off i d = get_or-set_other t.last s i (u + 1) 0 d
 
-  slot-here : slice_index_or two s 0 ≡ u + 1
-  slot-here = get_or-set_same one s (u + 1) 0 (omega (arith, size_one, l.size))
+  next_here : slice_index_or two.earlier u 0 ≡ slice_index t.last s
+  next_here = get_or-set_same t.earlier u (slice_index t.last s) 0 (omega (arith, l.earlier_size))
 
-  slot-off : (i : ℕ) → i < 1024 → (i ≢ s) → slice_index two i ≡ slice_index t i
-  slot-off i h d = get_or-set_other one s i (u + 1) 0 d ∙ get_or-set_other t (1024 + u) i (slice_index t s) 0 (omega arith)
+  next_off : (c : ℕ) → (c ≢ u) → slice_index two.earlier c ≡ slice_index t.earlier c
+  next_off c d = get_or-set_other t.earlier u c (slice_index t.last s) 0 d
 
-  next_here : slice_index_or two (1024 + u) 0 ≡ slice_index t s
-  next_here = get_or-set_other one s (1024 + u) (u + 1) 0 (omega arith) ∙ get_or-set_same t (1024 + u) (slice_index t s) 0 (omega (arith, l.size))
-
-  next_off : (c : ℕ) → (c ≢ u) → slice_index two (1024 + c) ≡ slice_index t (1024 + c)
-  next_off c d = get_or-set_other one s (1024 + c) (u + 1) 0 (omega arith) ∙ get_or-set_other t (1024 + u) (1024 + c) (slice_index t s) 0 (omega arith)
-
-  pub links_more : Links (u + 1) (slice_set (slice_set t (1024 + u) (slice_index t s)) s (u + 1))
+  pub links_more : Links (u + 1) (record { last = slice_set t.last s (u + 1); earlier = slice_set t.earlier u (slice_index t.last s) })
   links_more = record {
-    size = length-set one s (u + 1) ∙ size_one ∙ l.size;
+    last_size = length-set t.last s (u + 1) ∙ l.last_size;
+    earlier_size = length-set t.earlier u (slice_index t.last s) ∙ l.earlier_size;
     below = λ i h. slot-low i h (decide (i == s));
     falls = λ c h. next_low c h (decide (c == u));
   }
     where
-      slot-low : (i : ℕ) → i < 1024 → ((i == s) ≡ true) ⊎ ((i == s) ≡ false) → slice_index two i ≤ u + 1
+      slot-low : (i : ℕ) → i < 1024 → ((i == s) ≡ true) ⊎ ((i == s) ≡ false) → slice_index two.last i ≤ u + 1
       slot-low i h (inl y) = rw (eqb-true i s y) (omega (arith, slot-here))
-      slot-low i h (inr y) = omega (arith, slot-off i h (eqb-false i s y), l.below i h)
+      slot-low i h (inr y) = omega (arith, slot-off i (eqb-false i s y), l.below i h)
 
-      next_low : (c : ℕ) → c < 512 → ((c == u) ≡ true) ⊎ ((c == u) ≡ false) → slice_index two (1024 + c) ≤ c
+      next_low : (c : ℕ) → c < 512 → ((c == u) ≡ true) ⊎ ((c == u) ≡ false) → slice_index two.earlier c ≤ c
       next_low c h (inl y) = rw (eqb-true c u y) (omega (arith, next_here, l.below s hs))
       next_low c h (inr y) = omega (arith, next_off c (eqb-false c u y), l.falls c h)
 
-  pub chains_more : {slot : ℕ → ℕ} {leads : ℕ → Bool} → Chains slot leads u t → ((q : ℕ) → slot q < 1024) → slot u ≡ s → leads u ≡ true → Chains slot leads (u + 1) (slice_set (slice_set t (1024 + u) (slice_index t s)) s (u + 1))
+  pub chains_more : {slot : ℕ → ℕ} {leads : ℕ → Bool} → Chains slot leads u t → ((q : ℕ) → slot q < 1024) → slot u ≡ s → leads u ≡ true → Chains slot leads (u + 1) (record { last = slice_set t.last s (u + 1); earlier = slice_set t.earlier u (slice_index t.last s) })
   chains_more {slot} {leads} k small es hl = record {
     last = λ q h m. last q m (below q u h) (decide (slot q == s));
     earlier = λ c q m h hc hq e. earlier c q m hc hq e (below c u h);
@@ -228,39 +224,39 @@ module _ {u s : ℕ} {t : List ℕ} (l : Links u t) (hu : u < 512) (hs : s < 102
     earlier_in = λ c d h hc e. earlier_in c d hc e (below c u h);
   }
     where
-      last : (q : ℕ) → leads q ≡ true → (q < u) ⊎ (q ≡ u) → ((slot q == s) ≡ true) ⊎ ((slot q == s) ≡ false) → q < slice_index two (slot q)
+      last : (q : ℕ) → leads q ≡ true → (q < u) ⊎ (q ≡ u) → ((slot q == s) ≡ true) ⊎ ((slot q == s) ≡ false) → q < slice_index two.last (slot q)
       last q m y (inl z) = rw (eqb-true (slot q) s z) (low y)
         where
-          low : (q < u) ⊎ (q ≡ u) → q < slice_index two s
+          low : (q < u) ⊎ (q ≡ u) → q < slice_index two.last s
           low (inl x) = omega (arith, slot-here)
           low (inr x) = omega (arith, slot-here)
-      last q m (inl y) (inr z) = omega (arith, slot-off (slot q) (small q) (eqb-false (slot q) s z), k.last q y m)
+      last q m (inl y) (inr z) = omega (arith, slot-off (slot q) (eqb-false (slot q) s z), k.last q y m)
       last q m (inr y) (inr z) = absurd (eqb-false (slot q) s z (ap slot y ∙ es))
 
-      earlier : (c q : ℕ) → q < c → leads c ≡ true → leads q ≡ true → slot q ≡ slot c → (c < u) ⊎ (c ≡ u) → q < slice_index two (1024 + c)
+      earlier : (c q : ℕ) → q < c → leads c ≡ true → leads q ≡ true → slot q ≡ slot c → (c < u) ⊎ (c ≡ u) → q < slice_index two.earlier c
       earlier c q m hc hq e (inl y) = omega (arith, next_off c (omega arith), k.earlier c q m y hc hq e)
       earlier c q m hc hq e (inr y) =
-          let z : slice_index_or t (slot q) 0 ≡ slice_index_or t s 0 = ap (λ (x : ℕ). slice_index t x) (e ∙ ap slot y ∙ es) in
+          let z : slice_index_or t.last (slot q) 0 ≡ slice_index_or t.last s 0 = ap (λ (x : ℕ). slice_index t.last x) (e ∙ ap slot y ∙ es) in
           rw y (omega (arith, next_here, k.last q (omega arith) hq))
 
-      last_in : (i c : ℕ) → i < 1024 → slice_index two i ≡ suc c → ((i == s) ≡ true) ⊎ ((i == s) ≡ false) → (leads c ≡ true) × (slot c ≡ i)
+      last_in : (i c : ℕ) → i < 1024 → slice_index two.last i ≡ suc c → ((i == s) ≡ true) ⊎ ((i == s) ≡ false) → (leads c ≡ true) × (slot c ≡ i)
       last_in i c h e (inl y) =
           let si : i ≡ s = eqb-true i s y in
-          let z : slice_index_or two i 0 ≡ slice_index_or two s 0 = ap (λ (x : ℕ). slice_index two x) si in
+          let z : slice_index_or two.last i 0 ≡ slice_index_or two.last s 0 = ap (λ (x : ℕ). slice_index two.last x) si in
           let cu : c ≡ u = omega (arith, slot-here) in
           (ap leads cu ∙ hl, ap slot cu ∙ es ∙ sym si)
-      last_in i c h e (inr y) = k.last_in i c h (sym (slot-off i h (eqb-false i s y)) ∙ e)
+      last_in i c h e (inr y) = k.last_in i c h (sym (slot-off i (eqb-false i s y)) ∙ e)
 
-      earlier_in : (c d : ℕ) → leads c ≡ true → slice_index two (1024 + c) ≡ suc d → (c < u) ⊎ (c ≡ u) → (leads d ≡ true) × (slot d ≡ slot c)
+      earlier_in : (c d : ℕ) → leads c ≡ true → slice_index two.earlier c ≡ suc d → (c < u) ⊎ (c ≡ u) → (leads d ≡ true) × (slot d ≡ slot c)
       earlier_in c d hc e (inl y) = k.earlier_in c d y hc (sym (next_off c (omega arith)) ∙ e)
       earlier_in c d hc e (inr y) =
-          let z : slice_index_or two (1024 + c) 0 ≡ slice_index_or two (1024 + u) 0 = ap (λ (x : ℕ). slice_index two (1024 + x)) y in
+          let z : slice_index_or two.earlier c 0 ≡ slice_index_or two.earlier u 0 = ap (λ (x : ℕ). slice_index two.earlier x) y in
           let i = k.last_in s d hs (sym next_here ∙ sym z ∙ e) in
           (i.0, i.1 ∙ sym es ∙ ap slot (sym y))
 
 -- as the code does it
-pub entered : {u s l : ℕ} {t : List ℕ} → Links u t → u < 512 → s < 1024 → l ≡ u → Entered u s l t (slice_set (slice_set t (1024 + u) (slice_index t s)) s (u + 1))
+pub entered : {u s l : ℕ} {t : Leaders} → Links u t → u < 512 → s < 1024 → l ≡ u → Entered u s l t (record { last = slice_set t.last s (u + 1); earlier = slice_set t.earlier u (slice_index t.last s) })
 entered {u} {s} {l} h hu hs e = record { links = links_more h hu hs; chains = λ slot leads small es el k. chains_more h hu hs k small es (el ∙ eq-eqb l u e) }
 
-pub not_entered : {u s l : ℕ} {t : List ℕ} → Links u t → (l ≢ u) → Entered u s l t t
+pub not_entered : {u s l : ℕ} {t : Leaders} → Links u t → (l ≢ u) → Entered u s l t t
 not_entered {u} {s} {l} h d = record { links = links_keep h; chains = λ slot leads small es el k. chains_keep k (el ∙ ne_eqb l u d) }

@@ -1,9 +1,10 @@
 -- Leaders chained by a hash of their rows: rows of twins have one slot.
-use Rattle.std.specs.Prelude.{◌≡◌, ℕ, zero, suc, ◌+◌, ◌-◌, ◌*◌, ◌/◌, ◌%◌, ◌^◌, ◌<◌, ◌≤◌, Bool, true, false, cond, ◌&&◌, List, length, ◌==◌, bit_xor, slice_index}
+use Rattle.std.specs.Prelude.{◌≡◌, ℕ, zero, suc, ◌+◌, ◌-◌, ◌*◌, ◌/◌, ◌%◌, ◌^◌, ◌<◌, ◌≤◌, Bool, true, false, cond, ◌&&◌, List, length, ◌==◌, bit_xor, slice_index, Option, None, Some}
 use Rattle.model.specs.Graph.{max_nodes, row_words}
 use Rattle.masking.specs.Masking.{drawn}
 use Rattle.search.specs.Search.{own_bit}
 use Rattle.compressed.specs.Compressed.{alike}
+use Rattle.grouping.specs.declared.Leaders.{Leaders}
 use Rattle.grouping.specs.Least.{leading}
 
 -- word w of node p's row, of the open or of the closed one
@@ -51,26 +52,27 @@ classed_slot classes slot closed q = slot_in_class (slot closed q) (slice_index 
 unfoldable pub class_alike : List ℕ → List ℕ → Bool → ℕ → ℕ → Bool
 class_alike edges classes closed u q = slice_index classes u == slice_index classes q && alike edges closed u q
 
--- a table of chains, of nodes counted from 1: for each slot the last node, and for each node the one before it in its slot
-pub record Links (u : ℕ) (t : List ℕ) : Type 0 where
-  pub size : length t ≡ slots + max_nodes
-  pub below : (s : ℕ) → s < slots → slice_index t s ≤ u
-  pub falls : (c : ℕ) → c < max_nodes → slice_index t (slots + c) ≤ c
+-- tables of chains, of nodes counted from 1
+pub record Links (u : ℕ) (t : Leaders) : Type 0 where
+  pub last_size : length t.last ≡ slots
+  pub earlier_size : length t.earlier ≡ max_nodes
+  pub below : (s : ℕ) → s < slots → slice_index t.last s ≤ u
+  pub falls : (c : ℕ) → c < max_nodes → slice_index t.earlier c ≤ c
 
 -- the chains hold the leaders below u
-pub record Chains (slot : ℕ → ℕ) (leads : ℕ → Bool) (u : ℕ) (t : List ℕ) : Type 0 where
-  pub last : (q : ℕ) → q < u → leads q ≡ true → q < slice_index t (slot q)
-  pub earlier : (c q : ℕ) → q < c → c < u → leads c ≡ true → leads q ≡ true → slot q ≡ slot c → q < slice_index t (slots + c)
-  pub last_in : (s c : ℕ) → s < slots → slice_index t s ≡ suc c → (leads c ≡ true) × (slot c ≡ s)
-  pub earlier_in : (c d : ℕ) → c < u → leads c ≡ true → slice_index t (slots + c) ≡ suc d → (leads d ≡ true) × (slot d ≡ slot c)
+pub record Chains (slot : ℕ → ℕ) (leads : ℕ → Bool) (u : ℕ) (t : Leaders) : Type 0 where
+  pub last : (q : ℕ) → q < u → leads q ≡ true → q < slice_index t.last (slot q)
+  pub earlier : (c q : ℕ) → q < c → c < u → leads c ≡ true → leads q ≡ true → slot q ≡ slot c → q < slice_index t.earlier c
+  pub last_in : (s c : ℕ) → s < slots → slice_index t.last s ≡ suc c → (leads c ≡ true) × (slot c ≡ s)
+  pub earlier_in : (c d : ℕ) → c < u → leads c ≡ true → slice_index t.earlier c ≡ suc d → (leads d ≡ true) × (slot d ≡ slot c)
 
--- of the leaders below u in u's slot, r is alike; none is if r is u
-pub record Met (slot : ℕ → ℕ) (leads twin : ℕ → Bool) (u r : ℕ) : Type 0 where
-  pub hit : r < u → (leads r ≡ true) × (twin r ≡ true)
-  pub miss : r ≡ u → (q : ℕ) → q < u → leads q ≡ true → slot q ≡ slot u → twin q ≡ false
+-- the leader below u in u's slot that is alike, if there is one
+pub record Met (slot : ℕ → ℕ) (leads twin : ℕ → Bool) (u : ℕ) (r : Option ℕ) : Type 0 where
+  pub hit : (q : ℕ) → r ≡ Some q → (q < u) × (leads q ≡ true) × (twin q ≡ true)
+  pub miss : r ≡ None → (q : ℕ) → q < u → leads q ≡ true → slot q ≡ slot u → twin q ≡ false
 
 -- u is put into the chain of slot s if it leads, that is if l is u
-pub record Entered (u s l : ℕ) (t after : List ℕ) : Type 0 where
+pub record Entered (u s l : ℕ) (t after : Leaders) : Type 0 where
   pub links : Links (u + 1) after
   pub chains : (slot : ℕ → ℕ) (leads : ℕ → Bool) → ((q : ℕ) → slot q < slots) → slot u ≡ s → leads u ≡ (l == u) → Chains slot leads u t → Chains slot leads (u + 1) after
 
@@ -80,7 +82,7 @@ pub record SlotsTell (edges classes : List ℕ) (slot : Bool → ℕ → ℕ) (u
   pub same : (closed : Bool) (q : ℕ) → q < u → class_alike edges classes closed u q ≡ true → slot closed q ≡ slot closed u
 
 -- the chains of open and of closed rows, by their slots
-pub record Sought (slot : Bool → ℕ → ℕ) (n : ℕ) (edges marks classes : List ℕ) (u : ℕ) (opens closeds : List ℕ) : Type 0 where
+pub record Sought (slot : Bool → ℕ → ℕ) (n : ℕ) (edges marks classes : List ℕ) (u : ℕ) (opens closeds : Leaders) : Type 0 where
   pub open_links : Links u opens
   pub closed_links : Links u closeds
   pub open_chains : Chains (slot false) (leading (drawn n edges marks classes)) u opens

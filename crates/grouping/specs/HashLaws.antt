@@ -1,9 +1,11 @@
 -- Laws of the hash of a row: the closed row's follows from the open row's, since rotating and adding up bits go together.
-use Rattle.std.specs.Prelude.{◌≡◌, ℕ, zero, suc, ◌+◌, ◌-◌, ◌*◌, ◌/◌, ◌%◌, ◌^◌, ◌<◌, Bool, true, false, List, [], nat_eq, slice_index}
+use Rattle.std.specs.Prelude.{◌≡◌, ℕ, zero, suc, ◌+◌, ◌-◌, ◌*◌, ◌/◌, ◌%◌, ◌^◌, ◌<◌, Bool, true, false, List, [], nat_eq, slice_index, ◌≤◌, length, drop, take, fold}
 use Rattle.std.proofs.Math.Path.{refl, sym, ap₂}
 use Rattle.std.proofs.Common.{ap, ◌∙◌, add-zero, mod-eq_of_lt, add-one, arith, pow_pos, eqb-true}
 use Rattle.std.proofs.Math.Bool.{xor}
 use Rattle.std.specs.Int.Bits.{bit_xor, xor_zero_r}
+use Rattle.std.proofs.lemmas.List.{get_or-drop, length-drop}
+use Rattle.std.proofs.lemmas.List.Sums.{fold_more}
 use Rattle.std.proofs.lemmas.Nat.{xor_block, xor_mod, xor_shr}
 use Rattle.std.proofs.Math.Pow.{pow-lt}
 use Rattle.model.specs.Lists.{all, from, nodes}
@@ -55,12 +57,17 @@ unfolding rotated
 rotated_xor a b = ap₂ bit_xor (ap (λ (x : ℕ). x % 2 ^ 64) (xor_shl a b 9) ∙ xor_mod (a * 2 ^ 9) (b * 2 ^ 9) 64) (xor_shr a b 55) ∙ xor_four (a * 2 ^ 9 % 2 ^ 64) (b * 2 ^ 9 % 2 ^ 64) (a / 2 ^ 55) (b / 2 ^ 55)
 
 -- word by word
-pub hash_more : (rotate : ℕ → ℕ) (edges : List ℕ) (p w : ℕ) {h r : ℕ} → h ≡ hash_of rotate edges false p w → r ≡ bit_xor (rotate h) (slice_index edges (8 * p + w)) → r ≡ hash_of rotate edges false p (w + 1)
+pub hash_folded : (rotate : ℕ → ℕ) (edges : List ℕ) (p : ℕ) → 8 * p + 8 ≤ length edges → fold (λ h x. bit_xor (rotate h) x) 0 (take (8 * p + 8 - 8 * p) (drop (8 * p) edges)) ≡ hash_of rotate edges false p 8
 unfolding hash_of row_word
-hash_more rotate edges p w e g = rw (add-one w) (g ∙ ap₂ (λ (a b : ℕ). bit_xor (rotate a) b) e (sym (xor_zero_r (slice_index edges (8 * p + w)))))
-
-pub hash_done : (rotate : ℕ → ℕ) (edges : List ℕ) (p : ℕ) {w h : ℕ} → h ≡ hash_of rotate edges false p w → w ≡ 8 → h ≡ hash_of rotate edges false p 8
-hash_done rotate edges p e f = e ∙ ap (hash_of rotate edges false p) f
+hash_folded rotate edges p l = let e : 8 * p + 8 - 8 * p ≡ 8 = omega arith in rw e (words 8 (omega arith))
+  where
+    words : (k : ℕ) → k ≤ 8 → fold (λ h x. bit_xor (rotate h) x) 0 (take k (drop (8 * p) edges)) ≡ hash_of rotate edges false p k
+    words zero h = refl
+    words (suc k) h =
+        let e : suc k ≡ k + 1 = omega arith in
+        ap (λ (m : ℕ). fold (λ h x. bit_xor (rotate h) x) 0 (take m (drop (8 * p) edges))) e
+        ∙ fold_more (λ h x. bit_xor (rotate h) x) 0 (drop (8 * p) edges) k 0 (simp length-drop (omega arith))
+        ∙ ap₂ (λ (a b : ℕ). bit_xor (rotate a) b) (words k (omega arith)) (get_or-drop (8 * p) edges k 0 ∙ sym (xor_zero_r (slice_index edges (8 * p + k))))
 
 pub hash_same : (rotate : ℕ → ℕ) (edges : List ℕ) (closed : Bool) (p q k : ℕ) → ((w : ℕ) → w < k → row_word edges closed p w ≡ row_word edges closed q w) → hash_of rotate edges closed p k ≡ hash_of rotate edges closed q k
 unfolding hash_of

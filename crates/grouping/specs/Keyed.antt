@@ -8,7 +8,7 @@ use Rattle.grouping.specs.Least.{least_visible}
 use Rattle.grouping.specs.Chains.{SlotsTell, Sought, slot_in}
 
 -- the marks of a graph without hidden nodes
-abbrev pub nobody : List ℕ
+unfoldable pub nobody : List ℕ
 nobody = replicate max_nodes 0
 
 -- an edge table is that of a graph, the keys are its keys, and each node has a class
@@ -22,8 +22,3 @@ pub record KeysTold (n : ℕ) (edges keys classes : List ℕ) : Type 0 where
 -- the slot of u's row, by its open or its closed key
 unfoldable pub key_slot : List ℕ → Bool → ℕ → ℕ
 key_slot keys closed u = slot_in (slice_index keys (2 * u + cond closed 1 0))
-
--- r is the least member of u's group, where chains by any slots hold the leaders below u, and u's are a and b
-pub record Led (edges classes opens closeds : List ℕ) (u a b r : ℕ) : Type 0 where
-  pub least : (n : ℕ) (slot : Bool → ℕ → ℕ) → Apart n edges nobody classes → u < n → SlotsTell edges classes slot u → slot false u ≡ a → slot true u ≡ b → Sought slot n edges nobody classes u opens closeds
-      → r ≡ least_visible (drawn n edges nobody classes) u

@@ -29,12 +29,12 @@ use Rattle.grouping.specs.Chains.{Chains, Entered, Met, SlotsTell, Sought, class
 use Rattle.grouping.specs.HashLaws.{slot_in-lt}
 use Rattle.grouping.specs.ChainLaws.{classed_slot_lem, classed_tell, met_miss, seeking_start}
 use Rattle.grouping.specs.Least.{least_visible}
-use Rattle.grouping.specs.LeastLaws.{least-closed, least_fits, least_open, sought_more}
-use Rattle.grouping.specs.Keyed.{KeysTold, Led, key_slot, nobody}
+use Rattle.grouping.specs.LeastLaws.{least_fits}
+use Rattle.grouping.specs.Keyed.{KeysTold, key_slot, nobody}
 
 -- where nobody is hidden
-shown-all : (p : ℕ) → shown nobody p ≡ true
-unfolding shown
+pub shown-all : (p : ℕ) → shown nobody p ≡ true
+unfolding shown nobody
 shown-all p = rw (get_d_zeros 512 p)
 
 module _ {n : ℕ} {edges keys classes : List ℕ} (k : KeysTold n edges keys classes) where
@@ -43,7 +43,7 @@ module _ {n : ℕ} {edges keys classes : List ℕ} (k : KeysTold n edges keys cl
   nobody_hidden = record {
     proper = record { small = k.proper.small; symmetric = k.proper.symmetric; irreflexive = k.proper.irreflexive; inside = k.proper.inside; held = λ p t. ltb-true p n (and_fst (nat_lt p n) (slice_index nobody p == 1) t); classed = λ p. class p (decide (nat_lt p n)); unclassed = λ p l. rw (le-ltb p n l) };
     within = k.within;
-    marked = omega (arith, length-replicate {A = ℕ} 512 0, k.within.small);
+    marked = unfold nobody in omega (arith, length-replicate {A = ℕ} 512 0, k.within.small);
     labelled = k.labelled;
     none = λ p q e. differ (shown-all q) e;
   }
@@ -92,39 +92,5 @@ module _ {n : ℕ} {edges keys classes : List ℕ} (k : KeysTold n edges keys cl
       same true q l h = key-same 1 u q (true_key n edges keys ready u q hu (omega arith) (meet_true n edges keys ready u q hu (omega arith) (meets_words true u q edges h)))
       same false q l h = key-same 0 u q (false_key n edges keys ready u q hu (omega arith) (meet_false n edges keys ready u q hu (omega arith) (meets_words false u q edges h)))
 
--- a slot that is empty
-pub none_met : (edges classes : List ℕ) (closed : Bool) {chains : List ℕ} {u s : ℕ} → s < 1024 → slice_index chains s ≡ 0 → (slot : ℕ → ℕ) (leads : ℕ → Bool) → slot u ≡ s → Chains slot leads u chains → Met slot leads (class_alike edges classes closed u) u u
-none_met edges classes closed {u = u} l e slot leads es k = met_miss (seeking_start (class_alike edges classes closed u) k es l (sym e)) refl
-
--- the two searches lead to the least member
-module _ {edges classes opens closeds : List ℕ} {u a b q : ℕ} (m : (slot : ℕ → ℕ) (leads : ℕ → Bool) → slot u ≡ a → Chains slot leads u opens → Met slot leads (class_alike edges classes false u) u q) where
-  pub led_open : q < u → Led edges classes opens closeds u a b q
-  led_open l = record { least = λ n slot h hu tell ea eb s. least_open h hu true (sym (shown-all u)) refl slot (m (slot false) _ ea s.open_chains) l }
-
-  pub led_closed : {r : ℕ} → q ≡ u → r ≤ u → ((slot : ℕ → ℕ) (leads : ℕ → Bool) → slot u ≡ b → Chains slot leads u closeds → Met slot leads (class_alike edges classes true u) u r) → Led edges classes opens closeds u a b r
-  led_closed z low i = record {
-    least = λ n slot h hu tell ea eb s. least-closed h hu true (sym (shown-all u)) refl slot (m (slot false) _ ea s.open_chains) tell z low (i (slot true) _ eb s.closed_chains);
-  }
-
--- a turn of the loop: u's slots are a and b, and l is its least member
 pub slot_small : (y : ℕ) {r : ℕ} → r ≡ slot_in y → r < 1024
 slot_small y e = omega (arith, slot_in-lt y)
-
-module _ {n : ℕ} {edges keys classes : List ℕ} (k : KeysTold n edges keys classes) {u a b : ℕ} (hu : u < n) {x y : ℕ} (ex : x ≡ slot_in (slice_index keys (2 * u))) (ey : y ≡ slot_in (slice_index keys (2 * u + 1))) (ea : a ≡ slot_in_class x (slice_index classes u)) (eb : b ≡ slot_in_class y (slice_index classes u)) {opens closeds : List ℕ}
-    (s : Sought (classed_slot classes (key_slot keys)) n edges nobody classes u opens closeds) {l : ℕ} (d : Led edges classes opens closeds u a b l) where
-  open-slot : a ≡ classed_slot classes (key_slot keys) false u
-  unfolding key_slot
-  open-slot = let z : 2 * u ≡ 2 * u + 0 = omega arith in classed_slot_lem classes (key_slot keys) false u (ex ∙ ap (λ (i : ℕ). slot_in (slice_index keys i)) z) ea
-
-  closed-slot : b ≡ classed_slot classes (key_slot keys) true u
-  unfolding key_slot
-  closed-slot = classed_slot_lem classes (key_slot keys) true u ey eb
-
-  pub led_least : l ≡ least_visible (drawn n edges nobody classes) u
-  led_least = d.least n (classed_slot classes (key_slot keys)) (nobody_hidden k) hu (keys_tell k hu) (sym open-slot) (sym closed-slot) s
-
-  pub led_fits : l < 65536
-  led_fits = least_fits (nobody_hidden k) hu led_least
-
-  pub led_on : {opens₁ closeds₁ : List ℕ} → Entered u a l opens opens₁ → Entered u b l closeds closeds₁ → Sought (classed_slot classes (key_slot keys)) n edges nobody classes (u + 1) opens₁ closeds₁
-  led_on x y = sought_more s led_least (keys_tell k hu) open-slot closed-slot x y

@@ -1,5 +1,5 @@
 -- Each visible node's group is found among the leaders below it.
-use Rattle.std.specs.Prelude.{◌≡◌, ℕ, ◌+◌, ◌<◌, ◌≤◌, Bool, true, false, cond, ◌&&◌, ◌⊎◌, List, length, ◌==◌, nat_eq, nat_lt, slice_index, slice_set}
+use Rattle.std.specs.Prelude.{◌≡◌, ℕ, ◌+◌, ◌<◌, ◌≤◌, Bool, true, false, cond, ◌&&◌, ◌⊎◌, List, length, ◌==◌, nat_eq, nat_lt, slice_index, slice_set, Option, None, Some, unwrap_or}
 use Rattle.std.proofs.Math.Path.{refl, sym, ap}
 use Rattle.std.proofs.Common.{◌∙◌, inl, arith, length-set, get_or-set_other, get_or-set_same}
 use Rattle.std.proofs.Math.Bool.{and-false}
@@ -25,6 +25,7 @@ use Rattle.search.specs.TwinRowLaws.{false_meet, meet_false, meet_true, true_mee
 use Rattle.masking.specs.Masking.{Apart, drawn, shown}
 use Rattle.grouping.specs.Least.{leading, least_visible}
 use Rattle.compressed.specs.Compressed.{alike}
+use Rattle.grouping.specs.declared.Leaders.{Leaders}
 use Rattle.grouping.specs.Chains.{Entered, Links, Met, SlotsTell, Sought, class_alike}
 use Rattle.masking.specs.MaskLaws.{visible_is}
 use Rattle.grouping.specs.ChainLaws.{chains_none}
@@ -180,31 +181,25 @@ module _ {n : ℕ} {edges marks classes : List ℕ} (a : Apart n edges marks cla
   unfolding least_visible
   least_hidden t = rw (seen ∙ t)
 
-  module _ (t : b ≡ true) (slot : Bool → ℕ → ℕ) {q : ℕ} (m : Met (slot false) (leading (drawn n edges marks classes)) (class_alike edges classes false u) u q) where
-    pub least_open : q < u → q ≡ least_visible (drawn n edges marks classes) u
-    least_open l = least-met a u (seen ∙ t) false q l (m.hit l).0 (m.hit l).1
+  module _ (t : b ≡ true) (slot : Bool → ℕ → ℕ) where
+    pub least-met_by : (closed : Bool) {l : ℕ} → Met (slot closed) (leading (drawn n edges marks classes)) (class_alike edges classes closed u) u (Some l) → l ≡ least_visible (drawn n edges marks classes) u
+    least-met_by closed {l} m = let h = m.hit l refl in least-met a u (seen ∙ t) closed l h.0 h.1 h.2
 
-    pub least-closed : {r : ℕ} → SlotsTell edges classes slot u → q ≡ u → r ≤ u → Met (slot true) (leading (drawn n edges marks classes)) (class_alike edges classes true u) u r → r ≡ least_visible (drawn n edges marks classes) u
-    least-closed {r} tell z low k = step (decide (nat_lt r u))
+    pub least-closed : SlotsTell edges classes slot u → Met (slot false) (leading (drawn n edges marks classes)) (class_alike edges classes false u) u None
+        → (r : Option ℕ) → Met (slot true) (leading (drawn n edges marks classes)) (class_alike edges classes true u) u r → unwrap_or r u ≡ least_visible (drawn n edges marks classes) u
+    least-closed tell m (Some l) k = least-met_by true k
+    least-closed tell m None k = least-alone a u (seen ∙ t) none
       where
-        miss : (c : Bool) → {x : ℕ} → Met (slot c) L (class_alike edges classes c u) u x → x ≡ u → (p : ℕ) → p < u → L p ≡ true → class_alike edges classes c u p ≡ false
-        miss c {x} i y p l h = at (decide (class_alike edges classes c u p))
+        miss : (c : Bool) → Met (slot c) L (class_alike edges classes c u) u None → (p : ℕ) → p < u → L p ≡ true → class_alike edges classes c u p ≡ false
+        miss c i p l h = at (decide (class_alike edges classes c u p))
           where
             at : (class_alike edges classes c u p ≡ true) ⊎ (class_alike edges classes c u p ≡ false) → class_alike edges classes c u p ≡ false
-            at (inl w) = i.miss y p l h (tell.same c p l w)
+            at (inl w) = i.miss refl p l h (tell.same c p l w)
             at (inr w) = w
 
-        step : (nat_lt r u ≡ true) ⊎ (nat_lt r u ≡ false) → r ≡ least_visible g₁ u
-        step (inl y) =
-            let l : r < u = ltb-true r u y in
-            least-met a u (seen ∙ t) true r l (k.hit l).0 (k.hit l).1
-        step (inr y) =
-            let s : r ≡ u = omega (arith, ltb-false r u y) in
-            s ∙ least-alone a u (seen ∙ t) none
-          where
-            none : (c : Bool) (p : ℕ) → p < u → L p ≡ true → class_alike edges classes c u p ≡ false
-            none false p l h = miss false m z p l h
-            none true p l h = miss true k (omega (arith, ltb-false r u y)) p l h
+        none : (c : Bool) (p : ℕ) → p < u → L p ≡ true → class_alike edges classes c u p ≡ false
+        none false p l h = miss false m p l h
+        none true p l h = miss true k p l h
 
 pub least_fits : {n : ℕ} {edges marks classes : List ℕ} {u x : ℕ} → Apart n edges marks classes → u < n → x ≡ least_visible (drawn n edges marks classes) u → x < 65536
 unfolding least_visible
@@ -215,7 +210,7 @@ least_fits {n} {edges} {marks} {classes} {u} {x} a hu e = step (decide (is_visib
     step (inr v) = let y : x ≡ 65535 = rw v at e in omega arith
 
 -- u led or not, the chains go on
-pub sought_more : {slot : Bool → ℕ → ℕ} {n : ℕ} {edges marks classes : List ℕ} {u l s s' : ℕ} {opens closeds opens₁ closeds₁ : List ℕ} → Sought slot n edges marks classes u opens closeds → l ≡ least_visible (drawn n edges marks classes) u
+pub sought_more : {slot : Bool → ℕ → ℕ} {n : ℕ} {edges marks classes : List ℕ} {u l s s' : ℕ} {opens closeds opens₁ closeds₁ : Leaders} → Sought slot n edges marks classes u opens closeds → l ≡ least_visible (drawn n edges marks classes) u
     → SlotsTell edges classes slot u → s ≡ slot false u → s' ≡ slot true u → Entered u s l opens opens₁ → Entered u s' l closeds closeds₁ → Sought slot n edges marks classes (u + 1) opens₁ closeds₁
 sought_more {slot} {n} {edges} {marks} {classes} {u} {l} h e tell es es' x y = record {
   open_links = x.links;
@@ -227,7 +222,7 @@ sought_more {slot} {n} {edges} {marks} {classes} {u} {l} h e tell es es' x y = r
     led : leading (drawn n edges marks classes) u ≡ (l == u)
     led = unfold leading in ap (λ (z : ℕ). nat_eq z u) (sym e)
 
-pub sought_none : (slot : Bool → ℕ → ℕ) (n : ℕ) (edges marks classes : List ℕ) {opens closeds : List ℕ} → Links 0 opens → Links 0 closeds → Sought slot n edges marks classes 0 opens closeds
+pub sought_none : (slot : Bool → ℕ → ℕ) (n : ℕ) (edges marks classes : List ℕ) {opens closeds : Leaders} → Links 0 opens → Links 0 closeds → Sought slot n edges marks classes 0 opens closeds
 sought_none slot n edges marks classes x y = record { open_links = x; closed_links = y; open_chains = chains_none (slot false) (leading (drawn n edges marks classes)) x; closed_chains = chains_none (slot true) (leading (drawn n edges marks classes)) y }
 
 -- the nodes below u are told

@@ -1,5 +1,5 @@
 -- A group is apart from those before it exactly if its row agrees with none in the chains that it is sought in.
-use Rattle.std.specs.Prelude.{◌≡◌, ℕ, ◌+◌, ◌<◌, ◌≤◌, Bool, true, false, not, ◌&&◌, ◌⊎◌, List, ◌==◌, ◌≢◌, nat_eq, slice_index}
+use Rattle.std.specs.Prelude.{◌≡◌, ℕ, ◌+◌, ◌<◌, ◌≤◌, Bool, true, false, not, ◌&&◌, ◌⊎◌, List, ◌==◌, ◌≢◌, nat_eq, slice_index, Option, None, Some, is_some}
 use Rattle.std.proofs.Math.Path.{refl, sym, ap}
 use Rattle.std.proofs.Common.{◌∙◌, arith}
 use Rattle.std.proofs.Math.Logic.{inl, inr}
@@ -10,12 +10,13 @@ use Rattle.model.proofs.ListLaws.{all_intro, nodes_out}
 use Rattle.buffers.specs.AllLaws.{all_fail, all_pass_lem, failed}
 use Rattle.rows.specs.Rows.{leads}
 use Rattle.compressed.specs.Compressed.{alike, apart, merges}
+use Rattle.grouping.specs.declared.Leaders.{Leaders}
 use Rattle.grouping.specs.Chains.{Chains, Entered, Links, Met, SlotsTell, class_alike}
 use Rattle.grouping.specs.ChainLaws.{chains_keep, chains_none, links_keep}
 use Rattle.grouping.specs.Parted.{New, Parted, apart_at, candidate, chained}
 
 -- one node sought in a chain
-pub new_passed : {twin : ℕ → Bool} {a : Bool} {u s : ℕ} {t : List ℕ} → Links u t → not a ≡ true → New twin a u s t t true
+pub new_passed : {twin : ℕ → Bool} {a : Bool} {u s : ℕ} {t : Leaders} → Links u t → not a ≡ true → New twin a u s t t true
 new_passed {twin} {a} l n = record {
   hit = λ f. differ refl f;
   miss = λ e t. differ t (not-true a n);
@@ -23,25 +24,23 @@ new_passed {twin} {a} l n = record {
   chains = λ e slot leads small es el k. chains_keep k (el ∙ not-true a n);
 }
 
-module _ {twin : ℕ → Bool} {a : Bool} {u s : ℕ} {t : List ℕ} (y : not a ≡ false) {x : ℕ} (low : x ≤ u) (m : (slot : ℕ → ℕ) (leads : ℕ → Bool) → slot u ≡ s → Chains slot leads u t → Met slot leads twin u x) where
-  pub new_hit : (x ≢ u) → New twin a u s t t false
-  new_hit d = record {
-    hit = λ f. (not-false a y, λ slot leads es k. (x, less, ((m slot leads es k).hit less).0, ((m slot leads es k).hit less).1));
-    miss = λ e. differ e refl;
-    links = λ e. differ e refl;
-    chains = λ e. differ e refl;
-  }
-    where
-      less : x < u
-      less = omega arith
+pub new_hit : {twin : ℕ → Bool} {a : Bool} {u s : ℕ} {t : Leaders} → not a ≡ false → (x : Option ℕ) → ((slot : ℕ → ℕ) (leads : ℕ → Bool) → slot u ≡ s → Chains slot leads u t → Met slot leads twin u x) → is_some x ≡ true → New twin a u s t t false
+new_hit y None m e = differ e refl
+new_hit {a = a} y (Some q) m e = record {
+  hit = λ f. (not-false a y, λ slot leads es k. let h = (m slot leads es k).hit q refl in (q, h.0, h.1, h.2));
+  miss = λ e. differ e refl;
+  links = λ e. differ e refl;
+  chains = λ e. differ e refl;
+}
 
-  pub new_miss : {after : List ℕ} → x ≡ u → Entered u s u t after → New twin a u s t after true
-  new_miss e h = record {
-    hit = λ f. differ refl f;
-    miss = λ _ _ slot leads es k. (m slot leads es k).miss e;
-    links = λ _. h.links;
-    chains = λ _ slot leads small es el k. h.chains slot leads small es (el ∙ not-false a y ∙ sym (eq-eqb u u refl)) k;
-  }
+pub new_miss : {twin : ℕ → Bool} {a : Bool} {u s : ℕ} {t after : Leaders} → not a ≡ false → (x : Option ℕ) → ((slot : ℕ → ℕ) (leads : ℕ → Bool) → slot u ≡ s → Chains slot leads u t → Met slot leads twin u x) → is_some x ≡ false → Entered u s u t after → New twin a u s t after true
+new_miss y (Some q) m e h = differ refl e
+new_miss {a = a} {u = u} y None m e h = record {
+  hit = λ f. differ refl f;
+  miss = λ _ _ slot leads es k. (m slot leads es k).miss refl;
+  links = λ _. h.links;
+  chains = λ _ slot leads small es el k. h.chains slot leads small es (el ∙ not-false a y ∙ sym (eq-eqb u u refl)) k;
+}
 
 -- who could be one with u's group
 module _ (kinds classes joined : List ℕ) (u q : ℕ) where
@@ -76,7 +75,7 @@ module _ (kinds classes joined : List ℕ) (u q : ℕ) where
 
 -- u leads no group
 module _ {slot : Bool → ℕ → ℕ} {least kinds : List ℕ} {u : ℕ} where
-  pub parted_member : {x : ℕ} {opens closeds : List ℕ} → x ≡ slice_index least u → (x ≢ u) → Parted slot least kinds u opens closeds → Parted slot least kinds (u + 1) opens closeds
+  pub parted_member : {x : ℕ} {opens closeds : Leaders} → x ≡ slice_index least u → (x ≢ u) → Parted slot least kinds u opens closeds → Parted slot least kinds (u + 1) opens closeds
   parted_member e d h = record {
     open_links = links_keep h.open_links;
     closed_links = links_keep h.closed_links;
@@ -108,7 +107,7 @@ module _ (least kinds classes joined : List ℕ) (u : ℕ) where
     found q l a m = rw leading (sym (all_fail (λ (p : ℕ). not (leads least p && merges kinds classes joined u p)) u q l (ap not (and_true a m))))
 
     -- the chains of open or of closed rows
-    module _ (closed : Bool) {t after : List ℕ} {s : ℕ} {a r : Bool} (k : Chains (slot closed) (chained least kinds closed) u t) (es : s ≡ slot closed u) (ea : candidate kinds closed u ≡ a) (w : New (class_alike joined classes closed u) a u s t after r) where
+    module _ (closed : Bool) {t after : Leaders} {s : ℕ} {a r : Bool} (k : Chains (slot closed) (chained least kinds closed) u t) (es : s ≡ slot closed u) (ea : candidate kinds closed u ≡ a) (w : New (class_alike joined classes closed u) a u s t after r) where
       hit-apart : r ≡ false → apart_at least kinds classes joined u ≡ false
       hit-apart f =
           let i = w.hit f in
@@ -137,11 +136,11 @@ module _ (least kinds classes joined : List ℕ) (u : ℕ) where
     unfolding candidate
     closed-candidate = refl
 
-    module _ {opens closeds opens₁ : List ℕ} {s : ℕ} {r : Bool} (h : Parted slot least kinds u opens closeds) (es : s ≡ slot false u) (w : New (class_alike joined classes false u) (not (slice_index kinds u == 2)) u s opens opens₁ r) where
+    module _ {opens closeds opens₁ : Leaders} {s : ℕ} {r : Bool} (h : Parted slot least kinds u opens closeds) (es : s ≡ slot false u) (w : New (class_alike joined classes false u) (not (slice_index kinds u == 2)) u s opens opens₁ r) where
       pub apart_refuted : not r ≡ true → false ≡ apart_at least kinds classes joined u
       apart_refuted n = sym (hit-apart false h.open_chains es open-candidate w (not-true r n))
 
-      module _ (n : not r ≡ false) {closeds₁ : List ℕ} {s' : ℕ} {r' : Bool} (es' : s' ≡ slot true u) (w' : New (class_alike joined classes true u) (not (slice_index kinds u == 1)) u s' closeds closeds₁ r') where
+      module _ (n : not r ≡ false) {closeds₁ : Leaders} {s' : ℕ} {r' : Bool} (es' : s' ≡ slot true u) (w' : New (class_alike joined classes true u) (not (slice_index kinds u == 1)) u s' closeds closeds₁ r') where
         pub apart-told : SlotsTell joined classes slot u → r' ≡ apart_at least kinds classes joined u
         apart-told told = step (decide r')
           where
@@ -171,7 +170,7 @@ module _ (least kinds classes joined : List ℕ) (u : ℕ) where
           closed_chains = next true h.closed_chains es' closed-candidate w' (told.small true) e;
         }
 
-pub parted_none : (slot : Bool → ℕ → ℕ) (least kinds : List ℕ) {opens closeds : List ℕ} → Links 0 opens → Links 0 closeds → Parted slot least kinds 0 opens closeds
+pub parted_none : (slot : Bool → ℕ → ℕ) (least kinds : List ℕ) {opens closeds : Leaders} → Links 0 opens → Links 0 closeds → Parted slot least kinds 0 opens closeds
 parted_none slot least kinds x y = record {
   open_links = x;
   closed_links = y;

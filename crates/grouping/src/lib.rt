@@ -1,14 +1,15 @@
 // The groups of the visible nodes, where hidden ones have no edges, and whether groups are apart: by chains of leaders whose rows have one hash.
 #![tactic(auto)]
 
-ghost use Rattle.std.specs.Prelude.{◌≡◌, ℕ, ◌+◌, ◌*◌, ◌<◌, ◌≤◌, Bool, true, false, length};
+ghost use Rattle.std.specs.Prelude.{◌≡◌, ℕ, ◌+◌, ◌*◌, ◌<◌, ◌≤◌, Bool, true, false, List, length};
 ghost use Rattle.model.specs.Graph.{max_nodes, row_words};
+ghost use Rattle.rows.specs.Rows.{Words};
 ghost use Rattle.layout.specs.Truth.{Truth};
-ghost use Rattle.masking.specs.Masking.{Apart, drawn};
+ghost use Rattle.masking.specs.Masking.{Apart, drawn, shown};
 ghost use Rattle.search.specs.Search.{row_in};
 ghost use Rattle.compressed.specs.Compressed.{apart};
 ghost use Rattle.grouping.specs.Least.{least_visible};
-ghost use Rattle.grouping.specs.Chains.{Chains, Entered, Links, Met, Sought, class_alike, classed_slot, hash_of, own_rotated, rotated, row_slot, slot_for, slot_in, slot_in_class, slots, unrotated};
+ghost use Rattle.grouping.specs.Chains.{Chains, Entered, Links, Met, SlotsTell, Sought, class_alike, classed_slot, hash_of, own_rotated, rotated, row_slot, slot_for, slot_in, slot_in_class, slots, unrotated};
 ghost use Rattle.grouping.specs.Parted.{New, Parted, apart_at};
 ghost use Rattle.grouping.specs.Slots.{SumsTold, group_slot, row_sum};
 
@@ -26,13 +27,9 @@ fn sum_rotated(edges: &[u64], p: usize) -> u64
     ensures { result ≡ hash_of rotated edges.now false p row_words }
 {
     let a = Graph::ROW_WORDS * p;
-    let mut h = 0u64;
-    let mut w = 0;
-    while w < 8 {
-        h = ((h << 9) ^ (h >> 55)) ^ edges[a + w];
-        w += 1;
-    }
-    h
+    edges[a..a + Graph::ROW_WORDS]
+        .iter()
+        .fold(0, |h, word| ((h << 9) ^ (h >> 55)) ^ *word)
 }
 
 // The same without rotation.
@@ -41,13 +38,9 @@ fn sum_plain(edges: &[u64], p: usize) -> u64
     ensures { result ≡ hash_of unrotated edges.now false p row_words }
 {
     let a = Graph::ROW_WORDS * p;
-    let mut h = 0u64;
-    let mut w = 0;
-    while w < 8 {
-        h = h ^ edges[a + w];
-        w += 1;
-    }
-    h
+    edges[a..a + Graph::ROW_WORDS]
+        .iter()
+        .fold(0, |h, word| h ^ *word)
 }
 
 // Node p's own bit where the rotations of the hash leave it: no look at an edge.
@@ -100,115 +93,175 @@ fn slot_by_sum(sums: &[u32], closed: bool, u: usize) -> usize
     ensures { result ≡ slot_in (row_sum sums.now closed u) }
 {
     if closed {
-        return slot_in(std::num::wrapping_add_u32(sums[u], sums[Graph::NODES + u]) as u64);
+        return slot_in(sums[u].wrapping_add(sums[Graph::NODES + u]) as u64);
     }
     slot_in(sums[u] as u64)
 }
 
-// The slot of u's row: by its sum where superedges are few, else by its words.
-fn slot_for_group(joined: &[u64], few: bool, sums: &[u32], closed: bool, u: usize) -> usize
-    requires { (u < max_nodes) × (row_words * u + row_words ≤ length joined.now) × (length sums.now ≡ 2 * max_nodes) }
-    ensures { result ≡ group_slot joined.now few sums.now closed u }
-{
-    if few {
-        return slot_by_sum(sums, closed, u);
-    }
-    slot_of(joined, closed, u)
+// Leaders chained by slots, all counted from 1: the last in each slot, and before each leader the one before it in its slot.
+// A 0 is none: an Option beside each number would double the tables.
+#[derive(Drop)]
+struct Leaders {
+    last: [u16; SLOTS],
+    earlier: [u16; Graph::NODES],
 }
 
-// The leader below u of u's class, in the chain of slot s, whose row agrees with u's; u if there is none.
-fn find_alike(
-    edges: &[u64],
-    classes: &[u16],
-    chains: &[u16],
-    closed: bool,
-    u: usize,
-    s: usize,
-    row: &[u64],
-) -> usize
-    requires { (u < max_nodes) × (row_words * u + row_words ≤ length edges.now) × (u < length classes.now) × (s < slots) × Links u chains.now × (row.now ≡ row_in edges.now u) }
-    ensures { (result ≤ u) × ((slot : ℕ → ℕ) (leads : ℕ → Bool) → slot u ≡ s → Chains slot leads u chains.now → Met slot leads (class_alike edges.now classes.now closed u) u result) }
-{
-    let class = classes[u];
-    let mut c = rows::wide(chains[s]);
-    'groups: while c != 0 {
-        let q = c - 1;
-        c = rows::wide(chains[SLOTS + q]);
-        if classes[q] != class {
-            continue 'groups;
-        }
-        let a = Graph::ROW_WORDS * q;
-        let other = &edges[a..a + Graph::ROW_WORDS];
-        let mut i = 0;
-        while i < Graph::ROW_WORDS {
-            if row[i] ^ other[i] != search::own_bits(closed, u, q, i) {
+impl Leaders {
+    // The leader below u of u's class, in the chain of slot s, whose row agrees with u's.
+    fn find(
+        &self,
+        edges: &[u64],
+        classes: &[u16],
+        closed: bool,
+        u: usize,
+        s: usize,
+        row: &[u64],
+    ) -> Option<usize>
+        requires { (u < max_nodes) × (row_words * u + row_words ≤ length edges.now) × (u < length classes.now) × (s < slots) × Links u self.now × (row.now ≡ row_in edges.now u) }
+        ensures { (slot : ℕ → ℕ) (leads : ℕ → Bool) → slot u ≡ s → Chains slot leads u self.now → Met slot leads (class_alike edges.now classes.now closed u) u result }
+    {
+        let class = classes[u];
+        let mut c = rows::wide(self.last[s]);
+        'groups: while c != 0 {
+            let q = c - 1;
+            c = rows::wide(self.earlier[q]);
+            if classes[q] != class {
                 continue 'groups;
             }
-            i += 1;
+            let a = Graph::ROW_WORDS * q;
+            let other = &edges[a..a + Graph::ROW_WORDS];
+            for i in 0..Graph::ROW_WORDS {
+                if row[i] ^ other[i] != search::own_bits(closed, u, q, i) {
+                    continue 'groups;
+                }
+            }
+            return Some(q);
         }
-        return q;
+        None
     }
-    u
+
+    // What `find` finds; most slots are empty, and then nothing is called.
+    fn find_in_slot(
+        &self,
+        edges: &[u64],
+        classes: &[u16],
+        closed: bool,
+        u: usize,
+        s: usize,
+        row: &[u64],
+    ) -> Option<usize>
+        requires { (u < max_nodes) × (row_words * u + row_words ≤ length edges.now) × (u < length classes.now) × (s < slots) × Links u self.now × (row.now ≡ row_in edges.now u) }
+        ensures { (slot : ℕ → ℕ) (leads : ℕ → Bool) → slot u ≡ s → Chains slot leads u self.now → Met slot leads (class_alike edges.now classes.now closed u) u result }
+    {
+        if self.last[s] == 0 {
+            return None;
+        }
+        self.find(edges, classes, closed, u, s, row)
+    }
+
+    // u put into the chain of slot s if it leads, that is if l is u.
+    fn enter(&mut self, s: usize, u: usize, l: usize)
+        requires { (u < max_nodes) × (s < slots) × Links u self.old }
+        ensures { Entered u s l self.old self.new }
+    {
+        if l == u {
+            self.earlier[u] = self.last[s];
+            self.last[s] = (u + 1) as u16;
+        }
+    }
 }
 
-// u put into the chain of slot s if it leads, that is if l is u.
-fn enter(chains: &mut [u16], s: usize, u: usize, l: usize)
-    requires { (u < max_nodes) × (s < slots) × Links u chains.old }
-    ensures { Entered u s l chains.old chains.new }
-{
-    if l == u {
-        chains[SLOTS + u] = chains[s];
-        chains[s] = (u + 1) as u16;
+// The slots that a node is sought in, and who is visible.
+trait Slots {
+    ghost marks: { Self → List ℕ };
+
+    ghost told: { Self → Bool → ℕ → ℕ };
+
+    ghost reaches: { Self → ℕ → Type 0 };
+
+    fn is_visible(&self, u: usize) -> bool
+        requires { reaches self.now u }
+        ensures { result ≡ shown (marks self.now) u };
+
+    // The slot of u's row, of the open or of the closed one.
+    fn slot(&self, closed: bool, u: usize) -> usize
+        requires { reaches self.now u }
+        ensures told { result ≡ told self.now closed u }
+        ensures small { result < slots };
+}
+
+// Slots by the words of rows, where nodes may be hidden.
+#[derive(Clone, Copy)]
+struct Rows<'a> {
+    edges: &'a [u64],
+    hidden: &'a [u16],
+}
+
+impl<'a> Slots for Rows<'a> {
+    ghost marks = { λ s. s.hidden.now };
+
+    ghost told = { λ s. row_slot s.edges.now };
+
+    ghost reaches = { λ s u. (u < max_nodes) × (row_words * u + row_words ≤ length s.edges.now) × (u < length s.hidden.now) };
+
+    fn is_visible(&self, u: usize) -> bool {
+        masking::is_visible(self.hidden, u)
+    }
+
+    fn slot(&self, closed: bool, u: usize) -> usize {
+        slot_of(self.edges, closed, u)
     }
 }
 
 // The least member of u's group; for a hidden node a number that no node has.
-fn least_of(
+fn least_of<S: Slots>(
+    by: &S,
     edges: &[u64],
-    hidden: &[u16],
     classes: &[u16],
     n: usize,
-    opens: &[u16],
-    closeds: &[u16],
+    opens: &Leaders,
+    closeds: &Leaders,
     u: usize,
     a: usize,
     b: usize,
 ) -> usize
-    requires apart { Apart n edges.now hidden.now classes.now × Sought (classed_slot classes.now (row_slot edges.now)) n edges.now hidden.now classes.now u opens.now closeds.now × (u < n) }
-    requires a_value { (a ≡ classed_slot classes.now (row_slot edges.now) false u) × (b ≡ classed_slot classes.now (row_slot edges.now) true u) }
-    ensures { result ≡ least_visible (drawn n edges.now hidden.now classes.now) u }
+    requires apart { Apart n edges.now (S.marks by.now) classes.now × Sought (classed_slot classes.now (S.told by.now)) n edges.now (S.marks by.now) classes.now u opens.now closeds.now × (u < n) }
+    requires reached { S.reaches by.now u × SlotsTell edges.now classes.now (classed_slot classes.now (S.told by.now)) u }
+    requires a_value { (a ≡ classed_slot classes.now (S.told by.now) false u) × (b ≡ classed_slot classes.now (S.told by.now) true u) }
+    ensures { result ≡ least_visible (drawn n edges.now (S.marks by.now) classes.now) u }
 {
-    if !masking::is_visible(hidden, u) {
+    if !by.is_visible(u) {
         return rows::wide(Graph::NONE);
     }
     let r = Graph::ROW_WORDS * u;
     let row = &edges[r..r + Graph::ROW_WORDS];
-    let l = find_alike(edges, classes, opens, false, u, a, row);
-    if l < u {
+    if let Some(l) = opens.find_in_slot(edges, classes, false, u, a, row) {
         return l;
     }
-    find_alike(edges, classes, closeds, true, u, b, row)
+    closeds
+        .find_in_slot(edges, classes, true, u, b, row)
+        .unwrap_or(u)
 }
 
 // The least members of the groups of the visible nodes, which alone have edges. Chains of leaders are kept on the way.
-fn group_visible(
-    edges: &[u64],
-    hidden: &[u16],
-    classes: &[u16],
-    n: usize,
-    opens: &mut [u16],
-    closeds: &mut [u16],
-    least: &mut [u16],
-)
-    requires { Apart n edges.now hidden.now classes.now × Links 0 opens.old × Links 0 closeds.old × (n ≤ length least.old) }
-    ensures { Truth (drawn n edges.now hidden.now classes.now) least.new classes.now edges.now }
+fn group<S: Slots>(by: &S, edges: &[u64], classes: &[u16], n: usize, least: &mut [u16])
+    requires { Apart n edges.now (S.marks by.now) classes.now × (n ≤ length least.old) × ((u : ℕ) → u < n → S.reaches by.now u × SlotsTell edges.now classes.now (classed_slot classes.now (S.told by.now)) u) }
+    ensures { Truth (drawn n edges.now (S.marks by.now) classes.now) least.new classes.now edges.now }
 {
+    let mut opens = Leaders {
+        last: [0u16; SLOTS],
+        earlier: [0u16; Graph::NODES],
+    };
+    let mut closeds = Leaders {
+        last: [0u16; SLOTS],
+        earlier: [0u16; Graph::NODES],
+    };
     for u in 0..n {
-        let a = slot_in_class(slot_of(edges, false, u), classes[u]);
-        let b = slot_in_class(slot_of(edges, true, u), classes[u]);
-        let l = least_of(edges, hidden, classes, n, opens, closeds, u, a, b);
-        enter(opens, a, u, l);
-        enter(closeds, b, u, l);
+        let a = slot_in_class(by.slot(false, u), classes[u]);
+        let b = slot_in_class(by.slot(true, u), classes[u]);
+        let l = least_of(by, edges, classes, n, &opens, &closeds, u, a, b);
+        opens.enter(a, u, l);
+        closeds.enter(b, u, l);
         least[u] = l as u16;
     }
 }
@@ -218,16 +271,14 @@ pub fn find_groups(edges: &[u64], hidden: &[u16], classes: &[u16], n: usize, lea
     requires { Apart n edges.now hidden.now classes.now × (n ≤ length least.old) }
     ensures { Truth (drawn n edges.now hidden.now classes.now) least.new classes.now edges.now }
 {
-    let mut opens = [0u16; SLOTS + Graph::NODES];
-    let mut closeds = [0u16; SLOTS + Graph::NODES];
-    group_visible(edges, hidden, classes, n, &mut opens, &mut closeds, least);
+    group(&Rows { edges, hidden }, edges, classes, n, least);
 }
 
 // Whether a candidate u agrees with none in the chain of slot s, which it then enters. Who is no candidate is passed over.
 fn is_new(
     joined: &[u64],
     classes: &[u16],
-    chains: &mut [u16],
+    chains: &mut Leaders,
     closed: bool,
     candidate: bool,
     u: usize,
@@ -241,68 +292,75 @@ fn is_new(
     }
     let a = Graph::ROW_WORDS * u;
     let row = &joined[a..a + Graph::ROW_WORDS];
-    if find_alike(joined, classes, chains, closed, u, s, row) != u {
+    if chains.find(joined, classes, closed, u, s, row).is_some() {
         return false;
     }
-    enter(chains, s, u, u);
+    chains.enter(s, u, u);
     true
 }
 
-// Whether the group that u leads, if it leads one, could be one with none before it.
-// A clique is no candidate by open rows, an independent group none by closed ones.
-fn is_apart(
-    joined: &[u64],
-    least: &[u16],
-    kinds: &[u16],
-    classes: &[u16],
+// The groups of a compressed graph. The sums of cubes tell slots where they were kept (few superedges), else the rows do.
+#[derive(Clone, Copy)]
+struct Groups<'a> {
+    joined: &'a [u64],
+    least: &'a [u16],
+    kinds: &'a [u16],
+    classes: &'a [u16],
     few: bool,
-    sums: &[u32],
-    opens: &mut [u16],
-    closeds: &mut [u16],
-    u: usize,
-) -> bool
-    requires u_lt_max_nodes { (u < max_nodes) × (row_words * u + row_words ≤ length joined.now) × (u < length least.now) × (u < length kinds.now) × (u < length classes.now) × (length sums.now ≡ 2 * max_nodes) × (few ≡ true → SumsTold joined.now sums.now) }
-    requires parted { Parted (classed_slot classes.now (group_slot joined.now few sums.now)) least.now kinds.now u opens.old closeds.old }
-    ensures value { result ≡ apart_at least.now kinds.now classes.now joined.now u }
-    ensures parted_2 { result ≡ true → Parted (classed_slot classes.now (group_slot joined.now few sums.now)) least.now kinds.now (u + 1) opens.new closeds.new }
-{
-    if rows::wide(least[u]) != u {
-        return true;
-    }
-    let kind = kinds[u];
-    let a = slot_in_class(slot_for_group(joined, few, sums, false, u), classes[u]);
-    let b = slot_in_class(slot_for_group(joined, few, sums, true, u), classes[u]);
-    if !is_new(joined, classes, opens, false, kind != CLIQUE, u, a) {
-        return false;
-    }
-    is_new(joined, classes, closeds, true, kind != INDEPENDENT, u, b)
+    sums: &'a [u32],
 }
 
-// Whether no two of the groups could be one. Chains of leaders are kept on the way.
-fn are_all_apart(
-    joined: &[u64],
-    least: &[u16],
-    kinds: &[u16],
-    classes: &[u16],
-    n: usize,
-    few: bool,
-    sums: &[u32],
-    opens: &mut [u16],
-    closeds: &mut [u16],
-) -> bool
-    requires n_le_max_nodes { (n ≤ max_nodes) × (row_words * n ≤ length joined.now) × (n ≤ length least.now) × (n ≤ length kinds.now) × (n ≤ length classes.now) × (length sums.now ≡ 2 * max_nodes) × (few ≡ true → SumsTold joined.now sums.now) }
-    requires links { Links 0 opens.old × Links 0 closeds.old }
-    ensures { result ≡ apart n least.now kinds.now classes.now joined.now }
-{
-    for u in 0..n {
-        if !is_apart(joined, least, kinds, classes, few, sums, opens, closeds, u) {
+impl<'a> Groups<'a> {
+    // The slot of u's row: by its sum where superedges are few, else by its words.
+    fn slot(&self, closed: bool, u: usize) -> usize
+        requires { (u < max_nodes) × (row_words * u + row_words ≤ length self.now.joined.now) × (length self.now.sums.now ≡ 2 * max_nodes) }
+        ensures { result ≡ group_slot self.now.joined.now self.now.few self.now.sums.now closed u }
+    {
+        if self.few {
+            return slot_by_sum(self.sums, closed, u);
+        }
+        slot_of(self.joined, closed, u)
+    }
+
+    // Whether the group that u leads, if it leads one, could be one with none before it.
+    // A clique is no candidate by open rows, an independent group none by closed ones.
+    fn is_apart(&self, opens: &mut Leaders, closeds: &mut Leaders, u: usize) -> bool
+        requires u_lt_max_nodes { (u < max_nodes) × (row_words * u + row_words ≤ length self.now.joined.now) × (u < length self.now.least.now) × (u < length self.now.kinds.now) × (u < length self.now.classes.now) × (length self.now.sums.now ≡ 2 * max_nodes) × (self.now.few ≡ true → SumsTold self.now.joined.now self.now.sums.now) }
+        requires words { Words self.now.joined.now }
+        requires parted { Parted (classed_slot self.now.classes.now (group_slot self.now.joined.now self.now.few self.now.sums.now)) self.now.least.now self.now.kinds.now u opens.old closeds.old }
+        ensures value { result ≡ apart_at self.now.least.now self.now.kinds.now self.now.classes.now self.now.joined.now u }
+        ensures parted_2 { result ≡ true → Parted (classed_slot self.now.classes.now (group_slot self.now.joined.now self.now.few self.now.sums.now)) self.now.least.now self.now.kinds.now (u + 1) opens.new closeds.new }
+    {
+        if rows::wide(self.least[u]) != u {
+            return true;
+        }
+        let kind = self.kinds[u];
+        let a = slot_in_class(self.slot(false, u), self.classes[u]);
+        let b = slot_in_class(self.slot(true, u), self.classes[u]);
+        if !is_new(
+            self.joined,
+            self.classes,
+            opens,
+            false,
+            kind != CLIQUE,
+            u,
+            a,
+        ) {
             return false;
         }
+        is_new(
+            self.joined,
+            self.classes,
+            closeds,
+            true,
+            kind != INDEPENDENT,
+            u,
+            b,
+        )
     }
-    true
 }
 
-// Whether no two groups of a compressed graph could be one. The sums of cubes tell slots where they were kept (few superedges), else the rows do.
+// Whether no two groups of a compressed graph could be one. Chains of leaders are kept on the way.
 pub fn are_apart(
     joined: &[u64],
     least: &[u16],
@@ -315,17 +373,26 @@ pub fn are_apart(
     requires { (n ≤ max_nodes) × (row_words * n ≤ length joined.now) × (n ≤ length least.now) × (n ≤ length kinds.now) × (n ≤ length classes.now) × (length sums.now ≡ 2 * max_nodes) × (few ≡ true → SumsTold joined.now sums.now) }
     ensures { result ≡ apart n least.now kinds.now classes.now joined.now }
 {
-    let mut opens = [0u16; SLOTS + Graph::NODES];
-    let mut closeds = [0u16; SLOTS + Graph::NODES];
-    are_all_apart(
+    let groups = Groups {
         joined,
         least,
         kinds,
         classes,
-        n,
         few,
         sums,
-        &mut opens,
-        &mut closeds,
-    )
+    };
+    let mut opens = Leaders {
+        last: [0u16; SLOTS],
+        earlier: [0u16; Graph::NODES],
+    };
+    let mut closeds = Leaders {
+        last: [0u16; SLOTS],
+        earlier: [0u16; Graph::NODES],
+    };
+    for u in 0..n {
+        if !groups.is_apart(&mut opens, &mut closeds, u) {
+            return false;
+        }
+    }
+    true
 }

@@ -19,7 +19,7 @@ use Rattle.keys.specs.KeySums.{LeastTold}
 use Rattle.grouping.specs.Keyed.{KeysTold}
 use Rattle.tables.specs.Lent.{Held}
 use Rattle.tables.specs.LentLaws.{held_sized}
-use Rattle.states.specs.States.{State, word_in, word_limit}
+use Rattle.states.specs.States.{State, WordsFit, word_in}
 
 -- mark and class of the graph that words tell
 module _ (n : ℕ) (edges words : List ℕ) where
@@ -58,7 +58,7 @@ module _ {n : ℕ} {t : Tables} (h : Held n t) where
   held-edges : t.edges ≡ edges_of (graph_of n t)
   held-edges = ap (λ (x : Tables). x.edges) h.same ∙ unfold tables_of in refl
 
-  saved-words : {s s₁ : List ℕ} → length s ≡ n → Filled (word_in t.nodes) n s s₁ → s₁ ≡ node_words (graph_of n t)
+  saved-words : {s s₁ : List ℕ} → length s ≡ n → Filled (word_in t.nodes) (length s) s s₁ → s₁ ≡ node_words (graph_of n t)
   saved-words {s} {s₁} l a =
       let c : (graph_of n t).node_count ≡ n = unfold graph_of in refl in
       filled_is (node_words (graph_of n t)) a (omega arith) (length_words (graph_of n t) ∙ c ∙ sym l) (λ p k. word_at (graph_of n t) p (omega arith) ∙ sym (held_word p (omega arith)))
@@ -74,7 +74,7 @@ module _ {n : ℕ} {t : Tables} (h : Held n t) where
     whole_length : length (es ++ drop (8 * n) to) ≡ 9 * n
     whole_length = simp (length-append, length-drop) (omega (arith, front))
 
-    pub saved : Filled (word_in t.nodes) n (take (length (es ++ drop (8 * n) to) - 8 * n) (drop (8 * n) (es ++ drop (8 * n) to))) ws
+    pub saved : Filled (word_in t.nodes) (length (take (length (es ++ drop (8 * n) to) - 8 * n) (drop (8 * n) (es ++ drop (8 * n) to)))) (take (length (es ++ drop (8 * n) to) - 8 * n) (drop (8 * n) (es ++ drop (8 * n) to))) ws
         → take (8 * n) (es ++ drop (8 * n) to) ++ (ws ++ drop (length (es ++ drop (8 * n) to) - 8 * n) (drop (8 * n) (es ++ drop (8 * n) to)))
         ≡ edges_of (graph_of n t) ++ node_words (graph_of n t)
     saved f =
@@ -89,8 +89,8 @@ module _ {n : ℕ} {edges words : List ℕ} (s : State n edges words) where
   pub state_within : Within n edges
   state_within = unfold state_graph in filled_within state s.proper s.edges_of_lem
 
-  pub word_small : (p : ℕ) → p < n → get_or words p 0 < word_limit
-  word_small p l = omega (arith, told_class n edges words p l, s.proper.classed p)
+  pub words_fit : WordsFit words
+  words_fit p l = omega (arith, told_class n edges words p (omega (arith, s.size)), s.proper.classed p)
 
   -- the classes that are listed
   module _ {none classes : List ℕ} (room : n ≤ length none) (c : Filled (λ p. get_or words p 0 / 2) n none classes) where
@@ -100,7 +100,7 @@ module _ {n : ℕ} {edges words : List ℕ} (s : State n edges words) where
       proper = unfold state_graph in filled_proper state s.proper s.edges_of_lem;
       keys_of_lem = e;
       labelled = omega (arith, c.size);
-      classed = λ p l. omega (arith, c.numbers p l, word_small p l);
+      classed = λ p l. omega (arith, c.numbers p l, words_fit p (omega (arith, s.size)));
     }
 
     -- and the labels that are put

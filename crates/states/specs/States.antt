@@ -1,5 +1,5 @@
 -- What is saved of a node, and when words are the state of a graph.
-use Rattle.std.specs.Prelude.{◌≡◌, List, ℕ, ◌+◌, ◌*◌, length}
+use Rattle.std.specs.Prelude.{◌≡◌, List, ℕ, ◌+◌, ◌*◌, ◌<◌, length, get_or}
 use Rattle.model.specs.Graph.{Proper, max_classes}
 use Rattle.model.specs.Tables.{edges_of, node_number}
 use Rattle.model.specs.Store.{state_graph}
@@ -7,6 +7,9 @@ use Rattle.model.specs.Store.{state_graph}
 -- the word of a node is below this: a mark and twice a class
 abbrev pub word_limit : ℕ
 word_limit = 2 * max_classes
+
+abbrev pub WordsFit : List ℕ → Type 0
+WordsFit words = (p : ℕ) → p < length words → get_or words p 0 < word_limit
 
 -- the word of node p, by its mark and class in a node table
 abbrev pub word_in : List ℕ → ℕ → ℕ

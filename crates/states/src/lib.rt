@@ -9,7 +9,7 @@ ghost use Rattle.buffers.specs.Filled.{Filled};
 ghost use Rattle.rows.specs.Rows.{lent};
 ghost use Rattle.rings.specs.Steps.{LabelsPut};
 ghost use Rattle.tables.specs.Lent.{Held, Sized};
-ghost use Rattle.states.specs.States.{State, word_in, word_limit};
+ghost use Rattle.states.specs.States.{State, WordsFit, word_in};
 
 use rows::Graph;
 
@@ -17,13 +17,13 @@ use rows::Graph;
 pub const WORD_LIMIT: u64 = 512;
 
 // The mark and twice the class of each node, in one word.
-fn save_words(n: usize, nodes: &[u16], to: &mut [u64])
-    requires { (n ≤ max_nodes) × (length nodes.now ≡ node_numbers * n) × (length to.old ≡ n) }
-    ensures { Filled (word_in nodes.now) n to.old to.new }
+fn save_words(nodes: &[u16], to: &mut [u64])
+    requires { (length to.old ≤ max_nodes) × (length nodes.now ≡ node_numbers * length to.old) }
+    ensures { Filled (word_in nodes.now) (length to.old) to.old to.new }
 {
-    for p in 0..n {
+    for (p, word) in to.iter_mut().enumerate() {
         let a = Graph::NODE_NUMBERS * p;
-        to[p] = nodes[a + groups::MARK] as u64 + 2 * nodes[a + groups::CLASS] as u64;
+        *word = nodes[a + groups::MARK] as u64 + 2 * nodes[a + groups::CLASS] as u64;
     }
 }
 
@@ -34,29 +34,28 @@ pub fn save(n: usize, edges: &[u64], nodes: &[u16], to: &mut [u64])
 {
     let end = Graph::ROW_WORDS * n;
     buffers::copy_words(edges, &mut to[..end]);
-    save_words(n, nodes, &mut to[end..]);
+    save_words(nodes, &mut to[end..]);
 }
 
 // Marks and classes put into a node table.
-fn put_labels(n: usize, words: &[u64], nodes: &mut [u16])
-    requires { (n ≤ max_nodes) × (length nodes.old ≡ node_numbers * n) × (length words.now ≡ n) × ((p : ℕ) → p < n → get_or words.now p 0 < word_limit) }
-    ensures { LabelsPut (λ p. get_or words.now p 0 % 2) (λ p. get_or words.now p 0 / 2) n nodes.old nodes.new }
+fn put_labels(words: &[u64], nodes: &mut [u16])
+    requires { (length words.now ≤ max_nodes) × (length nodes.old ≡ node_numbers * length words.now) × WordsFit words.now }
+    ensures { LabelsPut (λ p. get_or words.now p 0 % 2) (λ p. get_or words.now p 0 / 2) (length words.now) nodes.old nodes.new }
 {
-    for p in 0..n {
+    for (p, word) in words.iter().enumerate() {
         let a = Graph::NODE_NUMBERS * p;
-        let word = words[p];
-        nodes[a + groups::MARK] = (word % 2) as u16;
-        nodes[a + groups::CLASS] = (word / 2) as u16;
+        nodes[a + groups::MARK] = (*word % 2) as u16;
+        nodes[a + groups::CLASS] = (*word / 2) as u16;
     }
 }
 
 // And the classes put into a list of their own.
-fn list_classes(n: usize, words: &[u64], classes: &mut [u16])
-    requires { (length words.now ≡ n) × (n ≤ length classes.old) × ((p : ℕ) → p < n → get_or words.now p 0 < word_limit) }
-    ensures { Filled (λ p. get_or words.now p 0 / 2) n classes.old classes.new }
+fn list_classes(words: &[u64], classes: &mut [u16])
+    requires { (length words.now ≤ length classes.old) × WordsFit words.now }
+    ensures { Filled (λ p. get_or words.now p 0 / 2) (length words.now) classes.old classes.new }
 {
-    for p in 0..n {
-        classes[p] = (words[p] / 2) as u16;
+    for (p, word) in words.iter().enumerate() {
+        classes[p] = (*word / 2) as u16;
     }
 }
 
@@ -73,10 +72,10 @@ pub fn restore(
     ensures { lent edges.new nodes.new keys.new ≡ tables_of (state_graph n from.now words.now) }
 {
     buffers::copy_words(from, edges);
-    put_labels(n, words, nodes);
+    put_labels(words, nodes);
     keys::sum_rows(edges, keys, n);
     let mut classes = [0u16; Graph::NODES];
-    list_classes(n, words, &mut classes);
+    list_classes(words, &mut classes);
     let mut least = [0u16; Graph::NODES];
     grouping::keyed::find_groups(edges, keys, &classes, n, &mut least);
     groups::build(nodes, &least, n);

@@ -18,10 +18,10 @@ pub fn sum_groups(least: &[u16], n: usize, sums: &mut [u32])
     requires { FirstsAreNodes n least.now × (sums.old ≡ replicate (2 * max_nodes) 0) }
     ensures { Cubed n least.now sums.new × NoneJoined sums.new }
 {
-    for p in 0..n {
-        if least[p] != Graph::NONE {
-            let own = Graph::NODES + rows::wide(least[p]);
-            sums[own] = std::num::wrapping_add_u32(sums[own], rows::cube_of(p));
+    for (p, first) in least[..n].iter().enumerate() {
+        if *first != Graph::NONE {
+            let own = Graph::NODES + rows::wide(*first);
+            sums[own] = sums[own].wrapping_add(rows::cube_of(p));
         }
     }
 }
@@ -31,8 +31,8 @@ pub fn add_pair(sums: &mut [u32], p: usize, q: usize)
     requires { (p < max_nodes) × (q < max_nodes) × (length sums.old ≡ 2 * max_nodes) }
     ensures { PairAdded p q sums.old sums.new }
 {
-    sums[p] = std::num::wrapping_add_u32(sums[p], sums[Graph::NODES + q]);
-    sums[q] = std::num::wrapping_add_u32(sums[q], sums[Graph::NODES + p]);
+    sums[p] = sums[p].wrapping_add(sums[Graph::NODES + q]);
+    sums[q] = sums[q].wrapping_add(sums[Graph::NODES + p]);
 }
 
 // The open key that p has as a member of the group that l leads: a clique's members have each other too.
@@ -41,8 +41,8 @@ fn member_key(sums: &[u32], kind: u16, l: usize, p: usize) -> u32
     ensures { result ≡ member_key sums.now kind l p }
 {
     if kind == CLIQUE {
-        let all = std::num::wrapping_add_u32(sums[l], sums[Graph::NODES + l]);
-        return std::num::wrapping_sub_u32(all, rows::cube_of(p));
+        let all = sums[l].wrapping_add(sums[Graph::NODES + l]);
+        return all.wrapping_sub(rows::cube_of(p));
     }
     sums[l]
 }

@@ -63,11 +63,11 @@ group_to kinds joined members l a b = not (eqb (get_or kinds l 0) single) && (re
 unfoldable pub drawn_bit : ℕ → List ℕ → List ℕ → List ℕ → ℕ → ℕ → Bool
 drawn_bit n least kinds joined a b = is_follower n least b && reaches kinds joined (get_or least b 0) a
 
--- the first k words of row l are copied to row p
-pub record RowCopied (k l p : ℕ) (t after : List ℕ) : Type 0 where
+-- row l is copied to row p
+pub record RowCopied (l p : ℕ) (t after : List ℕ) : Type 0 where
   pub size : length after ≡ length t
-  pub words : (w : ℕ) → w < k → get_or after (row_words * p + w) 0 ≡ get_or t (row_words * l + w) 0
-  pub others : (i : ℕ) → (i < row_words * p) ⊎ (row_words * p + k ≤ i) → get_or after i 0 ≡ get_or t i 0
+  pub words : (w : ℕ) → w < row_words → get_or after (row_words * p + w) 0 ≡ get_or t (row_words * l + w) 0
+  pub others : (i : ℕ) → (i < row_words * p) ⊎ (row_words * p + row_words ≤ i) → get_or after i 0 ≡ get_or t i 0
 
 -- a bit of p's row by that of its first member's row: in a clique their own bits differ
 unfoldable pub follow_bit : ℕ → ℕ → ℕ → Bool → ℕ → Bool

@@ -19,43 +19,12 @@ use Rattle.compressed.specs.Compressed.{Compressed, placed, unfolded, unfolded_e
 use Rattle.compressed.specs.PlacedLaws.{placed_in}
 use Rattle.unfolding.specs.Filling.{FirstsLead, Followed, Following, RowCopied, drawn_bit, follow_bit, is_follower, reaches}
 
--- a row copied word by word
-pub row_copied_none : (l p : ℕ) (t : List ℕ) → RowCopied 0 l p t t
-row_copied_none l p t = record { size = refl; words = λ w h. absurd (omega arith); others = λ i h. refl }
-
-pub row_copied_more : {w l p x : ℕ} {t t₁ : List ℕ} → RowCopied w l p t t₁ → l < p → w < 8 → 8 * p + 8 ≤ length t → x ≡ get_or t₁ (8 * l + w) 0 → RowCopied (w + 1) l p t (set t₁ (8 * p + w) x)
-row_copied_more {w} {l} {p} {x} {t} {t₁} r h k f e = record {
-  size = length-set t₁ (8 * p + w) x ∙ r.size;
-  words = λ v i. step v i (decide (eqb v w));
-  others = λ i o. get_or-set_other t₁ (8 * p + w) i x 0 (off i o) ∙ r.others i (before i o);
-}
-  where
-    step : (v : ℕ) → v < w + 1 → (eqb v w ≡ true) ⊎ (eqb v w ≡ false) → get_or (set t₁ (8 * p + w) x) (8 * p + v) 0 ≡ get_or t (8 * l + v) 0
-    step v i (inl s) = rw (eqb-true v w s) (get_or-set_same t₁ (8 * p + w) x 0 (omega (arith, r.size)) ∙ e ∙ r.others (8 * l + w) (inl (omega arith)))
-    step v i (inr s) =
-        let d : v ≡ w → ⊥ = eqb-false v w s in
-        get_or-set_other t₁ (8 * p + w) (8 * p + v) x 0 (omega arith) ∙ r.words v (omega arith)
-
-    off : (i : ℕ) → (i < 8 * p) ⊎ (8 * p + (w + 1) ≤ i) → i ≡ 8 * p + w → ⊥
-    off i (inl o) = λ q. omega arith
-    off i (inr o) = λ q. omega arith
-
-    before : (i : ℕ) → (i < 8 * p) ⊎ (8 * p + (w + 1) ≤ i) → (i < 8 * p) ⊎ (8 * p + w ≤ i)
-    before i (inl o) = inl o
-    before i (inr o) = inr (omega arith)
-
-pub row_copied_all : {k l p : ℕ} {t after : List ℕ} → RowCopied k l p t after → 8 ≤ k → k ≤ 8 → RowCopied 8 l p t after
-row_copied_all {k} {l} {p} r h i = record { size = r.size; words = λ w o. r.words w (omega arith); others = λ j o. r.others j (far j o) }
-  where
-    far : (j : ℕ) → (j < 8 * p) ⊎ (8 * p + 8 ≤ j) → (j < 8 * p) ⊎ (8 * p + k ≤ j)
-    far j (inl o) = inl o
-    far j (inr o) = inr (omega arith)
-
-copied_row : {l p : ℕ} {t after : List ℕ} → RowCopied 8 l p t after → (b : ℕ) → b < 512 → edge_bit after p b ≡ edge_bit t l b
+-- a row copied
+copied_row : {l p : ℕ} {t after : List ℕ} → RowCopied l p t after → (b : ℕ) → b < 512 → edge_bit after p b ≡ edge_bit t l b
 unfolding edge_bit
 copied_row r b h = ap (λ (x : ℕ). bit_at x (b % 64)) (r.words (b / 64) (omega arith))
 
-copied_off : {l p : ℕ} {t after : List ℕ} → RowCopied 8 l p t after → (a b : ℕ) → b < 512 → eqb a p ≡ false → edge_bit after a b ≡ edge_bit t a b
+copied_off : {l p : ℕ} {t after : List ℕ} → RowCopied l p t after → (a b : ℕ) → b < 512 → eqb a p ≡ false → edge_bit after a b ≡ edge_bit t a b
 unfolding edge_bit
 copied_off {l} {p} {t} {after} r a b h e = ap (λ (x : ℕ). bit_at x (b % 64)) (r.others (8 * a + b / 64) (side (decide (ltb a p))))
   where
@@ -67,7 +36,7 @@ copied_off {l} {p} {t} {after} r a b h e = ap (λ (x : ℕ). bit_at x (b % 64)) 
     side (inr s) = inr (let o = ltb-false a p s in let n : a ≡ p → ⊥ = d in omega arith)
 
 -- the row of p by that of l, without and with the change of their own bits
-module _ (kind l p : ℕ) (below : l < p) {t t₁ : List ℕ} (r : RowCopied 8 l p t t₁) where
+module _ (kind l p : ℕ) (below : l < p) {t t₁ : List ℕ} (r : RowCopied l p t t₁) where
   pub followed_open : (kind ≡ 2 → ⊥) → Followed kind l p t t₁
   unfolding follow_bit
   followed_open d = record { size = r.size; bits = λ a b h. step a b h (decide (eqb a p)) }

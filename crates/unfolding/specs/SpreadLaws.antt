@@ -11,22 +11,21 @@ use mir.Val.{bool_byte}
 use borrow.Author.Tests.{eqb-false, eqb-true, eq-eqb, le-ltb, lt-ltb, ltb-true, ne_eqb}
 use Rattle.model.specs.Tables.{bit_at, edge_bit}
 use Rattle.model.proofs.TestLaws.{and_fst, and_one, decide, differ, iff_eq}
-use Rattle.rows.specs.BitLaws.{bit_pow, bit_zero, bool_number, flipped_at, one_shl, row-bit}
-use Rattle.buffers.specs.StoreLaws.{stored, stored-size}
-use Rattle.search.specs.Search.{own_bit}
-use Rattle.search.specs.TwinRowLaws.{own_bit_lem}
+use Rattle.rows.specs.BitLaws.{bit_pow, bit_zero, bool_number, one_shl, row-bit}
+use Rattle.rows.specs.Rows.{Flipped}
 use Rattle.compressed.specs.Compressed.{Compressed, placed, unfolded, unfolded_edge}
+use Rattle.drawing.specs.Drawing.{Added, one_bit}
 use Rattle.drawing.specs.BitLaws.{bit_or_lem}
 use Rattle.unfolding.specs.Unfolding.{FirstsFit, NeighbourRow, Spread, SpreadBut, SpreadWord, join_bit, reached}
 
 -- the bit of one first member
-pub join_none : (row : List ℕ) (l : ℕ) → l ≡ 65535 → ◌≡◌ {A = ℕ} 0 (cond (join_bit row l) 1 0)
+pub join_none : (row : List ℕ) (l : ℕ) {b : Bool} → b ≡ false → (l ≡ 65535) → b ≡ join_bit row l
 unfolding join_bit
-join_none row l e = rw (eq-eqb l 65535 e)
+join_none row l z e = rw (eq-eqb l 65535 e) z
 
-pub join_some : (row : List ℕ) (l : ℕ) {x : ℕ} {b : Bool} → x ≡ l → (l ≡ 65535 → ⊥) → b ≡ edge_bit row 0 x → bool_byte b ≡ cond (join_bit row l) 1 0
+pub join_some : (row : List ℕ) (l : ℕ) {x : ℕ} {b : Bool} → x ≡ l → (l ≡ 65535 → ⊥) → b ≡ edge_bit row 0 x → b ≡ join_bit row l
 unfolding join_bit
-join_some row l e d h = rw (ne_eqb l 65535 d, h, e) (bool_number (edge_bit row 0 l))
+join_some row l e d h = rw (ne_eqb l 65535 d, h, e)
 
 -- a node is reached among n and among m, if it is below both or neither
 module _ (first : List ℕ) (P : ℕ → Bool) where
@@ -55,14 +54,14 @@ pub word_none : (w : ℕ) (first : List ℕ) (P : ℕ → Bool) → SpreadWord w
 word_none w first P = record { bits = λ k h. bit_zero k ∙ sym (reached-no first P (64 * w) (64 * w + k) (omega arith)) }
 
 pub spread_more : {w q : ℕ} {first : List ℕ} (row : List ℕ) {x : ℕ} → SpreadWord w q first (edge_bit row 0) x → 64 * w ≤ q → q < 64 * w + 64
-    → {y k : ℕ} → y ≡ cond (join_bit row (get_or first q 0)) 1 0 → k ≡ q % 64
-    → SpreadWord w (q + 1) first (edge_bit row 0) (bit_or x (y * 2 ^ k % 18446744073709551616))
+    → {b : Bool} {k : ℕ} → b ≡ join_bit row (get_or first q 0) → k ≡ q % 64
+    → SpreadWord w (q + 1) first (edge_bit row 0) (bit_or x (bool_byte b * 2 ^ k % 18446744073709551616))
 unfolding join_bit
-spread_more {w} {q} {first} row {x} s a b {y} {k} e f = record {
+spread_more {w} {q} {first} row {x} s a b {b = t} {k} e f = record {
   bits =
       λ j h.
-      bit_or_lem x (y * 2 ^ k % 18446744073709551616) j
-      ∙ rw (e, s.bits j h, bit_shl (join_bit row (get_or first q 0)) k j (omega arith)) (step j h (decide (eqb j k)));
+      bit_or_lem x (bool_byte t * 2 ^ k % 18446744073709551616) j
+      ∙ rw (e, bool_number (join_bit row (get_or first q 0)), s.bits j h, bit_shl (join_bit row (get_or first q 0)) k j (omega arith)) (step j h (decide (eqb j k)));
 }
   where
     step : (j : ℕ) → j < 64 → (eqb j k ≡ true) ⊎ (eqb j k ≡ false)
@@ -79,50 +78,16 @@ pub spread_done : {w q n : ℕ} {first : List ℕ} {P : ℕ → Bool} {x : ℕ} 
     → SpreadWord w n first P x
 spread_done {w} {q} {n} {first} {P} s a b c = record { bits = λ k h. s.bits k h ∙ reached-as first P q n (64 * w + k) (same_below (64 * w + k) q n (λ l. omega arith) (λ l. omega arith)) }
 
--- a row, the first w words
-pub record Spreading (w n : ℕ) (first : List ℕ) (P : ℕ → Bool) (all : List ℕ) : Type 0 where
-  pub size : length all ≡ 8
-  pub words : (i : ℕ) → i < w → SpreadWord i n first P (get_or all i 0)
-
-pub spreading_none : (n : ℕ) (first : List ℕ) (P : ℕ → Bool) → Spreading 0 n first P (replicate 8 0)
-spreading_none n first P = record { size = refl; words = λ i h. absurd (omega arith) }
-
-pub spreading_more : {w n : ℕ} {first : List ℕ} {P : ℕ → Bool} {all : List ℕ} {x : ℕ} → Spreading w n first P all → w < 8 → SpreadWord w n first P x → Spreading (w + 1) n first P (set all w x)
-spreading_more {w} {n} {first} {P} {all} {x} s h y =
-    let fits : w < length all = omega (arith, s.size) in
-    record { size = stored-size all w x fits s.size; words = stored all w x fits (λ i z. SpreadWord i n first P z) s.words y }
-
-pub spreading_done : {w n : ℕ} {first : List ℕ} {P : ℕ → Bool} {all : List ℕ} → Spreading w n first P all → 8 ≤ w → Spread n first P all
+-- a row, word after word
+pub spread_words : {n : ℕ} {first : List ℕ} {P : ℕ → Bool} {all : List ℕ} → length all ≡ 8 → ((i : ℕ) → i < 8 → SpreadWord i n first P (get_or all i 0)) → Spread n first P all
 unfolding edge_bit
-spreading_done {w} {n} {first} {P} {all} s h = record { size = s.size; bits = bits }
+spread_words {n} {first} {P} {all} size words = record { size = size; bits = bits }
   where
     bits : (q : ℕ) → q < 512 → bit_at (get_or all (8 * 0 + q / 64) 0) (q % 64) ≡ reached n first P q
     bits q l =
         let y : 8 * 0 + q / 64 ≡ q / 64 = omega arith in
         let z : 64 * (q / 64) + q % 64 ≡ q = omega arith in
-        rw y ((s.words (q / 64) (omega arith)).bits (q % 64) (omega arith) ∙ ap (reached n first P) z)
-
--- the row of a clique with its own first member put in, the first w words
-pub record Owning (row : List ℕ) (l w : ℕ) (own : List ℕ) : Type 0 where
-  pub size : length own ≡ 8
-  pub words : (i : ℕ) → i < w → get_or own i 0 ≡ bit_or (get_or row i 0) (own_bit l i)
-
-pub owning_none : (row : List ℕ) (l : ℕ) → Owning row l 0 (replicate 8 0)
-owning_none row l = record { size = refl; words = λ i h. absurd (omega arith) }
-
-pub owning_more : {row : List ℕ} {l w : ℕ} {own : List ℕ} → Owning row l w own → w < 8 → {x : ℕ} → x ≡ own_bit l w → Owning row l (w + 1) (set own w (bit_or (get_or row w 0) x))
-owning_more {row} {l} {w} {own} h b {x} e = record { size = length-set own w (bit_or (get_or row w 0) x) ∙ h.size; words = λ i m. at i m (decide (eqb i w)) }
-  where
-    at : (i : ℕ) → i < w + 1 → (eqb i w ≡ true) ⊎ (eqb i w ≡ false) → get_or (set own w (bit_or (get_or row w 0) x)) i 0 ≡ bit_or (get_or row i 0) (own_bit l i)
-    at i m (inl s) = rw (eqb-true i w s, get_or-set_same own w (bit_or (get_or row w 0) x) 0 (omega (arith, h.size)), e)
-    at i m (inr s) = let d : i ≡ w → ⊥ = eqb-false i w s in get_or-set_other own w i (bit_or (get_or row w 0) x) 0 d ∙ h.words i (omega arith)
-
-owned : {row : List ℕ} {l w : ℕ} {own : List ℕ} → Owning row l w own → 8 ≤ w → (x : ℕ) → x < 512 → edge_bit own 0 x ≡ (edge_bit row 0 x || eqb l x)
-unfolding edge_bit
-owned {row} {l} {w} {own} h b x m =
-    let y : 8 * 0 + x / 64 ≡ x / 64 = omega arith in
-    let z : 64 * (x / 64) + x % 64 ≡ x = omega arith in
-    rw (y, h.words (x / 64) (omega arith), bit_or_lem (get_or row (x / 64) 0) (own_bit l (x / 64)) (x % 64), own_bit_lem l (x / 64) (x % 64) (omega arith), z)
+        rw y ((words (q / 64) (omega arith)).bits (q % 64) (omega arith) ∙ ap (reached n first P) z)
 
 -- chosen alike, reached alike
 module _ (n : ℕ) (first : List ℕ) (P Q : ℕ → Bool) (fits : FirstsFit n first) (same : (x : ℕ) → x < 512 → P x ≡ Q x) where
@@ -136,12 +101,14 @@ module _ (n : ℕ) (first : List ℕ) (P Q : ℕ → Bool) (fits : FirstsFit n f
       step (inl t) (inr s) = rw (t, s) (same (get_or first q 0) (fits q (ltb-true q n t) (eqb-false (get_or first q 0) 65535 s)))
       step (inr t) s = rw t
 
--- p's bit taken the other way
-pub spread_but : {n p l w : ℕ} {first row own all : List ℕ} → FirstsFit n first → Owning row l w own → 8 ≤ w → Spread n first (edge_bit own 0) all → p < 512 → {i m : ℕ} → i ≡ p / 64 → m ≡ 2 ^ (p % 64)
-    → SpreadBut p n first (λ x. edge_bit row 0 x || eqb l x) (set all i (bit_xor (get_or all i 0) m))
-spread_but {n} {p} {l} {w} {first} {row} {own} {all} fits o b s h {i} {m} e f =
-    let g = flipped_at all 0 p i m h (omega (arith, s.size)) (omega arith) f in
-    record { bits = λ q k. g.bits 0 q k ∙ ap (λ (z : Bool). cond (eqb q p) (not z) z) (s.bits q k ∙ reached_cong n first (edge_bit own 0) (λ x. edge_bit row 0 x || eqb l x) fits (owned o b) q) }
+-- a clique's own first member put in, and p's bit taken the other way
+pub spread_but : (n p l : ℕ) {first row own all after : List ℕ} → FirstsFit n first → Added (one_bit 0 l) row own → Spread n first (edge_bit own 0) all → Flipped 0 p all after → SpreadBut p n first (λ x. edge_bit row 0 x || eqb l x) after
+unfolding one_bit
+spread_but n p l {first} {row} {own} {all} fits o s g =
+    record { bits = λ q k. g.bits 0 q k ∙ ap (λ (z : Bool). cond (eqb q p) (not z) z) (s.bits q k ∙ reached_cong n first (edge_bit own 0) (λ x. edge_bit row 0 x || eqb l x) fits owned q) }
+  where
+    owned : (x : ℕ) → x < 512 → edge_bit own 0 x ≡ (edge_bit row 0 x || eqb l x)
+    owned x m = o.bits 0 x m ∙ ap (λ (z : Bool). edge_bit row 0 x || z) (iff_eq (eqb x l) (eqb l x) (λ e. eq-eqb l x (sym (eqb-true x l e))) (λ e. eq-eqb x l (sym (eqb-true l x e))))
 
 -- the graph that arrays unfold to
 module _ {n : ℕ} {first kinds joined : List ℕ} (c : Compressed n first kinds joined) where

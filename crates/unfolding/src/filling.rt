@@ -23,6 +23,11 @@ ghost use Rattle.unfolding.specs.Filling.{
 use compressed::{CLIQUE, SINGLE, SMALL};
 use rows::Graph;
 
+// The words of the rows of a small graph, and of any.
+const SMALL_WORDS: usize = SMALL * Graph::ROW_WORDS;
+
+const ALL_WORDS: usize = Graph::NODES * Graph::ROW_WORDS;
+
 // Node p put into the row of its first member, if that is another node.
 fn put_other(least: &[u16], p: usize, members: &mut [u64])
     requires { (p < max_nodes) × (p < length least.now) × (row_words * p + row_words ≤ length members.old) }
@@ -62,8 +67,8 @@ fn draw_joined(edges: &mut [u64], joined: &[u64], l: usize, set: &[u64])
     ensures { Added (joined_to joined.now l set.now) edges.old edges.new }
 {
     let a = Graph::ROW_WORDS * l;
-    for w in 0..Graph::ROW_WORDS {
-        draw_each(edges, joined[a + w], w, set);
+    for (w, word) in joined[a..a + Graph::ROW_WORDS].iter().enumerate() {
+        draw_each(edges, *word, w, set);
     }
 }
 
@@ -91,22 +96,21 @@ fn draw_group(kinds: &[u16], joined: &[u64], members: &[u64], l: usize, edges: &
     }
 }
 
-// The same for all groups, whose members are put into rows without a bit. The bits of first members are there already.
-fn draw_members(
+// The same for all groups, whose members are put into rows of their own, of so many words. The bits of first members are there already.
+fn draw_members<const WORDS: usize>(
     least: &[u16],
     kinds: &[u16],
     joined: &[u64],
     n: usize,
-    members: &mut [u64],
     edges: &mut [u64],
 )
-    requires compressed { Compressed n least.now kinds.now joined.now × (length edges.old ≡ row_words * n) }
-    requires members_value { (members.old ≡ replicate (length members.old) 0) × (row_words * n ≤ length members.old) }
+    requires { Compressed n least.now kinds.now joined.now × (length edges.old ≡ row_words * n) × (row_words * n ≤ WORDS) × (WORDS ≤ row_words * max_nodes) }
     ensures { Added (drawn_bit n least.now kinds.now joined.now) edges.old edges.new }
 {
-    other_members(least, n, members);
+    let mut members = [0u64; WORDS];
+    other_members(least, n, &mut members);
     for l in 0..n {
-        draw_group(kinds, joined, members, l, edges);
+        draw_group(kinds, joined, &members, l, edges);
     }
 }
 
@@ -116,24 +120,19 @@ fn draw_groups(least: &[u16], kinds: &[u16], joined: &[u64], n: usize, edges: &m
     ensures { Added (drawn_bit n least.now kinds.now joined.now) edges.old edges.new }
 {
     if n <= SMALL {
-        let mut members = [0u64; SMALL * Graph::ROW_WORDS];
-        draw_members(least, kinds, joined, n, &mut members, edges);
-        return;
+        draw_members::<SMALL_WORDS>(least, kinds, joined, n, edges);
+    } else {
+        draw_members::<ALL_WORDS>(least, kinds, joined, n, edges);
     }
-    let mut members = [0u64; Graph::NODES * Graph::ROW_WORDS];
-    draw_members(least, kinds, joined, n, &mut members, edges);
 }
 
 // Row l copied to p.
 fn copy_row(edges: &mut [u64], l: usize, p: usize)
     requires { (l < p) × (p < max_nodes) × (row_words * p + row_words ≤ length edges.old) }
-    ensures { RowCopied row_words l p edges.old edges.new }
+    ensures { RowCopied l p edges.old edges.new }
 {
     let a = Graph::ROW_WORDS * l;
-    let b = Graph::ROW_WORDS * p;
-    for w in 0..Graph::ROW_WORDS {
-        edges[b + w] = edges[a + w];
-    }
+    edges.copy_within(a..a + Graph::ROW_WORDS, Graph::ROW_WORDS * p);
 }
 
 // The row of p by that of its first member l: in a clique their own bits differ.

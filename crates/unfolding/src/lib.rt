@@ -1,7 +1,7 @@
 // A graph held by its groups, unfolded: the row of one node, or the edges of all.
 #![tactic(auto)]
 
-ghost use Rattle.std.specs.Prelude.{◌≡◌, true, cond, ◌||◌, eqb, ◌+◌, ◌*◌, ◌≤◌, ◌<◌, min, length};
+ghost use Rattle.std.specs.Prelude.{◌≡◌, true, ◌||◌, eqb, ◌≤◌, ◌<◌, length};
 ghost use Rattle.model.specs.Graph.{max_nodes, row_words};
 ghost use Rattle.model.specs.Tables.{edge_bit};
 ghost use Rattle.rows.specs.Rows.{no_node};
@@ -15,27 +15,12 @@ mod filling;
 
 pub use filling::fill_edges;
 
-// 1 if a row of first members has that of a node, else 0; a node of no group has none.
-fn join_bit(row: &[u64], first: u16) -> u64
+// Whether a row of first members has that of a node; a node of no group has none.
+fn has_first(row: &[u64], first: u16) -> bool
     requires { (length row.now ≡ row_words) × ((first ≡ no_node → ⊥) → first < max_nodes) }
-    ensures { result ≡ cond (join_bit row.now first) 1 0 }
+    ensures { result ≡ join_bit row.now first }
 {
-    if first == Graph::NONE {
-        return 0;
-    }
-    rows::edge(row, 0, rows::wide(first)) as u64
-}
-
-// Where the nodes of word w end, of n.
-fn word_end(n: usize, w: usize) -> usize
-    requires { w < row_words }
-    ensures { result ≡ min n (64 * w + 64) }
-{
-    let end = 64 * w + 64;
-    if n < end {
-        return n;
-    }
-    end
+    first != Graph::NONE && rows::edge(row, 0, rows::wide(first))
 }
 
 // The nodes of word w whose first members are in a row.
@@ -44,41 +29,39 @@ fn spread_word(least: &[u16], n: usize, row: &[u64], w: usize) -> u64
     ensures { SpreadWord w n least.now (edge_bit row.now 0) result }
 {
     let mut bits = 0u64;
-    for q in 64 * w..word_end(n, w) {
-        bits = bits | (join_bit(row, least[q]) << rows::bit_of(q));
+    for q in 64 * w..n.min(64 * w + 64) {
+        bits |= (has_first(row, least[q]) as u64) << rows::bit_of(q);
     }
     bits
 }
 
 // The nodes whose first members are in a row.
-fn spread(least: &[u16], n: usize, row: &[u64]) -> [u64; 8]
+fn spread(least: &[u16], n: usize, row: &[u64]) -> [u64; Graph::ROW_WORDS]
     requires { (n ≤ max_nodes) × (n ≤ length least.now) × FirstsFit n least.now × (length row.now ≡ row_words) }
     ensures { Spread n least.now (edge_bit row.now 0) result }
 {
-    let mut all = [0u64; 8];
-    for w in 0..Graph::ROW_WORDS {
-        all[w] = spread_word(least, n, row, w);
+    let mut all = [0u64; Graph::ROW_WORDS];
+    for (w, word) in all.iter_mut().enumerate() {
+        *word = spread_word(least, n, row, w);
     }
     all
 }
 
 // The neighbours of p, of a clique that l leads: l's own bit brings in all members, of which p is taken out.
-fn clique_row(least: &[u16], n: usize, row: &[u64], l: usize, p: usize) -> [u64; 8]
-    requires { (n ≤ max_nodes) × (n ≤ length least.now) × FirstsFit n least.now × (length row.now ≡ row_words) × (p < max_nodes) }
+fn clique_row(least: &[u16], n: usize, row: &[u64], l: usize, p: usize) -> [u64; Graph::ROW_WORDS]
+    requires { (n ≤ max_nodes) × (n ≤ length least.now) × FirstsFit n least.now × (length row.now ≡ row_words) × (l < max_nodes) × (p < max_nodes) }
     ensures { SpreadBut p n least.now (λ x. edge_bit row.now 0 x || eqb l x) result }
 {
-    let mut own = [0u64; 8];
-    for w in 0..Graph::ROW_WORDS {
-        own[w] = row[w] | search::own_bit(l, w);
-    }
+    let mut own = [0u64; Graph::ROW_WORDS];
+    own.copy_from_slice(row);
+    drawing::set_bit(&mut own, 0, l);
     let mut all = spread(least, n, &own);
-    let w = rows::word_of(p);
-    all[w] = all[w] ^ rows::mask(p);
+    rows::flip_edge(&mut all, 0, p);
     all
 }
 
 // The neighbours of p as a row.
-pub fn neighbour_row(least: &[u16], kinds: &[u16], joined: &[u64], n: usize, p: usize) -> [u64; 8]
+pub fn neighbour_row(least: &[u16], kinds: &[u16], joined: &[u64], n: usize, p: usize) -> [u64; Graph::ROW_WORDS]
     requires { Compressed n least.now kinds.now joined.now × (placed n least.now p ≡ true) }
     ensures { NeighbourRow n least.now kinds.now joined.now p result }
 {

@@ -1,12 +1,7 @@
 -- `adopting::find_isolated` meets its contract.
-use mathlib.Core.Path.{◌≡◌}
-use mathlib.Core.Bool.{false}
-use Prim.Native.Nat.{ℕ, ◌-◌, ◌≤◌, ◌<◌}
+use Rattle.std.proofs.Common.{◌≡◌, ℕ, ◌<◌, false}
 use Rattle.adopting.specs.Adopting.{is_isolated}
 use Rattle.adopting.proofs.find_isolated.Given as goal
 
 abbrev pub invariant-loop-p : goal.invariant-loop-p
-invariant-loop-p l = (l.p ≤ l.n) × ((k : ℕ) → k < l.p → is_isolated l.edges l.classes l.least k ≡ false)
-
-abbrev pub decreases-loop-p : goal.decreases-loop-p
-decreases-loop-p l = l.n - l.p
+invariant-loop-p l = (k : ℕ) → k < l.p → is_isolated l.edges l.classes l.least k ≡ false

@@ -1,5 +1,5 @@
 -- `distances::distance` meets its contract.
-use native.Mathlib.Omega.{arith}
+use Rattle.std.proofs.Common.{◌∙◌, arith}
 use Rattle.compressed.specs.PlacedLaws.{placed-lt}
 use Rattle.distances.specs.HeldLaws.{held_first, held_across, held-alone, held-clique, held_linked, held_rows, held_same}
 use Rattle.distances.proofs.distance.Goals as goal
@@ -10,24 +10,16 @@ returns-then-p-q c =
     held_same _ _ _ _ pre.0 _ _ pre.1 pre.2 c.if-p-q.true
 
 pub offset_bounds-least-p : goal.offset_bounds-least-p
-offset_bounds-least-p c =
-    let pre = c.requires in
-    omega (arith, placed-lt _ _ _ pre.1, pre.0.small, pre.0.nodes)
+offset_bounds-least-p c = omega (arith, placed-lt _ _ _ c.requires.1)
 
 pub bounds-least-p : goal.bounds-least-p
-bounds-least-p c =
-    let pre = c.requires in
-    omega (arith, placed-lt _ _ _ pre.1, pre.0.small, pre.0.nodes)
+bounds-least-p c = omega (arith, placed-lt _ _ _ c.requires.1)
 
 pub offset_bounds-least-q : goal.offset_bounds-least-q
-offset_bounds-least-q c =
-    let pre = c.requires in
-    omega (arith, placed-lt _ _ _ pre.2, pre.0.small, pre.0.nodes)
+offset_bounds-least-q c = omega (arith, placed-lt _ _ _ c.requires.2)
 
 pub bounds-least-q : goal.bounds-least-q
-bounds-least-q c =
-    let pre = c.requires in
-    omega (arith, placed-lt _ _ _ pre.2, pre.0.small, pre.0.nodes)
+bounds-least-q c = omega (arith, placed-lt _ _ _ c.requires.2)
 
 pub search-requires : goal.search-requires
 search-requires c =
@@ -38,42 +30,21 @@ search-requires c =
 pub returns-then-i-j : goal.returns-then-i-j
 returns-then-i-j c =
     let pre = c.requires in
-    held_across _ _ _ _ pre.0 _ _ pre.1 pre.2 c.wide-i.ensures c.wide-j.ensures c.if-i-j.true c.search.ensures
+    c.unwrap_or.ensures ∙ held_across _ _ _ _ pre.0 _ _ pre.1 pre.2 c.wide-i.ensures c.wide-j.ensures c.if-i-j.true c.search.ensures
 
 pub offset_bounds-kinds-i : goal.offset_bounds-kinds-i
-offset_bounds-kinds-i c =
-    let pre = c.requires in
-    omega (arith, c.wide-i.ensures, held_first _ _ _ _ pre.0 _ pre.1, pre.0.small, pre.0.groups)
+offset_bounds-kinds-i c = omega (arith, held_first _ _ _ _ c.requires.0 _ c.requires.1)
 
 pub bounds-kinds-i : goal.bounds-kinds-i
-bounds-kinds-i c =
-    let pre = c.requires in
-    omega (arith, c.wide-i.ensures, held_first _ _ _ _ pre.0 _ pre.1, pre.0.small, pre.0.groups)
+bounds-kinds-i c = omega (arith, held_first _ _ _ _ c.requires.0 _ c.requires.1)
 
 pub returns-then-kinds-i-eq-CLIQUE : goal.returns-then-kinds-i-eq-CLIQUE
 returns-then-kinds-i-eq-CLIQUE c =
     let pre = c.requires in
     held-clique _ _ _ _ pre.0 _ _ pre.1 pre.2 c.wide-i.ensures c.wide-j.ensures c.if-p-q.false c.if-i-j.false c.if-kinds-i-eq-CLIQUE.true
 
-pub overflow_mul-a : goal.overflow_mul-a
-overflow_mul-a c =
-    let pre = c.requires in
-    omega (arith, c.wide-i.ensures, held_first _ _ _ _ pre.0 _ pre.1, pre.0.small, pre.0.rows)
-
-pub overflow_add-row : goal.overflow_add-row
-overflow_add-row c =
-    let pre = c.requires in
-    omega (arith, c.wide-i.ensures, held_first _ _ _ _ pre.0 _ pre.1, pre.0.small, pre.0.rows)
-
-pub offset_bounds-joined-a : goal.offset_bounds-joined-a
-offset_bounds-joined-a c =
-    let pre = c.requires in
-    omega (arith, c.wide-i.ensures, held_first _ _ _ _ pre.0 _ pre.1, pre.0.small, pre.0.rows)
-
 pub slice_bounds-row-end : goal.slice_bounds-row-end
-slice_bounds-row-end c =
-    let pre = c.requires in
-    omega (arith, c.wide-i.ensures, held_first _ _ _ _ pre.0 _ pre.1, pre.0.small, pre.0.rows)
+slice_bounds-row-end c = omega (arith, held_first _ _ _ _ c.requires.0 _ c.requires.1)
 
 pub returns-then-meet : goal.returns-then-meet
 returns-then-meet c =

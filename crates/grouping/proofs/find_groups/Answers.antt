@@ -1,8 +1,11 @@
--- The chains begin empty.
-use Rattle.grouping.specs.ChainLaws.{links_none}
+-- Rows that agree have one slot.
+use Rattle.std.proofs.Common.{arith}
+use Rattle.search.specs.SearchLaws.{within-length}
+use Rattle.grouping.specs.LeastLaws.{apart_words}
+use Rattle.grouping.specs.SlotLaws.{rows_tell}
 use Rattle.grouping.proofs.find_groups.Goals as goal
 
-pub group_visible-requires : goal.group_visible-requires
-group_visible-requires c =
-    let pre = c.requires in
-    (pre.0, links_none, links_none, pre.1)
+pub group-requires : goal.group-requires
+group-requires c =
+    let a = c.requires.0 in
+    (a, c.requires.1, λ u h. ((omega (arith, a.within.small), omega (arith, within-length a.within), omega (arith, a.marked)), rows_tell _ _ (apart_words a) u))

@@ -1,14 +1,12 @@
--- The invariant: h is the sum of the first w words.
-use Rattle.std.proofs.Common.{refl, arith}
-use Rattle.grouping.specs.Chains.{hash_of, unrotated}
-use Rattle.grouping.specs.HashLaws.{hash_done, hash_more}
+-- The row is folded word by word.
+use Rattle.std.proofs.Common.{◌≡◌, ◌+◌, ◌-◌, ◌*◌, take, drop, ◌∙◌, rules}
+use Rattle.std.specs.List.{fold}
+use Rattle.std.specs.Int.Bits.{bit_xor}
+use Rattle.grouping.specs.Chains.{unrotated}
+use Rattle.grouping.specs.HashLaws.{hash_folded}
 use Rattle.grouping.proofs.sum_plain.Goals as goal
 
-pub loop-w-init : goal.loop-w-init
-loop-w-init c = (omega arith, unfold hash_of in refl)
-
-pub loop-w-preserved : goal.loop-w-preserved
-loop-w-preserved c = (omega arith, hash_more unrotated _ _ _ c.loop-w.invariant.1 refl)
-
 pub returns : goal.returns
-returns c = hash_done unrotated _ _ c.loop-w.invariant.1 (omega arith)
+returns c =
+    let e : c.fold.result ≡ fold (λ h x. bit_xor h x) 0 (take (8 * c.args.p + 8 - 8 * c.args.p) (drop (8 * c.args.p) c.args.edges.now)) = search rules in
+    e ∙ hash_folded unrotated _ _ c.requires.1

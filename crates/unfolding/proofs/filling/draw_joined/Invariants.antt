@@ -1,11 +1,7 @@
 -- `unfolding::filling::draw_joined` meets its contract.
-use Prim.Native.Nat.{◌-◌, ◌≤◌}
 use Rattle.drawing.specs.Drawing.{Adding}
 use Rattle.unfolding.specs.Filling.{joined_to, rest_from, word_of}
 use Rattle.unfolding.proofs.filling.draw_joined.Given as goal
 
 abbrev pub invariant-loop-w : goal.invariant-loop-w
-invariant-loop-w l = (l.w ≤ 8) × Adding (joined_to l.joined l.l l.set) (rest_from word_of (joined_to l.joined l.l l.set) l.w) l.initial.edges l.edges
-
-abbrev pub decreases-loop-w : goal.decreases-loop-w
-decreases-loop-w l = 8 - l.w
+invariant-loop-w l = Adding (joined_to l.joined l.l l.set) (rest_from word_of (joined_to l.joined l.l l.set) l.w) l.initial.edges l.edges

@@ -1,5 +1,5 @@
 -- `unfolding::filling::fill_edges` meets its contract.
-use native.Mathlib.Omega.{arith}
+use Rattle.std.proofs.Common.{arith}
 use Rattle.unfolding.specs.FollowLaws.{filled, led}
 use Rattle.unfolding.proofs.filling.fill_edges.Goals as goal
 
@@ -10,6 +10,4 @@ follow_all-requires c =
     (led pre.0, n, omega (arith, pre.0.nodes), omega (arith, pre.0.groups), omega (arith, c.draw_groups.ensures.size, pre.1))
 
 pub returns : goal.returns
-returns c =
-    let pre = c.requires in
-    filled pre.0 pre.1 c.copy_words.ensures c.draw_groups.ensures c.follow_all.ensures (λ i. (c.slice_known-4-1.given i).fits)
+returns c = filled c.requires.0 c.requires.1 c.copy_words.ensures c.draw_groups.ensures c.follow_all.ensures (λ i. (c.type_inv.edges i).fits)

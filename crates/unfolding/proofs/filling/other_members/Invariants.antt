@@ -1,11 +1,7 @@
 -- `unfolding::filling::other_members` meets its contract.
-use Prim.Native.Nat.{◌-◌, ◌≤◌}
 use Rattle.drawing.specs.Drawing.{Adding}
 use Rattle.unfolding.specs.Filling.{column, other_bit, rest_from}
 use Rattle.unfolding.proofs.filling.other_members.Given as goal
 
 abbrev pub invariant-loop-p : goal.invariant-loop-p
-invariant-loop-p l = (l.p ≤ l.n) × Adding (other_bit l.n l.least) (rest_from column (other_bit l.n l.least) l.p) l.initial.members l.members
-
-abbrev pub decreases-loop-p : goal.decreases-loop-p
-decreases-loop-p l = l.n - l.p
+invariant-loop-p l = Adding (other_bit l.n l.least) (rest_from column (other_bit l.n l.least) l.p) l.initial.members l.members

@@ -1,22 +1,12 @@
--- `grouping::find_alike` meets its contract.
--- Outer invariant: c stands in the chain, and whoever is alike is not above it. Inner invariant: the words before i agree.
-use Rattle.std.proofs.Common.{◌∙◌, arith, below_none, below_more}
+-- A walk down the chain.
+use Rattle.std.proofs.Common.{◌∙◌, arith}
 use Rattle.grouping.specs.ChainLaws.{alike-agrees, alike_differs, class_differs, links_less, met_hit, met_miss, row-size, seeking_on, seeking_start}
-use Rattle.grouping.proofs.find_alike.Goals as goal
-
-pub bounds-chains-s : goal.bounds-chains-s
-bounds-chains-s c = omega (arith, c.requires.4.size)
+use Rattle.grouping.proofs.Leaders.find.Goals as goal
 
 pub groups-init : goal.groups-init
 groups-init c =
     let pre = c.requires in
     (omega (arith, c.wide-c.ensures, pre.4.below _ pre.3), λ slot leads es k. seeking_start _ k es pre.3 c.wide-c.ensures)
-
-pub bounds-chains-q : goal.bounds-chains-q
-bounds-chains-q c = omega (arith, c.requires.4.size)
-
-pub bounds-classes-q : goal.bounds-classes-q
-bounds-classes-q c = omega (arith, c.requires.2)
 
 pub groups-smaller-then-classes-q : goal.groups-smaller-then-classes-q
 groups-smaller-then-classes-q c = links_less c.requires.4 c.groups-test.true (omega arith) c.wide-c-in-groups.ensures
@@ -29,12 +19,8 @@ groups-preserved-then-classes-q c =
     let less = links_less pre.4 test (omega arith) next in
     (omega arith, λ slot leads es k. seeking_on _ k (c.groups.invariant.1 slot leads es k) test c.groups.invariant.0 (class_differs _ _ _ _ _ c.if-classes-q.true) next)
 
-pub loop-i-init : goal.loop-i-init
-loop-i-init c = (omega arith, below_none _)
-
 pub bounds-row-i : goal.bounds-row-i
-bounds-row-i c =
-    omega (arith, row-size c.args.edges.now c.args.u c.requires.5 c.requires.1)
+bounds-row-i c = omega (arith, row-size c.args.edges.now c.args.u c.requires.5 c.requires.1)
 
 pub groups-smaller : goal.groups-smaller
 groups-smaller c = links_less c.requires.4 c.groups-test.true (omega arith) c.wide-c-in-groups.ensures
@@ -47,13 +33,10 @@ groups-preserved c =
     let less = links_less pre.4 test (omega arith) next in
     (omega arith, λ slot leads es k. seeking_on _ k (c.groups.invariant.1 slot leads es k) test c.groups.invariant.0 (alike_differs _ _ _ _ _ pre.5 c.loop-i.i _ (omega arith) c.own_bits.ensures c.if-row-i.true) next)
 
-pub loop-i-preserved : goal.loop-i-preserved
-loop-i-preserved c = (omega arith, below_more _ _ c.loop-i.invariant.1 (c.if-row-i.false ∙ c.own_bits.ensures))
-
 pub returns-in-groups : goal.returns-in-groups
 returns-in-groups c =
     let pre = c.requires in
-    (omega arith, λ slot leads es k. met_hit _ k (c.groups.invariant.1 slot leads es k) c.groups-test.true c.groups.invariant.0 (alike-agrees _ _ _ _ _ pre.5 c.if-classes-q.false (λ j l. c.loop-i.invariant.1 j (omega arith))))
+    λ slot leads es k. met_hit _ k (c.groups.invariant.1 slot leads es k) c.groups-test.true c.groups.invariant.0 (alike-agrees _ _ _ _ _ pre.5 c.if-classes-q.false (λ j l. c.loop-i.invariant j (omega arith)))
 
 pub returns : goal.returns
-returns c = (omega arith, λ slot leads es k. met_miss (c.groups.invariant.1 slot leads es k) c.groups-test.false)
+returns c = λ slot leads es k. met_miss (c.groups.invariant.1 slot leads es k) c.groups-test.false
