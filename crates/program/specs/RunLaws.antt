@@ -1,5 +1,5 @@
 -- What the parser tells of an input, and the program's output for it.
-use Rattle.std.specs.Prelude.{◌≡◌, true, false, List, ◌⊎◌, ℕ, ◌+◌, ◌*◌, ◌≤◌, ◌<◌, ltb, length, take}
+use Rattle.std.specs.Prelude.{◌≡◌, true, false, List, Result, Ok, Err, ◌⊎◌, ℕ, ◌+◌, ◌*◌, ◌≤◌, ◌<◌, ltb, length, take}
 use Rattle.std.proofs.Common.{sym, ◌∙◌, inl, inr, arith, length-take, length-take-le, take_all, ltb-false, ltb-true, lt-ltb}
 use Rattle.std.proofs.Math.Path.{ap}
 use Rattle.model.specs.Calls.{onto}
@@ -13,38 +13,38 @@ use Rattle.buffers.specs.WroteLaws.{sets_onto}
 use Rattle.print.specs.LengthLaws.{program_short}
 use Rattle.print.specs.Lines.{max_text}
 use Rattle.text.specs.Grammar.{ParsedAs, input_in, used}
-use Rattle.text.specs.declared.Parsed.{Parsed}
-use Rattle.text.specs.declared.Parsed.TheVariants.{Accepted, Refused}
+use Rattle.text.specs.declared.Accepted.{Accepted}
+use Rattle.text.specs.declared.Refused.{Refused}
 use Rattle.program.specs.Accepted.{WithinLimits}
 
-module _ (bytes : List ℕ) {before after : List ℕ} {r : Parsed} (h : ParsedAs (input_of bytes) before after r) where
+module _ (bytes : List ℕ) {before after : List ℕ} {r : Result Accepted Refused} (h : ParsedAs (input_of bytes) before after r) where
   input-is : {i : Input} → input_in r after ≡ i → printed i ≡ program bytes
   unfolding program
   input-is e = ap printed (sym e ∙ h.input)
 
   -- refused
-  pub refused_is : (line : ℕ) → r ≡ Refused line → refused_line line ≡ program bytes
+  pub refused_is : (e : Refused) → r ≡ Err e → refused_line e.line ≡ program bytes
   unfolding printed input_in
-  refused_is line e = input-is (ap (λ (p : Parsed). input_in p after) e)
+  refused_is e q = input-is (ap (λ (p : Result Accepted Refused). input_in p after) q)
 
   -- accepted: the changes stand in the first numbers of the batch
-  accepted-input : (n count : ℕ) → r ≡ Accepted n count → input_in r after ≡ accepted n (updates_in (take (update_numbers * count) after))
+  accepted-input : (a : Accepted) → r ≡ Ok a → input_in r after ≡ accepted a.n (updates_in (take (update_numbers * a.count) after))
   unfolding input_in
-  accepted-input n count e = ap (λ (p : Parsed). input_in p after) e
+  accepted-input a e = ap (λ (p : Result Accepted Refused). input_in p after) e
 
-  pub accepted_is : (n count : ℕ) → r ≡ Accepted n count → printed (accepted n (updates_in (take (update_numbers * count) after))) ≡ program bytes
-  accepted_is n count e = input-is (accepted-input n count e)
+  pub accepted_is : (a : Accepted) → r ≡ Ok a → printed (accepted a.n (updates_in (take (update_numbers * a.count) after))) ≡ program bytes
+  accepted_is a e = input-is (accepted-input a e)
 
-  pub accepted_few : (n count : ℕ) → r ≡ Accepted n count → count ≤ max_updates
+  pub accepted_few : (a : Accepted) → r ≡ Ok a → a.count ≤ max_updates
   unfolding used
-  accepted_few n count e = rw (ap used e) at h.few
+  accepted_few a e = rw (ap used e) at h.few
 
-  pub accepted_small : (n count : ℕ) → r ≡ Accepted n count → update_numbers * max_updates ≤ length after → WithinLimits n (take (update_numbers * count) after)
-  accepted_small n count e room =
-      let few = accepted_few n count e in
-      let size = length-take-le (update_numbers * count) after (omega arith) in
+  pub accepted_small : (a : Accepted) → r ≡ Ok a → update_numbers * max_updates ≤ length after → WithinLimits a.n (take (update_numbers * a.count) after)
+  accepted_small a e room =
+      let few = accepted_few a e in
+      let size = length-take-le (update_numbers * a.count) after (omega arith) in
       record {
-        nodes = (input_small bytes n (updates_in (take (update_numbers * count) after)) (sym h.input ∙ accepted-input n count e)).0;
+        nodes = (input_small bytes a.n (updates_in (take (update_numbers * a.count) after)) (sym h.input ∙ accepted-input a e)).0;
         whole = omega (arith, size);
         few = omega (arith, size);
       }

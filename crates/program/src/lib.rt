@@ -10,7 +10,6 @@ ghost use Rattle.rows.specs.Rows.{lent};
 ghost use Rattle.program.specs.Accepted.{Done, Lent, WithinLimits};
 
 use rows::Graph;
-use text::Parsed;
 
 // What the program reads of its input: a byte more than is accepted.
 pub const INPUT_BYTES: usize = text::INPUT_BYTES + 1;
@@ -85,12 +84,11 @@ pub fn run(input: &[u8], out: &mut [u8; OUTPUT_BYTES]) -> usize
     ensures count { result ≡ length (program input.now) }
 {
     let mut batch = [0u16; Graph::UPDATE_NUMBERS * Graph::UPDATES];
-    let parsed = text::parse(input, &mut batch);
-    match parsed {
-        Parsed::Refused { line } => print::refused_line(out, 0, line),
-        Parsed::Accepted { n, count } => {
-            let end = Graph::UPDATE_NUMBERS * count;
-            print_accepted(n, &batch[..end], out)
+    match text::parse(input, &mut batch) {
+        Err(refused) => print::refused_line(out, 0, refused.line),
+        Ok(accepted) => {
+            let end = Graph::UPDATE_NUMBERS * accepted.count;
+            print_accepted(accepted.n, &batch[..end], out)
         }
     }
 }

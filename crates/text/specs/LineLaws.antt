@@ -1,111 +1,70 @@
 -- Laws of the lines after the first, field by field.
-use Rattle.std.specs.Prelude.{◌≡◌, refl, Bool, true, false, ◌&&◌, cond, List, [], ◌∷◌, ◌⊎◌, ℕ, suc, ◌+◌, ◌-◌, ◌<◌, eqb, leb, ltb, length, get_or, take, drop}
-use Rattle.std.proofs.Common.{sym, ap, ◌∙◌, inl, inr, arith, length-drop, length-take, take_all}
+use Rattle.std.specs.Prelude.{◌≡◌, refl, Bool, true, false, ◌&&◌, cond, List, [], ◌∷◌, ◌⊎◌, ℕ, suc, Some, None, eqb, leb, length, get_or}
+use Rattle.std.proofs.Common.{sym, ◌∙◌, inl, inr, arith, ne_eqb, leb-true}
 use Rattle.std.proofs.Math.Bool.{and-false}
 use Rattle.std.proofs.Math.Dec.{eqb-suc-suc}
-use borrow.Author.Tests.{leb-true, ltb-false, ltb-true, ne_eqb}
 use Rattle.model.specs.Lists.{all, same_list}
-use Rattle.model.specs.Program.{Line as ModelLine, edge_line, field, ill_formed, is_number, line_of, mark_line, pieces, text}
+use Rattle.model.specs.Program.{Line, before, change, edge_line, field, ill_formed, is_number, line_of, mark_line, pieces, text}
 use Rattle.model.proofs.TestLaws.{and_fst, and_one, and_snd, decide}
-use Rattle.text.specs.declared.Line.{Line}
-use Rattle.text.specs.declared.Line.TheVariants.{NoChange}
-use Rattle.text.specs.declared.Number.{Number}
-use Rattle.text.specs.Grammar.{edge_change, line_in, mark_change, number_of, up_to}
-use Rattle.text.specs.NumberLaws.{number_digits}
-use Rattle.text.specs.PieceLaws.{pieces-length, pieces_more, pieces_one, up_to-le}
+use Rattle.text.specs.Grammar.{SplitAt, is_digit, number_of}
+use Rattle.text.specs.NumberLaws.{number_digits, number_none, number_value}
+use Rattle.text.specs.PieceLaws.{pieces-length, pieces_cases}
 
--- the part of a slice from k on is all that follows
-pub part_from : (k : ℕ) (s : List ℕ) → take (length s - k) (drop k s) ≡ drop k s
-part_from k s = take_all (length s - k) (drop k s) (omega (arith, length-drop k s))
-
--- a number has no space
-digits_spaceless : (s : List ℕ) → all s (λ d. leb 0x30 d && leb d 0x39) ≡ true → up_to 0x20 s ≡ length s
-unfolding all up_to
-digits_spaceless [] h = refl
-digits_spaceless (b ∷ bs) h =
-    let low = leb-true 0x30 b (and_fst (leb 0x30 b) (leb b 0x39) (and_fst (leb 0x30 b && leb b 0x39) (all bs (λ d. leb 0x30 d && leb d 0x39)) h)) in
-    rw (ne_eqb b 0x20 (λ e. omega arith)) (ap suc (digits_spaceless bs (and_snd (leb 0x30 b && leb b 0x39) (all bs (λ d. leb 0x30 d && leb d 0x39)) h)))
+-- digits have no space among them
+digits-alone : (s : List ℕ) → all s is_digit ≡ true → pieces 0x20 s ≡ s ∷ []
+unfolding all pieces before
+digits-alone [] h = refl
+digits-alone (b ∷ bs) h =
+    let low = leb-true 0x30 b (and_fst (leb 0x30 b) (leb b 0x39) (and_fst (is_digit b) (all bs is_digit) h)) in
+    rw (ne_eqb b 0x20 (λ e. omega arith), digits-alone bs (and_snd (is_digit b) (all bs is_digit) h))
 
 number-alone : (s : List ℕ) → is_number s ≡ true → pieces 0x20 s ≡ s ∷ []
-number-alone s h = pieces_one 0x20 s (digits_spaceless s (number_digits s h))
+number-alone s h = digits-alone s (number_digits s h)
 
 -- one field that is a number, exactly if the whole is a number
 one_field : (s : List ℕ) → (eqb (length (pieces 0x20 s)) 1 && is_number (field (pieces 0x20 s) 0)) ≡ is_number s
-one_field s = go (decide (ltb (up_to 0x20 s) (length s))) (decide (is_number s))
+one_field s = go (pieces_cases 0x20 s) (decide (is_number s))
   where
-    go : (ltb (up_to 0x20 s) (length s) ≡ true) ⊎ (ltb (up_to 0x20 s) (length s) ≡ false) → (is_number s ≡ true) ⊎ (is_number s ≡ false) → (eqb (length (pieces 0x20 s)) 1 && is_number (field (pieces 0x20 s) 0)) ≡ is_number s
-    go t (inl n) = rw (number-alone s n)
-    go (inr t) (inr n) = rw (pieces_one 0x20 s (omega (arith, up_to-le 0x20 s, ltb-false (up_to 0x20 s) (length s) t)))
-    go (inl t) (inr n) = rw (pieces_more 0x20 s (ltb-true (up_to 0x20 s) (length s) t), ne_eqb (suc (length (pieces 0x20 (drop (up_to 0x20 s + 1) s)))) 1 (λ e. omega (arith, pieces-length 0x20 (drop (up_to 0x20 s + 1) s)))) (sym n)
+    go : (pieces 0x20 s ≡ s ∷ []) ⊎ ((t : List ℕ) × ((d : List ℕ) × (pieces 0x20 s ≡ t ∷ pieces 0x20 d))) → (is_number s ≡ true) ⊎ (is_number s ≡ false) → (eqb (length (pieces 0x20 s)) 1 && is_number (field (pieces 0x20 s) 0)) ≡ is_number s
+    go x (inl n) = rw (number-alone s n)
+    go (inl e) (inr n) = rw e
+    go (inr (t, (d, e))) (inr n) = rw (e, ne_eqb (suc (length (pieces 0x20 d))) 1 (λ z. omega (arith, pieces-length 0x20 d))) (sym n)
 
 -- two numbers after the letter
-pub edge_by : (wanted u : ℕ) (s : List ℕ) → u ≡ up_to 0x20 s → (u ≡ length s → ⊥) → line_in (edge_change wanted (number_of (take u s)) (number_of (drop (u + 1) s))) ≡ edge_line wanted ([] ∷ pieces 0x20 s)
-edge_by wanted u s e n = rw e (rw (pieces_more 0x20 s (omega (arith, e, n, up_to-le 0x20 s))) (two (take (up_to 0x20 s) s) (drop (up_to 0x20 s + 1) s)))
-  where
-    test : (t : List ℕ) (fs : List (List ℕ)) → is_number t ≡ true → (eqb (length fs) 1 && is_number (field fs 0)) ≡ false → (eqb (suc (suc (length fs))) 3 && (is_number t && is_number (field fs 0))) ≡ false
-    test t fs a b = rw (eqb-suc-suc (suc (length fs)) 2, eqb-suc-suc (length fs) 1, a) b
+module _ (wanted : ℕ) {s t d : List ℕ} (x : SplitAt 0x20 s t d) where
+  test : is_number t ≡ true → is_number d ≡ false → (eqb (suc (suc (length (pieces 0x20 d)))) 3 && (is_number t && is_number (field (pieces 0x20 d) 0))) ≡ false
+  test a b = rw (eqb-suc-suc (suc (length (pieces 0x20 d))) 2, eqb-suc-suc (length (pieces 0x20 d)) 1, a) (one_field d ∙ b)
 
-    two : (t d : List ℕ) → line_in (edge_change wanted (number_of t) (number_of d)) ≡ edge_line wanted ([] ∷ (t ∷ pieces 0x20 d))
-    two t d = step (decide (is_number t)) (decide (is_number d))
-      where
-        step : (is_number t ≡ true) ⊎ (is_number t ≡ false) → (is_number d ≡ true) ⊎ (is_number d ≡ false) → line_in (edge_change wanted (number_of t) (number_of d)) ≡ edge_line wanted ([] ∷ (t ∷ pieces 0x20 d))
-        step (inl a) (inl b) = unfold number_of edge_change line_in edge_line in rw (number-alone d b, a, b)
-        step (inl a) (inr b) = unfold number_of edge_change line_in edge_line in rw (test t (pieces 0x20 d) a (one_field d ∙ b), a, b)
-        step (inr a) b = unfold number_of edge_change line_in edge_line in rw (a, and-false (eqb (suc (suc (length (pieces 0x20 d)))) 3))
+  pub edge_first : None ≡ number_of t → ill_formed ≡ edge_line wanted ([] ∷ pieces 0x20 s)
+  unfolding edge_line
+  edge_first a = rw (x.pieces, number_none t a, and-false (eqb (suc (suc (length (pieces 0x20 d)))) 3))
 
--- one number after the letter
-pub mark_by : (wanted : ℕ) (s : List ℕ) → line_in (mark_change wanted (number_of s)) ≡ mark_line wanted ([] ∷ pieces 0x20 s)
-unfolding number_of mark_change line_in mark_line
-mark_by wanted s = step (decide (is_number s))
-  where
-    test : (fs : List (List ℕ)) → (eqb (length fs) 1 && is_number (field fs 0)) ≡ false → (eqb (suc (length fs)) 2 && is_number (field fs 0)) ≡ false
-    test fs b = rw (eqb-suc-suc (length fs) 1) b
+  pub edge_second : (u : ℕ) → Some u ≡ number_of t → None ≡ number_of d → ill_formed ≡ edge_line wanted ([] ∷ pieces 0x20 s)
+  unfolding edge_line
+  edge_second u a b = rw (x.pieces, test (number_value t u a).0 (number_none d b))
 
-    step : (is_number s ≡ true) ⊎ (is_number s ≡ false) → line_in (mark_change wanted (number_of s)) ≡ mark_line wanted ([] ∷ pieces 0x20 s)
-    step (inl b) = rw (number-alone s b, b)
-    step (inr b) = rw (test (pieces 0x20 s) (one_field s ∙ b), b)
+  pub edge_both : (u v : ℕ) → Some u ≡ number_of t → Some v ≡ number_of d → change (record { kind = 1; u = u; v = v; wanted = wanted }) ≡ edge_line wanted ([] ∷ pieces 0x20 s)
+  unfolding edge_line
+  edge_both u v a b = let y = number_value t u a in let z = number_value d v b in rw (x.pieces, number-alone d z.0, y.0, z.0, y.1, z.1)
 
 -- no second field
-pub edge_short : (wanted u : ℕ) (s : List ℕ) → u ≡ up_to 0x20 s → u ≡ length s → line_in NoChange ≡ edge_line wanted ([] ∷ pieces 0x20 s)
-unfolding line_in edge_line
-edge_short wanted u s e h = rw (pieces_one 0x20 s (sym e ∙ h))
+pub edge_short : (wanted : ℕ) (s : List ℕ) → pieces 0x20 s ≡ s ∷ [] → ill_formed ≡ edge_line wanted ([] ∷ pieces 0x20 s)
+unfolding edge_line
+edge_short wanted s e = rw e
 
--- a line by its letter
-abbrev pub by_letter : ℕ → List (List ℕ) → ModelLine
-by_letter b fs =
-    cond (eqb b 0x74) (edge_line 1 ([] ∷ fs))
-    (cond (eqb b 0x75) (edge_line 0 ([] ∷ fs))
-    (cond (eqb b 0x77) (mark_line 1 ([] ∷ fs))
-    (cond (eqb b 0x6F) (mark_line 0 ([] ∷ fs))
-    ill_formed)))
+-- one number after the letter
+pub mark_none : (wanted : ℕ) (s : List ℕ) → None ≡ number_of s → ill_formed ≡ mark_line wanted ([] ∷ pieces 0x20 s)
+unfolding mark_line
+mark_none wanted s a = rw (eqb-suc-suc (length (pieces 0x20 s)) 1, one_field s, number_none s a)
 
-first_piece : (s : List ℕ) → field (pieces 0x20 s) 0 ≡ take (up_to 0x20 s) s
-first_piece s = go (decide (ltb (up_to 0x20 s) (length s)))
-  where
-    go : (ltb (up_to 0x20 s) (length s) ≡ true) ⊎ (ltb (up_to 0x20 s) (length s) ≡ false) → field (pieces 0x20 s) 0 ≡ take (up_to 0x20 s) s
-    go (inl t) = rw (pieces_more 0x20 s (ltb-true (up_to 0x20 s) (length s) t))
-    go (inr t) =
-        let h = ltb-false (up_to 0x20 s) (length s) t in
-        rw (pieces_one 0x20 s (omega (arith, up_to-le 0x20 s, h))) (sym (take_all (up_to 0x20 s) s h))
-
-same_one : (s : List ℕ) (x : ℕ) → (length s ≡ 1 → ⊥) → same_list s (x ∷ []) ≡ false
-unfolding same_list
-same_one [] x h = refl
-same_one (y ∷ []) x h = absurd (h refl)
-same_one (y ∷ (z ∷ zs)) x h = and-false (eqb y x)
-
--- the letter is no field of its own
-pub line_not : (u : ℕ) (s : List ℕ) → u ≡ up_to 0x20 s → (u ≡ 1 → ⊥) → line_in NoChange ≡ line_of s
-unfolding line_in line_of text
-line_not u s e n = rw (first_piece s, one 0x74, one 0x75, one 0x77, one 0x6F)
-  where
-    one : (x : ℕ) → same_list (take (up_to 0x20 s) s) (x ∷ []) ≡ false
-    one x = same_one (take (up_to 0x20 s) s) x (λ q. n (omega (arith, e, q, length-take (up_to 0x20 s) s, up_to-le 0x20 s)))
+pub mark_one : (wanted : ℕ) (s : List ℕ) (u : ℕ) → Some u ≡ number_of s → change (record { kind = 2; u = u; v = 0; wanted = wanted }) ≡ mark_line wanted ([] ∷ pieces 0x20 s)
+unfolding mark_line
+mark_one wanted s u a = let x = number_value s u a in rw (number-alone s x.0, x.0, x.1)
 
 -- nothing follows the letter
-pub line_short : (u : ℕ) (s : List ℕ) → u ≡ up_to 0x20 s → u ≡ 1 → length s ≡ 1 → line_in NoChange ≡ line_of s
-unfolding line_in line_of edge_line mark_line
-line_short u s e one h = rw (pieces_one 0x20 s (omega (arith, e, one, h))) (none (same_list s (text "t")) (same_list s (text "u")) (same_list s (text "w")) (same_list s (text "o")))
+pub line_short : (s : List ℕ) → pieces 0x20 s ≡ s ∷ [] → ill_formed ≡ line_of s
+unfolding line_of edge_line mark_line
+line_short s e = rw e (none (same_list s (text "t")) (same_list s (text "u")) (same_list s (text "w")) (same_list s (text "o")))
   where
     none : (a b c d : Bool) → ill_formed ≡ cond a ill_formed (cond b ill_formed (cond c ill_formed (cond d ill_formed ill_formed)))
     none true b c d = refl
@@ -114,36 +73,41 @@ line_short u s e one h = rw (pieces_one 0x20 s (omega (arith, e, one, h))) (none
     none false false false true = refl
     none false false false false = refl
 
-take_one : (s : List ℕ) → 0 < length s → take 1 s ≡ get_or s 0 0 ∷ []
-take_one [] h = absurd (omega arith)
-take_one (x ∷ xs) h = refl
+-- a line by its letter
+abbrev pub by_letter : ℕ → List (List ℕ) → Line
+by_letter b fs =
+    cond (eqb b 0x74) (edge_line 1 ([] ∷ fs))
+    (cond (eqb b 0x75) (edge_line 0 ([] ∷ fs))
+    (cond (eqb b 0x77) (mark_line 1 ([] ∷ fs))
+    (cond (eqb b 0x6F) (mark_line 0 ([] ∷ fs))
+    ill_formed)))
 
-pub line_letter : (u : ℕ) (s : List ℕ) → u ≡ up_to 0x20 s → u ≡ 1 → (length s ≡ 1 → ⊥) → line_of s ≡ by_letter (get_or s 0 0) (pieces 0x20 (drop 2 s))
-unfolding line_of same_list text edge_line mark_line
-line_letter u s e one n = rw (first, and_one (eqb (get_or s 0 0) 0x74), and_one (eqb (get_or s 0 0) 0x75), and_one (eqb (get_or s 0 0) 0x77), and_one (eqb (get_or s 0 0) 0x6F))
-  where
-    at_one : up_to 0x20 s ≡ 1
-    at_one = sym e ∙ one
+same_one : (l : List ℕ) (x : ℕ) → (length l ≡ 1 → ⊥) → same_list l (x ∷ []) ≡ false
+unfolding same_list
+same_one [] x h = refl
+same_one (y ∷ []) x h = absurd (h refl)
+same_one (y ∷ (z ∷ zs)) x h = and-false (eqb y x)
 
-    long : 1 < length s
-    long = omega (arith, at_one, n, up_to-le 0x20 s)
+module _ {s first rest : List ℕ} (x : SplitAt 0x20 s first rest) where
+  -- the letter is no field of its own
+  pub line_not : (length first ≡ 1 → ⊥) → ill_formed ≡ line_of s
+  unfolding line_of text
+  line_not n = rw (x.pieces, same_one first 0x74 n, same_one first 0x75 n, same_one first 0x77 n, same_one first 0x6F n)
 
-    first : pieces 0x20 s ≡ (get_or s 0 0 ∷ []) ∷ pieces 0x20 (drop 2 s)
-    first = pieces_more 0x20 s (rw at_one long) ∙ rw (at_one, take_one s (omega (arith, long)))
+  pub line_letter : length first ≡ 1 → line_of s ≡ by_letter (get_or first 0 0) (pieces 0x20 rest)
+  unfolding line_of same_list text edge_line mark_line
+  line_letter n = rw x.pieces (go first n)
+    where
+      go : (l : List ℕ) → length l ≡ 1
+          → cond (same_list l (text "t")) (edge_line 1 (l ∷ pieces 0x20 rest)) (cond (same_list l (text "u")) (edge_line 0 (l ∷ pieces 0x20 rest)) (cond (same_list l (text "w")) (mark_line 1 (l ∷ pieces 0x20 rest)) (cond (same_list l (text "o")) (mark_line 0 (l ∷ pieces 0x20 rest)) ill_formed)))
+          ≡ by_letter (get_or l 0 0) (pieces 0x20 rest)
+      go [] h = absurd (omega arith)
+      go (b ∷ []) h = rw (and_one (eqb b 0x74), and_one (eqb b 0x75), and_one (eqb b 0x77), and_one (eqb b 0x6F))
+      go (b ∷ (x ∷ xs)) h = absurd (omega arith)
 
--- from what the callees tell
-pub edge_change-told : {a b : Number} {r : Line} (wanted u : ℕ) (s : List ℕ) → u ≡ up_to 0x20 s → (u ≡ length s → ⊥) → a ≡ number_of (take u s) → b ≡ number_of (take (length s - (u + 1)) (drop (u + 1) s)) → r ≡ edge_change wanted a b
-    → line_in r ≡ edge_line wanted ([] ∷ pieces 0x20 s)
-edge_change-told wanted u s e n x y z = rw (z, x, y, part_from (u + 1) s) (edge_by wanted u s e n)
+  -- from the letter and what its function tells
+  pub line_by : length first ≡ 1 → {b : ℕ} {y : Line} → get_or first 0 0 ≡ b → y ≡ by_letter b (pieces 0x20 rest) → y ≡ line_of s
+  line_by n e y = y ∙ rw (← e) (sym (line_letter n))
 
-pub mark_change-told : {a : Number} {r : Line} (wanted : ℕ) (s : List ℕ) → a ≡ number_of s → r ≡ mark_change wanted a → line_in r ≡ mark_line wanted ([] ∷ pieces 0x20 s)
-mark_change-told wanted s x z = rw (z, x) (mark_by wanted s)
-
--- from the letter and what its function tells
-module _ (u : ℕ) (s : List ℕ) (e : u ≡ up_to 0x20 s) (one : u ≡ 1) (n : length s ≡ 1 → ⊥) where
-  pub line_by : {b : ℕ} {x : ModelLine} → get_or s 0 0 ≡ b → x ≡ by_letter b (pieces 0x20 (take (length s - 2) (drop 2 s))) → x ≡ line_of s
-  line_by h x = x ∙ rw (part_from 2 s, ← h) (sym (line_letter u s e one n))
-
-  pub line_other : (get_or s 0 0 ≡ 0x74 → ⊥) → (get_or s 0 0 ≡ 0x75 → ⊥) → (get_or s 0 0 ≡ 0x77 → ⊥) → (get_or s 0 0 ≡ 0x6F → ⊥) → line_in NoChange ≡ line_of s
-  unfolding line_in
-  line_other t h w o = rw (line_letter u s e one n, ne_eqb (get_or s 0 0) 0x74 t, ne_eqb (get_or s 0 0) 0x75 h, ne_eqb (get_or s 0 0) 0x77 w, ne_eqb (get_or s 0 0) 0x6F o)
+  pub line_other : length first ≡ 1 → (get_or first 0 0 ≡ 0x74 → ⊥) → (get_or first 0 0 ≡ 0x75 → ⊥) → (get_or first 0 0 ≡ 0x77 → ⊥) → (get_or first 0 0 ≡ 0x6F → ⊥) → ill_formed ≡ line_of s
+  line_other n t h w o = rw (line_letter n, ne_eqb (get_or first 0 0) 0x74 t, ne_eqb (get_or first 0 0) 0x75 h, ne_eqb (get_or first 0 0) 0x77 w, ne_eqb (get_or first 0 0) 0x6F o)

@@ -1,25 +1,21 @@
 -- Laws of the whole input: its first line, then line after line with the changes so far in the batch.
-use Rattle.std.specs.Prelude.{◌≡◌, true, false, not, cond, List, [], ◌∷◌, ◌++◌, ◌⊎◌, ℕ, suc, ◌+◌, ◌*◌, ◌-◌, ◌≤◌, ◌<◌, leb, take, drop, set}
+use Rattle.std.specs.Prelude.{◌≡◌, false, not, cond, List, [], ◌∷◌, ◌++◌, ℕ, suc, Option, Some, None, Result, Ok, Err, ◌+◌, ◌*◌, ◌≤◌, ◌<◌, leb, length, take, drop, set}
+use Rattle.std.specs.Option.{ok_or}
 use Rattle.std.proofs.Math.Path.{refl, sym, ap}
-use Rattle.std.proofs.Common.{◌∙◌, append_assoc, append-nil, inl, inr, arith, length-append, length-drop, drop_of_length-le, drop-drop, drop-set-lt, take_at, le-leb, le-ltb, lt-ltb, ne_eqb}
-use Rattle.std.proofs.Math.ListN.{length}
+use Rattle.std.proofs.Common.{◌∙◌, append_assoc, append-nil, arith, length-append, drop-set-lt, take_all, take_at, le-leb, le-ltb, lt-ltb, ne_eqb}
 use Rattle.std.proofs.lemmas.List.Edits.{sets, sets-eq}
+use Rattle.std.proofs.lemmas.Slice.{put_mid-paste}
+use borrow.Rule.Slice.PartMut.{put_mid}
 use Rattle.std.proofs.lemmas.Bool.{lt-leb}
 use Rattle.model.specs.Graph.{max_nodes, max_updates}
-use Rattle.model.specs.Program.{Input, Line as ModelLine, accepted, change, first_line, ill_formed, input_of, is_count, is_none, is_number, line_of, lines_from, max_bytes, pieces, refused_at, value_of, with_line, with_update}
-use Rattle.model.proofs.TestLaws.{decide}
+use Rattle.model.specs.Program.{Input, Line, accepted, change, first_line, ill_formed, input_of, is_count, is_none, line_of, lines_from, max_bytes, pieces, refused_at, value_of, with_line, with_update}
 use Rattle.model.specs.Updates.{Update, update_numbers, updates_in}
 use Rattle.buffers.specs.Wrote.{Wrote}
 use Rattle.buffers.specs.WroteLaws.{wrote_then}
-use Rattle.text.specs.declared.Line.{Line}
-use Rattle.text.specs.declared.Line.TheVariants.{Change, NoChange}
-use Rattle.text.specs.declared.Number.{Number}
-use Rattle.text.specs.declared.Number.TheVariants.{Value, NoNumber}
-use Rattle.text.specs.declared.Parsed.{Parsed}
-use Rattle.text.specs.declared.Parsed.TheVariants.{Accepted, Refused}
-use Rattle.text.specs.Grammar.{ParsedAs, input_in, line_in, number_of, up_to, used}
-use Rattle.text.specs.LineLaws.{part_from}
-use Rattle.text.specs.PieceLaws.{pieces_more, pieces_one, pieces_some, up_to-le}
+use Rattle.text.specs.declared.Change.{Change}
+use Rattle.text.specs.Grammar.{ParsedAs, SplitAt, input_in, number_of, numbers_of, update_of, used}
+use Rattle.text.specs.NumberLaws.{number_none, number_value}
+use Rattle.text.specs.PieceLaws.{pieces_some}
 
 -- changes as numbers, four for each
 unfoldable pub numbers : List Update → List ℕ
@@ -61,31 +57,29 @@ drop_sets : (bs s : List ℕ) (at k : ℕ) → at + length bs ≤ k → drop k (
 drop_sets [] s at k h = refl
 drop_sets (b ∷ bs) s at k h = drop_sets bs (set s at b) (suc at) k (omega arith) ∙ drop-set-lt k s at b (omega arith)
 
--- the changes of the lines before `at` are in the batch, and the lines from there on are still to be read
-pub record Reading (input before after : List ℕ) (all : Input) (n at count : ℕ) : Type 0 where
-  pub within : at ≤ length input
+-- the changes of the lines before `rest` are in the batch, and those of `rest` are still to be read
+pub record Reading (before after : List ℕ) (all : Input) (n count : ℕ) (rest : List ℕ) : Type 0 where
   pub few : count ≤ max_updates
   pub room : update_numbers * max_updates ≤ length before
   pub changes : List Update
   pub size : length changes ≡ count
   pub wrote : Wrote before 0 (numbers changes) after (update_numbers * count)
-  pub same : following changes (lines_from n (count + 2) (pieces 0x0A (drop at input))) ≡ all
+  pub same : following changes (lines_from n (count + 2) (pieces 0x0A rest)) ≡ all
 
-pub reading_start : (input batch : List ℕ) (n from : ℕ) → from ≤ length input → update_numbers * max_updates ≤ length batch → Reading input batch batch (lines_from n 2 (pieces 0x0A (drop from input))) n from 0
+pub reading_start : (batch : List ℕ) (n : ℕ) (lines : List ℕ) → update_numbers * max_updates ≤ length batch → Reading batch batch (lines_from n 2 (pieces 0x0A lines)) n 0 lines
 unfolding numbers
-reading_start input batch n from h r = record {
-  within = h;
+reading_start batch n lines r = record {
   few = omega arith;
   room = r;
   changes = [];
   size = refl;
   wrote = record { bytes = refl; place = refl };
-  same = following_none (lines_from n 2 (pieces 0x0A (drop from input)));
+  same = following_none (lines_from n 2 (pieces 0x0A lines));
 }
 
-module _ {input before after : List ℕ} {all : Input} {n at count : ℕ} (x : Reading input before after all n at count) where
+module _ {before after : List ℕ} {all : Input} {n count : ℕ} {rest : List ℕ} (x : Reading before after all n count rest) where
   -- refused at the line that is read
-  refused : lines_from n (count + 2) (pieces 0x0A (drop at input)) ≡ refused_at (count + 2) → ParsedAs all before after (Refused (count + 2))
+  refused : lines_from n (count + 2) (pieces 0x0A rest) ≡ refused_at (count + 2) → ParsedAs all before after (Err (record { line = count + 2 }))
   unfolding following input_in used
   refused e = record {
     input = sym (ap (following x.changes) e) ∙ x.same;
@@ -93,78 +87,17 @@ module _ {input before after : List ℕ} {all : Input} {n at count : ℕ} (x : R
     beyond = ap (drop (update_numbers * max_updates)) x.wrote.bytes ∙ drop_sets (numbers x.changes) before 0 (update_numbers * max_updates) (omega (arith, numbers-length x.changes, x.size, x.few));
   }
 
-  rest-length : length (drop at input) ≡ length input - at
-  rest-length = length-drop at input
-
   -- a last line without a line feed
-  pub reading_open : (u : ℕ) → at < length input → u ≡ up_to 0x0A (take (length input - at) (drop at input)) → at + u ≡ length input → ParsedAs all before after (Refused (count + 2))
-  reading_open u h e l = refused (rw (pieces_one 0x0A (drop at input) (omega (arith, rest-length, q, l))) tail)
+  pub reading_open : pieces 0x0A rest ≡ rest ∷ [] → (length rest ≡ 0 → ⊥) → ParsedAs all before after (Err (record { line = count + 2 }))
+  reading_open e h = refused (rw e tail)
     where
-      q : u ≡ up_to 0x0A (drop at input)
-      q = e ∙ ap (up_to 0x0A) (part_from at input)
-
-      tail : lines_from n (count + 2) (drop at input ∷ []) ≡ refused_at (count + 2)
-      tail = unfold lines_from is_none in rw (ne_eqb (length (drop at input)) 0 (λ z. omega (arith, rest-length)))
-
-  -- a line with its line feed
-  line_first : (u : ℕ) → u ≡ up_to 0x0A (take (length input - at) (drop at input)) → (at + u ≡ length input → ⊥)
-      → lines_from n (count + 2) (pieces 0x0A (drop at input)) ≡ with_line (count + 2) (line_of (take u (drop at input))) (lines_from n (suc (count + 2)) (pieces 0x0A (drop (at + u + 1) input)))
-  line_first u e l = rw (pieces_more 0x0A (drop at input) (omega (arith, rest-length, q, l, up_to-le 0x0A (drop at input), x.within)), ← q) body
-    where
-      q : u ≡ up_to 0x0A (drop at input)
-      q = e ∙ ap (up_to 0x0A) (part_from at input)
-
-      next : drop (u + 1) (drop at input) ≡ drop (at + u + 1) input
-      next = let z : at + (u + 1) ≡ at + u + 1 = omega arith in drop-drop (u + 1) at input ∙ ap (λ (k : ℕ). drop k input) z
-
-      body : lines_from n (count + 2) (take u (drop at input) ∷ pieces 0x0A (drop (u + 1) (drop at input)))
-          ≡ with_line (count + 2) (line_of (take u (drop at input))) (lines_from n (suc (count + 2)) (pieces 0x0A (drop (at + u + 1) input)))
-      body = unfold lines_from in rw (next, pieces_some 0x0A (drop (at + u + 1) input))
-
-  -- a 4,097th change, whatever it is
-  pub reading_over : (u : ℕ) → u ≡ up_to 0x0A (take (length input - at) (drop at input)) → (at + u ≡ length input → ⊥) → count ≡ max_updates → ParsedAs all before after (Refused (count + 2))
-  reading_over u e l f = refused (line_first u e l ∙ over (line_of (take u (drop at input))))
-    where
-      over : (y : ModelLine) → with_line (count + 2) y (lines_from n (suc (count + 2)) (pieces 0x0A (drop (at + u + 1) input))) ≡ refused_at (count + 2)
-      over ill_formed = unfold with_line in refl
-      over (change c) = unfold with_line in rw (lt-ltb (suc max_updates) (count + 2) (omega arith))
-
-  part-line : (u : ℕ) → take (at + u - at) (drop at input) ≡ take u (drop at input)
-  part-line u = let z : at + u - at ≡ u = omega arith in ap (λ (k : ℕ). take k (drop at input)) z
-
-  -- an ill-formed line
-  pub reading_ill : {r : Line} (u : ℕ) → u ≡ up_to 0x0A (take (length input - at) (drop at input)) → (at + u ≡ length input → ⊥) → line_in r ≡ line_of (take (at + u - at) (drop at input)) → r ≡ NoChange
-      → ParsedAs all before after (Refused (count + 2))
-  reading_ill u e l t c = refused (line_first u e l ∙ rw (← part-line u, ← t, c) (unfold line_in with_line in refl))
-
-  -- a change
-  pub reading_step : {r : Line} {batch : List ℕ} (u kind p q wanted : ℕ) → u ≡ up_to 0x0A (take (length input - at) (drop at input)) → (at + u ≡ length input → ⊥) → (count ≡ max_updates → ⊥)
-      → line_in r ≡ line_of (take (at + u - at) (drop at input)) → r ≡ Change kind p q wanted → Wrote after (update_numbers * count) (kind ∷ p ∷ q ∷ wanted ∷ []) batch (update_numbers * (count + 1)) → Reading input before batch all n (at + u + 1) (count + 1)
-  reading_step {r} {batch} u kind p q wanted e l f t y w = record {
-    within = omega (arith, e, l, up_to-le 0x0A (take (length input - at) (drop at input)), ap length (part_from at input), rest-length, x.within);
-    few = omega (arith, f, x.few);
-    room = x.room;
-    changes = x.changes ++ (c ∷ []);
-    size = omega (arith, length-append x.changes (c ∷ []), x.size);
-    wrote = rw (numbers-append x.changes (c ∷ [])) (unfold numbers in wrote_then x.wrote w);
-    same = sym (ap (following x.changes) first ∙ following_more x.changes c rest) ∙ x.same;
-  }
-    where
-      c : Update
-      c = record { kind = kind; u = p; v = q; wanted = wanted }
-
-      rest : Input
-      rest = lines_from n (count + 1 + 2) (pieces 0x0A (drop (at + u + 1) input))
-
-      first : lines_from n (count + 2) (pieces 0x0A (drop at input)) ≡ with_update c rest
-      first =
-          let z : suc (count + 2) ≡ count + 1 + 2 = omega arith in
-          line_first u e l ∙ rw (← part-line u, ← t, y, z) (unfold line_in with_line in rw (le-ltb (suc max_updates) (count + 2) (omega (arith, f, x.few))))
+      tail : lines_from n (count + 2) (rest ∷ []) ≡ refused_at (count + 2)
+      tail = unfold lines_from is_none in rw (ne_eqb (length rest) 0 h)
 
   -- no line is left
-  pub reading_done : length input ≤ at → ParsedAs all before after (Accepted n count)
+  pub reading_done : pieces 0x0A rest ≡ rest ∷ [] → length rest ≡ 0 → ParsedAs all before after (Ok (record { n = n; count = count }))
   unfolding following input_in used
-  reading_done h = record {
+  reading_done e h = record {
     input = ap (accepted n) (ap updates_in front ∙ numbers_back x.changes) ∙ sym (ap (accepted n) (append-nil x.changes)) ∙ sym (ap (following x.changes) none) ∙ x.same;
     few = x.few;
     beyond = ap (drop (update_numbers * count)) x.wrote.bytes ∙ drop_sets (numbers x.changes) before 0 (update_numbers * count) (omega (arith, numbers-length x.changes, x.size));
@@ -178,76 +111,96 @@ module _ {input before after : List ℕ} {all : Input} {n at count : ℕ} (x : R
           ap (take (update_numbers * count)) (x.wrote.bytes ∙ sets-eq (numbers x.changes) before 0 (omega (arith, long, x.room, x.few)))
           ∙ take_at (numbers x.changes) (drop (0 + length (numbers x.changes)) before) (update_numbers * count) long
 
-      none : lines_from n (count + 2) (pieces 0x0A (drop at input)) ≡ accepted n []
-      none = rw (drop_of_length-le input h) (unfold lines_from pieces is_none in refl)
+      none : lines_from n (count + 2) (pieces 0x0A rest) ≡ accepted n []
+      none = rw e (unfold lines_from is_none in rw h)
 
--- a line ends within the input
-pub end_within : (input : List ℕ) (at u : ℕ) → at ≤ length input → u ≡ up_to 0x0A (take (length input - at) (drop at input)) → at + u ≤ length input
-end_within input at u h e = omega (arith, e, up_to-le 0x0A (take (length input - at) (drop at input)), ap length (part_from at input), length-drop at input)
+  -- a line with its line feed
+  module _ {line next : List ℕ} (s : SplitAt 0x0A rest line next) where
+    line_first : lines_from n (count + 2) (pieces 0x0A rest) ≡ with_line (count + 2) (line_of line) (lines_from n (suc (count + 2)) (pieces 0x0A next))
+    line_first = rw s.pieces (unfold lines_from in rw (pieces_some 0x0A next))
 
--- one change is written
-pub change_wrote : (batch : List ℕ) (count kind u v wanted : ℕ)
-    → Wrote batch (update_numbers * count) (kind ∷ u ∷ v ∷ wanted ∷ []) (set (set (set (set batch (update_numbers * count) kind) (update_numbers * count + 1) u) (update_numbers * count + 2) v) (update_numbers * count + 3) wanted) (update_numbers * (count + 1))
-change_wrote batch count kind u v wanted =
-    let a : update_numbers * count + 1 ≡ suc (update_numbers * count) = omega arith in
-    let b : update_numbers * count + 2 ≡ suc (suc (update_numbers * count)) = omega arith in
-    let d : update_numbers * count + 3 ≡ suc (suc (suc (update_numbers * count))) = omega arith in
-    rw (a, b, d) (record { bytes = refl; place = omega arith })
+    -- a 4,097th change, whatever it is
+    pub reading_over : count ≡ max_updates → ParsedAs all before after (Err (record { line = count + 2 }))
+    reading_over f = refused (line_first ∙ over (line_of line))
+      where
+        over : (y : Line) → with_line (count + 2) y (lines_from n (suc (count + 2)) (pieces 0x0A next)) ≡ refused_at (count + 2)
+        over ill_formed = unfold with_line in refl
+        over (change c) = unfold with_line in rw (lt-ltb (suc max_updates) (count + 2) (omega arith))
 
--- what the case of a number tells
-number_value : (ds : List ℕ) (v : ℕ) → number_of ds ≡ Value v → (is_number ds ≡ true) × (value_of 0 ds ≡ v)
-unfolding number_of
-number_value ds v h = go (decide (is_number ds)) h
-  where
-    go : (is_number ds ≡ true) ⊎ (is_number ds ≡ false) → cond (is_number ds) (Value (value_of 0 ds)) NoNumber ≡ Value v → (is_number ds ≡ true) × (value_of 0 ds ≡ v)
-    go (inl t) e = let q : Value (value_of 0 ds) ≡ Value v = rw t at e in (t, cc)
-    go (inr t) e = let q : NoNumber ≡ Value v = rw t at e in let z : ◌≡◌ {A = ℕ} 0 1 = cc in absurd (omega arith)
+    -- an ill-formed line
+    pub reading_ill : ill_formed ≡ line_of line → ParsedAs all before after (Err (record { line = count + 2 }))
+    reading_ill e = refused (line_first ∙ rw (← e) (unfold with_line in refl))
 
-number_none : (ds : List ℕ) → number_of ds ≡ NoNumber → is_number ds ≡ false
-unfolding number_of
-number_none ds h = go (decide (is_number ds)) h
-  where
-    go : (is_number ds ≡ true) ⊎ (is_number ds ≡ false) → cond (is_number ds) (Value (value_of 0 ds)) NoNumber ≡ NoNumber → is_number ds ≡ false
-    go (inl t) e = let q : Value (value_of 0 ds) ≡ NoNumber = rw t at e in let z : ◌≡◌ {A = ℕ} 0 1 = cc in absurd (omega arith)
-    go (inr t) e = t
+    -- a change
+    pub reading_step : (c : Change) {batch : List ℕ} → (count ≡ max_updates → ⊥) → change (update_of c) ≡ line_of line → Wrote after (update_numbers * count) (numbers_of c) batch (update_numbers * (count + 1)) → Reading before batch all n (count + 1) next
+    reading_step c {batch} f e w = record {
+      few = omega (arith, f, x.few);
+      room = x.room;
+      changes = x.changes ++ (update_of c ∷ []);
+      size = omega (arith, length-append x.changes (update_of c ∷ []), x.size);
+      wrote = rw (numbers-append x.changes (update_of c ∷ [])) (unfold numbers in wrote_then x.wrote w);
+      same = sym (ap (following x.changes) first ∙ following_more x.changes (update_of c) after-it) ∙ x.same;
+    }
+      where
+        after-it : Input
+        after-it = lines_from n (count + 1 + 2) (pieces 0x0A next)
 
-count_is : (ds : List ℕ) (v : ℕ) → number_of ds ≡ Value v → is_count ds ≡ leb v max_nodes
+        first : lines_from n (count + 2) (pieces 0x0A rest) ≡ with_update (update_of c) after-it
+        first =
+            let z : suc (count + 2) ≡ count + 1 + 2 = omega arith in
+            line_first ∙ rw (← e, z) (unfold with_line in rw (le-ltb (suc max_updates) (count + 2) (omega (arith, f, x.few))))
+
+-- a part is written over
+pub wrote_part : (s : List ℕ) {bs new : List ℕ} (at : ℕ) {k next : ℕ} → new ≡ bs → length bs ≡ k → at + k ≤ length s → next ≡ at + k → Wrote s at bs (put_mid at k s new) next
+wrote_part s {bs} {new} at {k} a b h e = record {
+  bytes = put_mid-paste at k s new bs (length bs) a b refl ∙ rw (take_all (length bs) bs (omega arith)) (sym (sets-eq bs s at (omega (arith, b))));
+  place = omega (arith, e, b);
+}
+
+-- what the number in the first line tells
+count_is : (ds : List ℕ) (v : ℕ) → Some v ≡ number_of ds → is_count ds ≡ leb v max_nodes
 unfolding is_count
-count_is ds v h = rw ((number_value ds v h).0, (number_value ds v h).1)
+count_is ds v h = let x = number_value ds v h in rw (x.0, x.1)
 
-count_none : (ds : List ℕ) → number_of ds ≡ NoNumber → is_count ds ≡ false
+count_none : (ds : List ℕ) → None ≡ number_of ds → is_count ds ≡ false
 unfolding is_count
 count_none ds h = rw (number_none ds h)
 
+-- the first line
+pub first_open : (s : List ℕ) → pieces 0x0A s ≡ s ∷ [] → first_line (pieces 0x0A s) ≡ refused_at 1
+unfolding first_line is_none
+first_open s e = rw e
+
+module _ {s first lines : List ℕ} (x : SplitAt 0x0A s first lines) where
+  first-line : first_line (pieces 0x0A s) ≡ cond (not (is_count first)) (refused_at 1) (lines_from (value_of 0 first) 2 (pieces 0x0A lines))
+  unfolding first_line
+  first-line = rw (x.pieces, pieces_some 0x0A lines)
+
+  pub first_ill : None ≡ number_of first → first_line (pieces 0x0A s) ≡ refused_at 1
+  first_ill a = first-line ∙ rw (count_none first a)
+
+  pub first_large : (v : ℕ) → Some v ≡ number_of first → max_nodes < v → first_line (pieces 0x0A s) ≡ refused_at 1
+  first_large v a h = first-line ∙ rw (count_is first v a, lt-leb v max_nodes h)
+
+  pub first_then : (v : ℕ) → Some v ≡ number_of first → v ≤ max_nodes → first_line (pieces 0x0A s) ≡ lines_from v 2 (pieces 0x0A lines)
+  first_then v a h = first-line ∙ rw (count_is first v a, le-leb v max_nodes h, (number_value first v a).1)
+
 -- refused at the first line, or for its length, with the batch as it was
-refused_at_lem : (input batch : List ℕ) (k : ℕ) → input_of input ≡ refused_at k → ParsedAs (input_of input) batch batch (Refused k)
+refused_at_lem : (input batch : List ℕ) (k : ℕ) → input_of input ≡ refused_at k → ParsedAs (input_of input) batch batch (Err (record { line = k }))
 unfolding input_in used
 refused_at_lem input batch k e = record { input = sym e; few = omega arith; beyond = refl }
 
-pub first_long : (input batch : List ℕ) → max_bytes < length input → ParsedAs (input_of input) batch batch (Refused 0)
-first_long input batch h = refused_at_lem input batch 0 (unfold input_of in rw (lt-ltb max_bytes (length input) h))
+pub input_long : (input batch : List ℕ) → max_bytes < length input → ParsedAs (input_of input) batch batch (Err (record { line = 0 }))
+input_long input batch h = refused_at_lem input batch 0 (unfold input_of in rw (lt-ltb max_bytes (length input) h))
 
-module _ (input : List ℕ) (small : length input ≤ max_bytes) where
-  by_lines : input_of input ≡ first_line (pieces 0x0A input)
-  unfolding input_of
-  by_lines = rw (le-ltb max_bytes (length input) small)
+pub by_lines : (input : List ℕ) → length input ≤ max_bytes → first_line (pieces 0x0A input) ≡ input_of input
+unfolding input_of
+by_lines input small = rw (le-ltb max_bytes (length input) small)
 
-  pub first_open : (batch : List ℕ) (u : ℕ) → u ≡ up_to 0x0A input → u ≡ length input → ParsedAs (input_of input) batch batch (Refused 1)
-  first_open batch u e l = refused_at_lem input batch 1 (by_lines ∙ rw (pieces_one 0x0A input (sym e ∙ l)) (unfold first_line is_none in refl))
+pub input_refused : (input batch : List ℕ) → length input ≤ max_bytes → first_line (pieces 0x0A input) ≡ refused_at 1 → ParsedAs (input_of input) batch batch (Err (record { line = 1 }))
+input_refused input batch small e = refused_at_lem input batch 1 (sym (by_lines input small) ∙ e)
 
-  first-line : (u : ℕ) → u ≡ up_to 0x0A input → (u ≡ length input → ⊥) → input_of input ≡ cond (not (is_count (take u input))) (refused_at 1) (lines_from (value_of 0 (take u input)) 2 (pieces 0x0A (drop (u + 1) input)))
-  first-line u e l = by_lines ∙ rw (pieces_more 0x0A input (omega (arith, e, l, up_to-le 0x0A input)), ← e) (unfold first_line in rw (pieces_some 0x0A (drop (u + 1) input)))
-
-  pub first_ill : {a : Number} (batch : List ℕ) (u : ℕ) → u ≡ up_to 0x0A input → (u ≡ length input → ⊥) → a ≡ number_of (take u input) → a ≡ NoNumber → ParsedAs (input_of input) batch batch (Refused 1)
-  first_ill batch u e l x y = refused_at_lem input batch 1 (first-line u e l ∙ rw (count_none (take u input) (sym x ∙ y)))
-
-  pub first_large : {a : Number} (batch : List ℕ) (u v : ℕ) → u ≡ up_to 0x0A input → (u ≡ length input → ⊥) → a ≡ number_of (take u input) → a ≡ Value v → max_nodes < v → ParsedAs (input_of input) batch batch (Refused 1)
-  first_large batch u v e l x y h = refused_at_lem input batch 1 (first-line u e l ∙ rw (count_is (take u input) v (sym x ∙ y), lt-leb v max_nodes h))
-
-  pub first_then : {a : Number} {before after : List ℕ} {r : Parsed} (u v : ℕ) → u ≡ up_to 0x0A input → (u ≡ length input → ⊥) → a ≡ number_of (take u input) → a ≡ Value v → v ≤ max_nodes
-      → ParsedAs (lines_from v 2 (pieces 0x0A (drop (u + 1) input))) before after r → ParsedAs (input_of input) before after r
-  first_then u v e l x y h t = record {
-    input = t.input ∙ sym (first-line u e l ∙ rw (count_is (take u input) v (sym x ∙ y), le-leb v max_nodes h, (number_value (take u input) v (sym x ∙ y)).1));
-    few = t.few;
-    beyond = t.beyond;
-  }
+-- what an error made of a missing value tells
+pub ok_or-err : {A E : Type 0} {r : Result A E} (o : Option A) {e x : E} → r ≡ ok_or o e → r ≡ Err x → (o ≡ None) × (x ≡ e)
+ok_or-err (Some v) a b = let z : Ok v ≡ Err _ = sym a ∙ b in cc
+ok_or-err None a b = (refl, cc)

@@ -1,68 +1,58 @@
 -- Laws of the pieces between separators: the first one, and those after it.
-use Rattle.std.specs.Prelude.{◌≡◌, true, false, cond, List, [], ◌∷◌, ◌⊎◌, ℕ, suc, ◌+◌, ◌≤◌, ◌<◌, eqb, ltb, length, get_or, take, drop}
+use Rattle.std.specs.Prelude.{◌≡◌, ◌≢◌, true, false, cond, List, [], ◌∷◌, ◌⊎◌, ℕ, zero, suc, ◌+◌, ◌-◌, ◌≤◌, ◌<◌, eqb, length, get_or, take, drop}
 use Rattle.std.proofs.Math.Path.{refl}
-use Rattle.std.proofs.Common.{inl, inr, add-one, arith, drop_of_length-le, drop-cons, eq-eqb, ltb-false, ltb-true, ne_eqb}
+use Rattle.std.proofs.Common.{inl, inr, add-one, arith, eq-eqb, ne_eqb, length-drop, take_all}
 use Rattle.model.specs.Program.{before, is_none, pieces}
 use Rattle.model.proofs.TestLaws.{decide}
-use Rattle.text.specs.Grammar.{up_to}
+use Rattle.text.specs.Grammar.{IsFirst, SplitAt}
 
--- what is found so far
-pub find_here : {u : ℕ} (sep : ℕ) (s : List ℕ) (i : ℕ) → i < length s → get_or s i 0 ≡ sep → i + up_to sep (drop i s) ≡ u → i ≡ u
-unfolding up_to
-find_here sep s i h e f = let z : i + 0 ≡ _ = rw (drop-cons s i 0 h, eq-eqb (get_or s i 0) sep e) at f in omega (arith, z)
-
-pub find_next : {u : ℕ} (sep : ℕ) (s : List ℕ) (i : ℕ) → i < length s → (get_or s i 0 ≡ sep → ⊥) → i + up_to sep (drop i s) ≡ u → i + 1 + up_to sep (drop (i + 1) s) ≡ u
-unfolding up_to
-find_next sep s i h n f =
-    let z : i + suc (up_to sep (drop (suc i) s)) ≡ _ = rw (drop-cons s i 0 h, ne_eqb (get_or s i 0) sep n) at f in
-    rw (add-one i) (omega (arith, z))
-
-pub find_end : {u : ℕ} (sep : ℕ) (s : List ℕ) (i : ℕ) → length s ≤ i → i + up_to sep (drop i s) ≡ u → i ≡ u
-unfolding up_to
-find_end sep s i h f = let z : i + 0 ≡ _ = rw (drop_of_length-le s h) at f in omega (arith, z)
-
-pub up_to-le : (sep : ℕ) (s : List ℕ) → up_to sep s ≤ length s
-unfolding up_to
-up_to-le sep [] = omega arith
-up_to-le sep (b ∷ bs) = step (up_to-le sep bs) (decide (eqb b sep))
-  where
-    step : up_to sep bs ≤ length bs → (eqb b sep ≡ true) ⊎ (eqb b sep ≡ false) → cond (eqb b sep) 0 (suc (up_to sep bs)) ≤ suc (length bs)
-    step below (inl t) = rw t (omega arith)
-    step below (inr t) = rw t (omega arith)
+-- the part of a slice from k on is all that follows
+pub part_from : (k : ℕ) (s : List ℕ) → take (length s - k) (drop k s) ≡ drop k s
+part_from k s = take_all (length s - k) (drop k s) (omega (arith, length-drop k s))
 
 -- no separator: one piece
-pub pieces_one : (sep : ℕ) (s : List ℕ) → up_to sep s ≡ length s → pieces sep s ≡ s ∷ []
-unfolding up_to pieces before
-pieces_one sep [] e = refl
-pieces_one sep (b ∷ bs) e = step (pieces_one sep bs) (decide (eqb b sep)) e
-  where
-    step : (up_to sep bs ≡ length bs → pieces sep bs ≡ bs ∷ []) → (eqb b sep ≡ true) ⊎ (eqb b sep ≡ false) → cond (eqb b sep) 0 (suc (up_to sep bs)) ≡ suc (length bs)
-        → cond (eqb b sep) ([] ∷ pieces sep bs) (before b (pieces sep bs)) ≡ (b ∷ bs) ∷ []
-    step below (inl t) x = let z : 0 ≡ suc (length bs) = rw t at x in absurd (omega (arith, z))
-    step below (inr t) x = let z : suc (up_to sep bs) ≡ suc (length bs) = rw t at x in rw (t, below (omega (arith, z)))
+pub pieces_one : (sep : ℕ) (s : List ℕ) → ((k : ℕ) → k < length s → get_or s k 0 ≢ sep) → pieces sep s ≡ s ∷ []
+unfolding pieces before
+pieces_one sep [] f = refl
+pieces_one sep (b ∷ bs) f = rw (ne_eqb b sep (f 0 (omega arith)), pieces_one sep bs (λ k h. f (suc k) (omega arith)))
 
 -- a separator ends the first piece and begins the next
-pub pieces_more : (sep : ℕ) (s : List ℕ) → up_to sep s < length s → pieces sep s ≡ take (up_to sep s) s ∷ pieces sep (drop (up_to sep s + 1) s)
-unfolding up_to pieces before
-pieces_more sep [] h = absurd (omega arith)
-pieces_more sep (b ∷ bs) h = step (pieces_more sep bs) (decide (eqb b sep)) h
+pieces_more : (sep : ℕ) (s : List ℕ) (i : ℕ) → i < length s → get_or s i 0 ≡ sep → ((k : ℕ) → k < i → get_or s k 0 ≢ sep) → pieces sep s ≡ take i s ∷ pieces sep (drop (suc i) s)
+unfolding pieces before
+pieces_more sep [] i h e f = absurd (omega arith)
+pieces_more sep (b ∷ bs) zero h e f = rw (eq-eqb b sep e)
+pieces_more sep (b ∷ bs) (suc i) h e f = rw (ne_eqb b sep (f 0 (omega arith)), pieces_more sep bs i (omega arith) e (λ k l. f (suc k) (omega arith)))
+
+pub split_at : {sep : ℕ} {s : List ℕ} {i : ℕ} → IsFirst sep s i → SplitAt sep s (take i s) (drop (i + 1) s)
+split_at {sep} {s} {i} x = record {
+  pieces = rw (add-one i) (pieces_more sep s i x.within x.here x.not-before);
+  shorter = omega (arith, x.within, length-drop (i + 1) s);
+}
+
+-- one piece, or more
+pub pieces_cases : (sep : ℕ) (s : List ℕ) → (pieces sep s ≡ s ∷ []) ⊎ ((t : List ℕ) × ((d : List ℕ) × (pieces sep s ≡ t ∷ pieces sep d)))
+unfolding pieces before
+pieces_cases sep [] = inl refl
+pieces_cases sep (b ∷ bs) = step (pieces_cases sep bs) (decide (eqb b sep))
   where
-    step : (up_to sep bs < length bs → pieces sep bs ≡ take (up_to sep bs) bs ∷ pieces sep (drop (up_to sep bs + 1) bs)) → (eqb b sep ≡ true) ⊎ (eqb b sep ≡ false) → cond (eqb b sep) 0 (suc (up_to sep bs)) < suc (length bs)
-        → cond (eqb b sep) ([] ∷ pieces sep bs) (before b (pieces sep bs)) ≡ take (cond (eqb b sep) 0 (suc (up_to sep bs))) (b ∷ bs) ∷ pieces sep (drop (cond (eqb b sep) 0 (suc (up_to sep bs)) + 1) (b ∷ bs))
-    step below (inl t) x = rw t
-    step below (inr t) x = let z : suc (up_to sep bs) < suc (length bs) = rw t at x in rw (t, below (omega (arith, z)), add-one (suc (up_to sep bs)), add-one (up_to sep bs))
+    step : (pieces sep bs ≡ bs ∷ []) ⊎ ((t : List ℕ) × ((d : List ℕ) × (pieces sep bs ≡ t ∷ pieces sep d))) → (eqb b sep ≡ true) ⊎ (eqb b sep ≡ false)
+        → (cond (eqb b sep) ([] ∷ pieces sep bs) (before b (pieces sep bs)) ≡ (b ∷ bs) ∷ []) ⊎ ((t : List ℕ) × ((d : List ℕ) × (cond (eqb b sep) ([] ∷ pieces sep bs) (before b (pieces sep bs)) ≡ t ∷ pieces sep d)))
+    step x (inl t) = inr ([], (bs, rw t))
+    step (inl e) (inr t) = inl (rw (t, e))
+    step (inr (u, (d, e))) (inr t) = inr (b ∷ u, (d, rw (t, e)))
 
 -- there is always one
 pub pieces-length : (sep : ℕ) (s : List ℕ) → 1 ≤ length (pieces sep s)
-pieces-length sep s = go (decide (ltb (up_to sep s) (length s)))
+pieces-length sep s = go (pieces_cases sep s)
   where
-    go : (ltb (up_to sep s) (length s) ≡ true) ⊎ (ltb (up_to sep s) (length s) ≡ false) → 1 ≤ length (pieces sep s)
-    go (inl t) = rw (pieces_more sep s (ltb-true (up_to sep s) (length s) t)) (omega arith)
-    go (inr t) = rw (pieces_one sep s (omega (arith, up_to-le sep s, ltb-false (up_to sep s) (length s) t))) (omega arith)
+    go : (pieces sep s ≡ s ∷ []) ⊎ ((t : List ℕ) × ((d : List ℕ) × (pieces sep s ≡ t ∷ pieces sep d))) → 1 ≤ length (pieces sep s)
+    go (inl e) = rw e (omega arith)
+    go (inr (t, (d, e))) = rw e (omega arith)
 
 pub pieces_some : (sep : ℕ) (s : List ℕ) → is_none (pieces sep s) ≡ false
-pieces_some sep s = go (pieces sep s) (pieces-length sep s)
+unfolding is_none
+pieces_some sep s = go (pieces_cases sep s)
   where
-    go : (ls : List (List ℕ)) → 1 ≤ length ls → is_none ls ≡ false
-    go [] h = absurd (omega arith)
-    go (l ∷ ls) h = unfold is_none in refl
+    go : (pieces sep s ≡ s ∷ []) ⊎ ((t : List ℕ) × ((d : List ℕ) × (pieces sep s ≡ t ∷ pieces sep d))) → is_none (pieces sep s) ≡ false
+    go (inl e) = rw e
+    go (inr (t, (d, e))) = rw e

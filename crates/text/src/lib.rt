@@ -1,238 +1,186 @@
 // The program's input: n on the first line, then a line for each change.
 #![tactic(auto)]
 
-ghost use Rattle.std.specs.Prelude.{◌≡◌, [], ◌∷◌, ◌+◌, ◌*◌, ◌≤◌, ◌<◌, length, drop};
+ghost use Rattle.std.specs.Prelude.{◌≡◌, [], ◌∷◌, ◌+◌, ◌*◌, ◌≤◌, ◌<◌, ◌≢◌, EachIndex, MatchOption, false, length, slice_index, true};
+ghost use Rattle.std.specs.Int.{from_bool};
 ghost use Rattle.model.specs.Graph.{max_updates};
 ghost use Rattle.model.specs.Updates.{update_numbers};
-ghost use Rattle.model.specs.Program.{edge_line, input_of, line_of, lines_from, mark_line, pieces};
+ghost use Rattle.model.specs.Program.{edge_line, first_line, input_of, line_of, lines_from, mark_line, pieces, refused_at};
 ghost use Rattle.buffers.specs.Wrote.{Wrote};
-ghost use Rattle.text.specs.Grammar.{ParsedAs, digit_of, edge_change, line_in, mark_change, number_of, shape, up_to};
+ghost use Rattle.text.specs.Grammar.{IsFirst, ParsedAs, SplitAt, is_digit, line_in, number_of, numbers_of, shape};
 
 use rows::Graph;
 
 // Longer input is refused.
 pub const INPUT_BYTES: usize = 65536;
 
-// A number of the input, or none.
-#[derive(Clone, Copy)]
-pub enum Number {
-    Value(u16),
-    NoNumber,
+// Input that is refused, at a line; at line 0 for its length.
+#[derive(Clone, Copy, Debug, PartialEq, Eq)]
+pub struct Refused {
+    pub line: usize,
 }
 
-// A line after the first: a change, or an ill-formed line.
+// Input that is accepted: n, and how many changes the batch holds.
 #[derive(Clone, Copy)]
-pub enum Line {
-    Change {
-        kind: u16,
-        u: u16,
-        v: u16,
-        wanted: u16,
-    },
-    NoChange,
+pub struct Accepted {
+    pub n: usize,
+    pub count: usize,
 }
 
-// The whole input: refused at a line, or n and as many changes.
+// What a line after the first asks for.
 #[derive(Clone, Copy)]
-pub enum Parsed {
-    Refused { line: usize },
-    Accepted { n: usize, count: usize },
+enum Change {
+    Edge { u: u16, v: u16, wanted: bool },
+    Mark { u: u16, wanted: bool },
 }
 
-// How many bytes stand before the first `separator`; all of them if there is none.
-fn find(s: &[u8], separator: u8) -> usize
-    ensures { result ≡ up_to separator s.now }
-{
-    let mut i = 0;
-    while i < s.len() {
-        if s[i] == separator {
-            return i;
+impl Change {
+    // As the numbers of an update.
+    fn numbers(self) -> [u16; Graph::UPDATE_NUMBERS]
+        ensures { result ≡ numbers_of self }
+    {
+        match self {
+            Change::Edge { u, v, wanted } => [1, u, v, u16::from(wanted)],
+            Change::Mark { u, wanted } => [2, u, 0, u16::from(wanted)],
         }
-        i += 1;
     }
-    i
 }
 
-// A digit's worth; 10 of any other byte.
-fn digit(b: u8) -> usize
-    ensures { result ≡ digit_of b }
+// Where the first separator stands.
+fn find(s: &[u8], separator: u8) -> Option<usize>
+    ensures { MatchOption result (EachIndex s.now (λ k. slice_index s.now k ≢ separator)) (λ i. IsFirst separator s.now i) }
 {
-    if b < b'0' {
-        return 10;
+    s.iter().position(|b| *b == separator)
+}
+
+// What stands before the first separator and what after it, if there is one.
+fn split_once(s: &[u8], separator: u8) -> Option<(&[u8], &[u8])>
+    ensures { MatchOption result (pieces separator s.now ≡ s.now ∷ []) (λ p. SplitAt separator s.now p.0.now p.1.now) }
+{
+    let end = find(s, separator)?;
+    Some((&s[..end], &s[end + 1..]))
+}
+
+// A digit's worth.
+fn digit(b: u8) -> Option<u16>
+    ensures { MatchOption result (is_digit b ≡ false) (λ d. (is_digit b ≡ true) × (d + 0x30 ≡ b)) }
+{
+    match b {
+        b'0'..=b'9' => Some(u16::from(b - b'0')),
+        _ => None,
     }
-    if b > b'9' {
-        return 10;
-    }
-    (b - b'0') as usize
 }
 
 // Whether s has 1 to 5 bytes and no zero leads more.
 fn has_shape(s: &[u8]) -> bool
     ensures { result ≡ shape s.now }
 {
-    if s.len() == 0 {
-        return false;
-    }
-    if s.len() > 5 {
-        return false;
-    }
-    if s.len() == 1 {
-        return true;
-    }
-    s[0] != b'0'
+    matches!(s.len(), 1..=5) && (s.len() == 1 || s[0] != b'0')
 }
 
 // The number that the whole of s is: 1 to 5 digits, no leading zero, at most 65,535.
-fn read_number(s: &[u8]) -> Number
+fn read_number(s: &[u8]) -> Option<u16>
     ensures { result ≡ number_of s.now }
 {
     if !has_shape(s) {
-        return Number::NoNumber;
+        return None;
     }
-    let mut value = 0;
-    let mut i = 0;
-    while i < s.len() {
-        let d = digit(s[i]);
-        if d > 9 {
-            return Number::NoNumber;
-        }
-        value = 10 * value + d;
-        if value > 65535 {
-            return Number::NoNumber;
-        }
-        i += 1;
+    let mut value = 0u16;
+    for b in s {
+        let d = digit(*b)?;
+        value = value.checked_mul(10)?.checked_add(d)?;
     }
-    Number::Value(value as u16)
-}
-
-// An edge wanted or not, if both numbers are there.
-fn edge_change(wanted: u16, first: Number, second: Number) -> Line
-    ensures { result ≡ edge_change wanted first second }
-{
-    let Number::Value(u) = first else {
-        return Line::NoChange;
-    };
-    let Number::Value(v) = second else {
-        return Line::NoChange;
-    };
-    Line::Change {
-        kind: 1,
-        u,
-        v,
-        wanted,
-    }
-}
-
-// A mark wanted or not, if its node's number is there.
-fn mark_change(wanted: u16, first: Number) -> Line
-    ensures { result ≡ mark_change wanted first }
-{
-    let Number::Value(u) = first else {
-        return Line::NoChange;
-    };
-    Line::Change {
-        kind: 2,
-        u,
-        v: 0,
-        wanted,
-    }
+    Some(value)
 }
 
 // What follows the letter and its space in a line about an edge: two numbers.
-fn edge_line(wanted: u16, s: &[u8]) -> Line
-    ensures { line_in result ≡ edge_line wanted ([] ∷ pieces 0x20 s.now) }
+fn edge_line(wanted: bool, s: &[u8]) -> Option<Change>
+    ensures { line_in result ≡ edge_line (from_bool wanted) ([] ∷ pieces 0x20 s.now) }
 {
-    let end = find(s, b' ');
-    if end == s.len() {
-        return Line::NoChange;
-    }
-    edge_change(wanted, read_number(&s[..end]), read_number(&s[end + 1..]))
+    let (first, second) = split_once(s, b' ')?;
+    let u = read_number(first)?;
+    let v = read_number(second)?;
+    Some(Change::Edge { u, v, wanted })
 }
 
 // What follows the letter and its space in a line about a mark: one number.
-fn mark_line(wanted: u16, s: &[u8]) -> Line
-    ensures { line_in result ≡ mark_line wanted ([] ∷ pieces 0x20 s.now) }
+fn mark_line(wanted: bool, s: &[u8]) -> Option<Change>
+    ensures { line_in result ≡ mark_line (from_bool wanted) ([] ∷ pieces 0x20 s.now) }
 {
-    mark_change(wanted, read_number(s))
+    let u = read_number(s)?;
+    Some(Change::Mark { u, wanted })
 }
 
 // A line after the first, without its line feed.
-fn read_line(s: &[u8]) -> Line
+fn read_line(s: &[u8]) -> Option<Change>
     ensures { line_in result ≡ line_of s.now }
 {
-    if find(s, b' ') != 1 {
-        return Line::NoChange;
+    let (first, rest) = split_once(s, b' ')?;
+    if first.len() != 1 {
+        return None;
     }
-    if s.len() == 1 {
-        return Line::NoChange;
-    }
-    let letter = s[0];
-    match letter {
-        b't' => edge_line(1, &s[2..]),
-        b'u' => edge_line(0, &s[2..]),
-        b'w' => mark_line(1, &s[2..]),
-        b'o' => mark_line(0, &s[2..]),
-        _ => Line::NoChange,
+    match first[0] {
+        b't' => edge_line(true, rest),
+        b'u' => edge_line(false, rest),
+        b'w' => mark_line(true, rest),
+        b'o' => mark_line(false, rest),
+        _ => None,
     }
 }
 
 // A change into the batch, after `count` others.
-fn put_change(batch: &mut [u16], count: usize, kind: u16, u: u16, v: u16, wanted: u16)
+fn put_change(batch: &mut [u16], count: usize, change: Change)
     requires { (count < max_updates) × (update_numbers * max_updates ≤ length batch.old) }
-    ensures { Wrote batch.old (update_numbers * count) (kind ∷ u ∷ v ∷ wanted ∷ []) batch.new (update_numbers * (count + 1)) }
+    ensures { Wrote batch.old (update_numbers * count) (numbers_of change) batch.new (update_numbers * (count + 1)) }
 {
     let at = Graph::UPDATE_NUMBERS * count;
-    batch[at] = kind;
-    batch[at + 1] = u;
-    batch[at + 2] = v;
-    batch[at + 3] = wanted;
+    batch[at..at + Graph::UPDATE_NUMBERS].copy_from_slice(&change.numbers());
 }
 
-// The lines after the first, from the place `from` on.
-fn read_lines(input: &[u8], from: usize, n: usize, batch: &mut [u16]) -> Parsed
-    requires { (from ≤ length input.now) × (update_numbers * max_updates ≤ length batch.old) }
-    ensures { ParsedAs (lines_from n 2 (pieces 0x0A (drop from input.now))) batch.old batch.new result }
+// The lines after the first.
+fn read_lines(lines: &[u8], n: usize, batch: &mut [u16]) -> Result<Accepted, Refused>
+    requires { update_numbers * max_updates ≤ length batch.old }
+    ensures { ParsedAs (lines_from n 2 (pieces 0x0A lines.now)) batch.old batch.new result }
 {
-    let mut at = from;
+    let mut rest = lines;
     let mut count = 0;
-    while at < input.len() {
-        let end = at + find(&input[at..], b'\n');
-        if end == input.len() {
-            return Parsed::Refused { line: count + 2 };
-        }
+    while let Some((line, after)) = split_once(rest, b'\n') {
+        let refused = Refused { line: count + 2 };
         if count == Graph::UPDATES {
-            return Parsed::Refused { line: count + 2 };
+            return Err(refused);
         }
-        let line = read_line(&input[at..end]);
-        let Line::Change { kind, u, v, wanted } = line else {
-            return Parsed::Refused { line: count + 2 };
-        };
-        put_change(batch, count, kind, u, v, wanted);
+        let change = read_line(line).ok_or(refused)?;
+        put_change(batch, count, change);
         count += 1;
-        at = end + 1;
+        rest = after;
     }
-    Parsed::Accepted { n, count }
+    if !rest.is_empty() {
+        return Err(Refused { line: count + 2 });
+    }
+    Ok(Accepted { n, count })
+}
+
+// The first line's number, at most 512, and the lines after it.
+fn read_first(input: &[u8]) -> Option<(usize, &[u8])>
+    ensures { MatchOption result (first_line (pieces 0x0A input.now) ≡ refused_at 1) (λ p. first_line (pieces 0x0A input.now) ≡ lines_from p.0 2 (pieces 0x0A p.1.now)) }
+{
+    let (first, lines) = split_once(input, b'\n')?;
+    let n = usize::from(read_number(first)?);
+    if n > Graph::NODES {
+        return None;
+    }
+    Some((n, lines))
 }
 
 // The program's whole input. Its changes go to the batch, four numbers for each, which has room for 4,096 of them.
-pub fn parse(input: &[u8], batch: &mut [u16]) -> Parsed
+// The batch stays lent numbers with a count beside them: memory is fixed.
+pub fn parse(input: &[u8], batch: &mut [u16]) -> Result<Accepted, Refused>
     requires { update_numbers * max_updates ≤ length batch.old }
     ensures { ParsedAs (input_of input.now) batch.old batch.new result }
 {
     if input.len() > INPUT_BYTES {
-        return Parsed::Refused { line: 0 };
+        return Err(Refused { line: 0 });
     }
-    let end = find(input, b'\n');
-    if end == input.len() {
-        return Parsed::Refused { line: 1 };
-    }
-    let first = read_number(&input[..end]);
-    let Number::Value(value) = first else {
-        return Parsed::Refused { line: 1 };
-    };
-    let n = value as usize;
-    if n > Graph::NODES {
-        return Parsed::Refused { line: 1 };
-    }
-    read_lines(input, end + 1, n, batch)
+    let (n, lines) = read_first(input).ok_or(Refused { line: 1 })?;
+    read_lines(lines, n, batch)
 }

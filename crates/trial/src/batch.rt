@@ -1,13 +1,16 @@
 // Updates put at the end of the batch; each function gives back how many numbers the batch has then.
-use crate::script::small;
+use crate::draws;
+use crate::script::{Line, small};
 
 // One number, if there is room.
 fn push(batch: &mut [u16], count: usize, x: u64) -> usize {
-    if count >= batch.len() {
-        return count;
+    match batch.get_mut(count) {
+        Some(number) => {
+            *number = small(x);
+            count + 1
+        }
+        None => count,
     }
-    batch[count] = small(x);
-    count + 1
 }
 
 fn push_update(batch: &mut [u16], count: usize, kind: u64, u: u64, v: u64, wanted: u64) -> usize {
@@ -28,7 +31,7 @@ fn push_many(
     wanted: u64,
 ) -> usize {
     let mut c = count;
-    for i in 0..times {
+    for _ in 0..times {
         c = push_update(batch, c, kind, u, v, wanted);
     }
     c
@@ -72,8 +75,8 @@ fn push_block(
 fn push_random(batch: &mut [u16], count: usize, seed: u64, times: u64, span: u64) -> usize {
     let mut c = count;
     let mut x = seed;
-    for i in 0..times {
-        let d = crate::draws::update(x, span);
+    for _ in 0..times {
+        let d = draws::update(x, span);
         x = d.next;
         c = push_update(batch, c, d.kind, d.u, d.v, d.wanted);
     }
@@ -81,13 +84,14 @@ fn push_random(batch: &mut [u16], count: usize, seed: u64, times: u64, span: u64
 }
 
 // Lines that change the batch, and apply, which empties it: how many numbers it has then.
-pub fn execute(command: u8, line: &[u64; 7], batch: &mut [u16], count: usize) -> usize {
-    match command {
-        b'u' => push_update(batch, count, line[1], line[2], line[3], line[4]),
-        b'e' => push(batch, count, line[1]),
-        b'm' => push_many(batch, count, line[1], line[2], line[3], line[4], line[5]),
-        b'b' => push_block(batch, count, line[1], line[2], line[3], line[4], line[5]),
-        b'r' => push_random(batch, count, line[1], line[2], line[3]),
+pub fn execute(line: &Line, batch: &mut [u16], count: usize) -> usize {
+    let [_, a, b, c, d, e] = line.numbers;
+    match line.command {
+        b'u' => push_update(batch, count, a, b, c, d),
+        b'e' => push(batch, count, a),
+        b'm' => push_many(batch, count, a, b, c, d, e),
+        b'b' => push_block(batch, count, a, b, c, d, e),
+        b'r' => push_random(batch, count, a, b, c),
         b'a' => 0,
         _ => count,
     }

@@ -14,10 +14,7 @@ fn step(x: u64) -> u64 {
 }
 
 fn draw(x: u64, below: u64) -> u64 {
-    if below == 0 {
-        return 0;
-    }
-    x / 65536 % below
+    (x / 65536).checked_rem(below).unwrap_or(0)
 }
 
 // A kind of update from a number below 10: 9 gives any number below 5.
@@ -32,10 +29,7 @@ fn kind_of(k: u64, any: u64) -> u64 {
 
 // A wanted mark: one in three hides, so that most nodes stay visible.
 fn mark_of(any: u64) -> u64 {
-    if any % 3 == 0 {
-        return 1;
-    }
-    0
+    u64::from(any % 3 == 0)
 }
 
 // What is wanted, from the same number: 9 gives any number below 4.
@@ -59,10 +53,7 @@ fn class_of(any: u64) -> u64 {
 
 // v, but mostly 0.
 fn seldom(any: u64, v: u64) -> u64 {
-    if any == 0 {
-        return v;
-    }
-    0
+    if any == 0 { v } else { 0 }
 }
 
 // The third number of an update, from the same number: the second node of an edge, a class, else mostly 0.

@@ -1,25 +1,15 @@
 -- `text::edge_line` meets its contract.
-use mathlib.Core.Path.{sym}
-use native.Mathlib.Omega.{arith}
-use lib.Seq.{length-take-le}
-use Rattle.text.specs.LineLaws.{edge_change-told, edge_short}
-use Rattle.text.specs.PieceLaws.{up_to-le}
+use Rattle.text.specs.LineLaws.{edge_both, edge_first, edge_second, edge_short}
 use Rattle.text.proofs.edge_line.Goals as goal
 
-pub returns-then-end-s : goal.returns-then-end-s
-returns-then-end-s c = edge_short _ _ c.args.s.now c.find-end.ensures c.if-end-s.true
+pub returns-in_err-first : goal.returns-in_err-first
+returns-in_err-first c = rw c.from_residual.ensures (edge_short _ _ c.in_err-first.ensures)
 
-pub slice_bounds-read_number-end : goal.slice_bounds-read_number-end
-slice_bounds-read_number-end c = sym (length-take-le c.find-end.result c.args.s.now (omega (arith, c.find-end.ensures, up_to-le 0x20 c.args.s.now)))
+pub returns-in_err-u : goal.returns-in_err-u
+returns-in_err-u c = rw c.from_residual-in_err-u.ensures (edge_first _ c.in_ok-first.ensures c.in_err-u.ensures)
 
-pub overflow_add-end : goal.overflow_add-end
-overflow_add-end c = omega (arith, c.find-end.ensures, up_to-le 0x20 c.args.s.now)
-
-pub slice_bounds-read_number-count : goal.slice_bounds-read_number-count
-slice_bounds-read_number-count c = omega (arith, c.find-end.ensures, up_to-le 0x20 c.args.s.now)
-
-pub slice_bounds-read_number-start : goal.slice_bounds-read_number-start
-slice_bounds-read_number-start c = omega (arith, c.find-end.ensures, up_to-le 0x20 c.args.s.now)
+pub returns-in_err-v : goal.returns-in_err-v
+returns-in_err-v c = rw c.from_residual-in_err-v.ensures (edge_second _ c.in_ok-first.ensures _ c.in_ok-u.ensures c.in_err-v.ensures)
 
 pub returns : goal.returns
-returns c = edge_change-told _ _ c.args.s.now c.find-end.ensures c.if-end-s.false c.read_number.ensures c.read_number-2.ensures c.edge_change.ensures
+returns c = edge_both _ c.in_ok-first.ensures _ _ c.in_ok-u.ensures c.in_ok-v.ensures

@@ -1,15 +1,18 @@
 -- `text::has_shape` meets its contract.
-use Rattle.text.specs.NumberLaws.{shape_long, shape_more, shape_none, shape_one}
+use Rattle.text.specs.Grammar.{shape}
+use Rattle.text.specs.NumberLaws.{head_is}
+use Rattle.std.proofs.lemmas.Grind.{common_steps}
+use Rattle.std.proofs.Common.{arith}
 use Rattle.text.proofs.has_shape.Goals as goal
 
-pub returns-then-s-eq0 : goal.returns-then-s-eq0
-returns-then-s-eq0 c = shape_none c.args.s.now c.if-s-eq0.true
-
-pub returns-then-s-gt5 : goal.returns-then-s-gt5
-returns-then-s-gt5 c = shape_long c.args.s.now c.if-s-gt5.true
-
 pub returns-then-s-eq1 : goal.returns-then-s-eq1
-returns-then-s-eq1 c = shape_one c.args.s.now c.if-s-eq1.true
+unfolding shape
+returns-then-s-eq1 c = grind (arith, common_steps, head_is)
 
-pub returns : goal.returns
-returns c = shape_more c.args.s.now c.if-s-eq0.false c.if-s-gt5.false c.if-s-eq1.false
+pub returns-else-s-eq1 : goal.returns-else-s-eq1
+unfolding shape
+returns-else-s-eq1 c = grind (arith, common_steps, head_is)
+
+pub returns-else-matches : goal.returns-else-matches
+unfolding shape
+returns-else-matches c = grind (arith, common_steps, head_is)

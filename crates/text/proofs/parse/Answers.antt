@@ -1,31 +1,19 @@
 -- `text::parse` meets its contract.
-use mathlib.Core.Path.{sym}
-use native.Mathlib.Omega.{arith}
-use lib.Seq.{length-take-le}
-use Rattle.text.specs.ParseLaws.{first_ill, first_large, first_long, first_open, first_then}
-use Rattle.text.specs.PieceLaws.{up_to-le}
+use Rattle.std.proofs.Common.{arith, Some, ◌≡◌}
+use Rattle.std.proofs.lemmas.Result.{err_from_is_err_and}
+use Rattle.text.specs.ParseLaws.{by_lines, input_long, input_refused, ok_or-err}
 use Rattle.text.proofs.parse.Goals as goal
 
 pub returns-then-input-gt-INPUT_BYTES : goal.returns-then-input-gt-INPUT_BYTES
-returns-then-input-gt-INPUT_BYTES c = first_long c.args.input.now _ c.if-input-gt-INPUT_BYTES.true
+returns-then-input-gt-INPUT_BYTES c = input_long _ _ c.if-input-gt-INPUT_BYTES.true
 
-pub returns-then-end-input : goal.returns-then-end-input
-returns-then-end-input c = first_open c.args.input.now c.if-input-gt-INPUT_BYTES.false _ _ c.find-end.ensures c.if-end-input.true
-
-pub slice_bounds-read_number-end : goal.slice_bounds-read_number-end
-slice_bounds-read_number-end c = sym (length-take-le c.find-end.result c.args.input.now (omega (arith, c.find-end.ensures, up_to-le 0x0A c.args.input.now)))
-
-pub returns-in_default : goal.returns-in_default
-returns-in_default c = first_ill c.args.input.now c.if-input-gt-INPUT_BYTES.false _ _ c.find-end.ensures c.if-end-input.false c.read_number-first.ensures c.in_default.is
-
-pub returns-then-n-gt-NODES : goal.returns-then-n-gt-NODES
-returns-then-n-gt-NODES c = first_large c.args.input.now c.if-input-gt-INPUT_BYTES.false _ _ _ c.find-end.ensures c.if-end-input.false c.read_number-first.ensures c.in-Value.is c.if-n-gt-NODES.true
-
-pub overflow_add-end : goal.overflow_add-end
-overflow_add-end c = omega (arith, c.find-end.ensures, up_to-le 0x0A c.args.input.now, c.if-input-gt-INPUT_BYTES.false)
-
-pub read_lines-requires : goal.read_lines-requires
-read_lines-requires c = omega (arith, c.find-end.ensures, up_to-le 0x0A c.args.input.now, c.if-end-input.false)
+pub returns-in_err-n : goal.returns-in_err-n
+returns-in_err-n c =
+    let p = err_from_is_err_and c.from_residual.result c.from_residual.ensures.1 in
+    let none = ok_or-err c.read_first.result c.ok_or.ensures.value c.in_err-n.was in
+    rw (p.1, p.2, none.1) (input_refused _ _ c.if-input-gt-INPUT_BYTES.false (rw none.0 at c.read_first.ensures))
 
 pub returns : goal.returns
-returns c = first_then c.args.input.now c.if-input-gt-INPUT_BYTES.false _ _ c.find-end.ensures c.if-end-input.false c.read_number-first.ensures c.in-Value.is c.if-n-gt-NODES.false c.read_lines.ensures
+returns c =
+    let some : c.read_first.result ≡ Some (c.in_ok-n.n, c.in_ok-n.lines) = grind arith in
+    rw (← (by_lines c.args.input.now c.if-input-gt-INPUT_BYTES.false), rw some at c.read_first.ensures) c.read_lines.ensures

@@ -1,17 +1,7 @@
 -- `text::put_change` meets its contract.
-use native.Mathlib.Omega.{arith}
-use lib.ListN.{length-set}
-use Rattle.text.specs.ParseLaws.{change_wrote}
+use Rattle.std.proofs.Common.{arith, ◌∙◌}
+use Rattle.text.specs.ParseLaws.{wrote_part}
 use Rattle.text.proofs.put_change.Goals as goal
 
-pub bounds-batch-at-2 : goal.bounds-batch-at-2
-bounds-batch-at-2 c = simp length-set (omega arith)
-
-pub bounds-batch-at-3 : goal.bounds-batch-at-3
-bounds-batch-at-3 c = simp length-set (omega arith)
-
-pub bounds-batch-at-4 : goal.bounds-batch-at-4
-bounds-batch-at-4 c = simp length-set (omega arith)
-
 pub returns : goal.returns
-returns c = change_wrote _ _ _ _ _ _
+returns c = wrote_part _ _ (c.copy_from_slice.ensures.after ∙ c.numbers.ensures) (omega arith) (omega arith) (omega arith)
