@@ -16,7 +16,7 @@ use Rattle.model.specs.Steps.{Stepped}
 use Rattle.rings.specs.GraphLaws.{mark_nodes}
 use Rattle.rows.specs.BitLaws.{bool_number}
 use Rattle.rows.specs.Rows.{lent}
-use Rattle.rows.specs.PairLaws.{pair_ends}
+use Rattle.answers.specs.PairLaws.{pair_ends}
 use Rattle.groups.specs.Groups.{Asked, change}
 use Rattle.updates.specs.Batch.{Updated, held_reasons, is_marked}
 use Rattle.tables.specs.Lent.{Held}

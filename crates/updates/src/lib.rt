@@ -8,7 +8,7 @@ ghost use Rattle.tables.specs.Lent.{Held};
 ghost use Rattle.updates.specs.Batch.{BatchApplied};
 
 use rows::Graph;
-use updating::update;
+use updating::{answer, apply};
 
 mod updating;
 
@@ -46,6 +46,6 @@ pub fn run(
         let a = Graph::UPDATE_NUMBERS * i;
         let u = rows::wide(batch[a + 1]);
         let v = rows::wide(batch[a + 2]);
-        answers[i] = update(n, edges, nodes, keys, batch[a], u, v, batch[a + 3]);
+        answers[i] = answer(apply(n, edges, nodes, keys, batch[a], u, v, batch[a + 3]));
     }
 }

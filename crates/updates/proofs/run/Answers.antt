@@ -11,8 +11,8 @@ loop-i-init c =
     let whole = count-whole _ _ c.count-i-end.ensures c.requires.update_numbers_len.0 in
     (underway_start c.requires.held, omega arith, whole, rw c.count-i-end.ensures c.requires.update_numbers_len.1)
 
-pub update-requires : goal.update-requires
-update-requires c = c.loop-i.invariant.0.held
+pub apply-requires : goal.apply-requires
+apply-requires c = c.loop-i.invariant.0.held
 
 pub offset_bounds-answers-i : goal.offset_bounds-answers-i
 offset_bounds-answers-i c =
@@ -24,7 +24,7 @@ bounds-answers-i c =
 
 pub loop-i-preserved : goal.loop-i-preserved
 loop-i-preserved c =
-    (underway_next c.loop-i.invariant.0 (omega (arith, c.loop-i.invariant.2, c.loop-i-test.true)) (omega (arith, c.loop-i.invariant.3, c.loop-i-test.true)) c.wide-u.ensures c.wide-v.ensures c.update.ensures (to_z-of_z {w = w16} (record { sfits = c.update.type_inv })), omega (arith, c.loop-i-test.true), c.loop-i.invariant.2, c.loop-i.invariant.3)
+    (underway_next c.loop-i.invariant.0 (omega (arith, c.loop-i.invariant.2, c.loop-i-test.true)) (omega (arith, c.loop-i.invariant.3, c.loop-i-test.true)) c.wide-u.ensures c.wide-v.ensures c.apply.ensures (to_z-of_z {w = w16} (record { sfits = c.answer.type_inv }) ∙ c.answer.ensures), omega (arith, c.loop-i-test.true), c.loop-i.invariant.2, c.loop-i.invariant.3)
 
 pub shape_of-edges : goal.shape_of-edges
 shape_of-edges c = (held_sized c.loop-i.invariant.0.held).edges ∙ sym (held_sized c.requires.held).edges
