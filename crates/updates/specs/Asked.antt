@@ -1,5 +1,5 @@
 -- What the numbers of an update ask for.
-use Rattle.std.specs.Prelude.{◌≡◌, ◌≢◌, ℕ, ◌≤◌, ◌<◌, ℤ, pos, Result, Ok, Err}
+use Rattle.std.specs.Prelude.{List, get_or, ◌≡◌, ◌≢◌, ℕ, ◌≤◌, ◌<◌, ℤ, pos, Result, Ok, Err}
 use Rattle.model.specs.Graph.{max_classes}
 use Rattle.model.specs.Tables.{Tables, graph_of}
 use Rattle.model.specs.Updates.{refusal}
@@ -9,6 +9,10 @@ use Rattle.answers.specs.declared.Refusal.{Refusal}
 use Rattle.answers.specs.Numbers.{number}
 use Rattle.updates.specs.declared.updating.Update.{Update}
 use Rattle.updates.specs.declared.updating.Update.TheVariants.{Edge, Mark, Class}
+
+-- the update that four numbers are
+abbrev pub asked_by : List ℕ → model.Update
+asked_by xs = change (get_or xs 0 0) (get_or xs 1 0) (get_or xs 2 0) (get_or xs 3 0)
 
 -- the model's update
 abbrev pub change_of : Update → model.Update

@@ -8,7 +8,7 @@ ghost use Rattle.answers.specs.Numbers.{code};
 ghost use Rattle.rows.specs.Rows.{lent};
 ghost use Rattle.groups.specs.Groups.{change};
 ghost use Rattle.tables.specs.Lent.{Held};
-ghost use Rattle.updates.specs.Asked.{Refused, Told, Within, answered, change_of};
+ghost use Rattle.updates.specs.Asked.{Refused, Told, Within, answered, asked_by, change_of};
 ghost use Rattle.updates.specs.Batch.{Updated, held_reasons, is_marked};
 
 use answers::{Refusal, check_pair};
@@ -71,27 +71,31 @@ fn check_new(wanted: u16, there: bool) -> Result<(), Refusal>
 }
 
 // Whether u is hidden.
-fn is_hidden(nodes: &[u16], u: usize) -> bool
-    requires { (u < max_nodes) × (node_numbers * u + node_numbers ≤ length nodes.now) }
-    ensures { result ≡ is_marked nodes.now u }
+#[tactic(auto, using(tables::specs::LentLaws::held_sized))]
+fn is_hidden(tables: &Tables<'_>, u: usize) -> bool
+    requires { u < tables.now.n }
+    ensures { result ≡ is_marked tables.now.nodes.now u }
 {
-    groups::number(nodes, u, groups::MARK) == 1
+    groups::number(tables.nodes, u, groups::MARK) == 1
 }
 
 // Whether the edge between u and v is frozen: one of them is hidden. Both marks are read, for one branch in place of two.
-fn is_frozen(nodes: &[u16], u: usize, v: usize) -> bool
-    requires { (u < max_nodes) × (v < max_nodes) × (node_numbers * u + node_numbers ≤ length nodes.now) × (node_numbers * v + node_numbers ≤ length nodes.now) }
-    ensures { result ≡ (is_marked nodes.now u || is_marked nodes.now v) }
+fn is_frozen(tables: &Tables<'_>, u: usize, v: usize) -> bool
+    requires { (u < tables.now.n) × (v < tables.now.n) }
+    ensures { result ≡ (is_marked tables.now.nodes.now u || is_marked tables.now.nodes.now v) }
 {
-    is_hidden(nodes, u) | is_hidden(nodes, v)
+    is_hidden(tables, u) | is_hidden(tables, v)
 }
 
 impl Update {
     // What four numbers ask for, or 13, 14, 15.
     #[tactic(auto, using(crate::specs::UpdateLaws::other_kind))]
-    fn new(n: usize, kind: u16, u: usize, v: usize, wanted: u16) -> Result<Update, Refusal>
-        ensures { MatchResult result (Told n (change kind u v wanted)) (Refused n (change kind u v wanted)) }
+    fn new(n: usize, numbers: [u16; Graph::UPDATE_NUMBERS]) -> Result<Update, Refusal>
+        ensures { MatchResult result (Told n (asked_by numbers)) (Refused n (asked_by numbers)) }
     {
+        let [kind, u, v, wanted] = numbers;
+        let u = rows::wide(u);
+        let v = rows::wide(v);
         match kind {
             1 => edge(n, u, v, wanted),
             2 => mark(n, u, v, wanted),
@@ -105,17 +109,16 @@ impl Update {
         requires { Within tables.now.n self }
         ensures { code result ≡ refusal (graph_of tables.now.n (lent tables.now.edges.now tables.now.nodes.now tables.now.keys.now)) (change_of self) }
     {
-        let nodes = tables.nodes;
         match self {
             Update::Edge { u, v, wanted } => {
-                if is_frozen(nodes, u, v) {
+                if is_frozen(tables, u, v) {
                     return Err(Refusal::Frozen);
                 }
                 check_new(wanted, rows::edge(tables.edges, u, v))
             }
-            Update::Mark { u, wanted } => check_new(wanted, is_hidden(nodes, u)),
+            Update::Mark { u, wanted } => check_new(wanted, is_hidden(tables, u)),
             Update::Class { u, class } => {
-                if groups::number(nodes, u, groups::CLASS) == class {
+                if groups::number(tables.nodes, u, groups::CLASS) == class {
                     return Err(Refusal::HeldAlready);
                 }
                 Ok(())
@@ -138,15 +141,12 @@ pub fn apply(
     edges: &mut [u64],
     nodes: &mut [u16],
     keys: &mut [u32],
-    kind: u16,
-    u: usize,
-    v: usize,
-    wanted: u16,
+    numbers: [u16; Graph::UPDATE_NUMBERS],
 ) -> Result<i16, Refusal>
     requires { Held n (lent edges.old nodes.old keys.old) }
-    ensures { Updated n (change kind u v wanted) (lent edges.old nodes.old keys.old) (lent edges.new nodes.new keys.new) (answered result) }
+    ensures { Updated n (asked_by numbers) (lent edges.old nodes.old keys.old) (lent edges.new nodes.new keys.new) (answered result) }
 {
-    let update = Update::new(n, kind, u, v, wanted)?;
+    let update = Update::new(n, numbers)?;
     update.check(&Tables {
         n,
         edges,

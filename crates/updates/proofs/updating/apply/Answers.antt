@@ -1,12 +1,11 @@
 -- `apply` meets its contract.
 use Rattle.std.proofs.Common.{◌≡◌, ℕ, ℤ, pos, refl, sym, ap, ◌∙◌, arith, subst, to_z-of_z, w16}
 use Rattle.std.proofs.lemmas.Result.{err_from_is_err_and}
-use Rattle.model.specs.Tables.{Tables, graph_of}
+use Rattle.model.specs.Tables.{Tables}
 use Rattle.model.specs.Updates.{Update, refusal}
 use Rattle.answers.specs.declared.Refusal.{Refusal}
 use Rattle.answers.specs.Numbers.{number}
 use Rattle.answers.specs.NumberLaws.{refused_not_0}
-use Rattle.rows.specs.Rows.{lent}
 use Rattle.tables.specs.LentLaws.{held_sized}
 use Rattle.updates.specs.Asked.{answered, change_of}
 use Rattle.updates.specs.Batch.{Updated}

@@ -1,6 +1,6 @@
 -- `class` meets its contract.
 use mathlib.Core.Logic.{⊎_elim}
-use Rattle.std.proofs.Common.{ℕ, ap, sym}
+use Rattle.std.proofs.Common.{ap, sym}
 use Rattle.groups.specs.Groups.{change}
 use Rattle.updates.specs.UpdateLaws.{class_more, class_u, class_wanted}
 use Rattle.updates.proofs.updating.class.Goals as goal

@@ -1,5 +1,5 @@
 -- `edge` meets its contract.
-use Rattle.std.proofs.Common.{refl, arith}
+use Rattle.std.proofs.Common.{refl}
 use Rattle.std.proofs.lemmas.Result.{err_from_is_err_and}
 use Rattle.answers.specs.NumberLaws.{refused_not_0}
 use Rattle.answers.specs.PairLaws.{pair_ends}
