@@ -1,7 +1,7 @@
 -- A batch, update by update.
-use Rattle.std.specs.Prelude.{◌≡◌, true, false, not, List, [], ◌∷◌, ◌++◌, ◌⊎◌, ℕ, suc, zero, ◌+◌, ◌*◌, ◌%◌, ◌≤◌, ◌<◌, eqb, ltb, leb, ℤ, length, get_or, set}
+use Rattle.std.specs.Prelude.{◌≡◌, true, false, not, List, [], ◌∷◌, ◌++◌, ◌⊎◌, ℕ, suc, zero, ◌+◌, ◌*◌, ◌%◌, ◌/◌, ◌≤◌, ◌<◌, eqb, ltb, leb, ℤ, length, get_or, set}
 use Rattle.std.proofs.Math.Path.{refl}
-use Rattle.std.proofs.Common.{sym, ap, ap₂, subst, ◌∙◌, append_assoc, inl, inr, length-set, take-append-drop, take-suc-set, drop-set-lt, eqb-true, eq-eqb, ne_eqb, leb-true, leb-false, le-ltb, lt-ltb}
+use Rattle.std.proofs.Common.{sym, ap, ap₂, subst, ◌∙◌, append_assoc, inl, inr, length-set, add-zero, drop-drop, get_or-drop, get_or-take, take-append-drop, take-suc-set, drop-set-lt, eqb-true, eq-eqb, ne_eqb, leb-true, leb-false, le-ltb, lt-ltb}
 use native.Mathlib.Omega.{arith}
 use Rattle.std.proofs.Math.ListN.{take, drop}
 use Rattle.std.proofs.lemmas.Bool.{not-false}
@@ -15,6 +15,8 @@ use Rattle.model.proofs.UpdateLaws.{answers_next, batch_next, proper_stepped, up
 use Rattle.groups.specs.ChangeLaws.{tables_read}
 use Rattle.groups.specs.Groups.{change}
 use Rattle.tables.specs.Lent.{Held}
+use Rattle.std.specs.Simd.{first_chunks}
+use Rattle.updates.specs.Asked.{asked_by}
 use Rattle.updates.specs.Batch.{Updated, rest, written, Underway}
 
 drop_all : (xs : List ℕ) (k : ℕ) → length xs ≤ k → drop k xs ≡ []
@@ -90,7 +92,32 @@ module _ {n : ℕ} {xs : List ℕ} {t₀ : Tables} {out₀ : List ℤ} {i : ℕ}
           plain : take i out ++ ([] ++ drop (i + 0) out) ≡ out
           plain = let e : i + 0 ≡ i = omega arith in rw e (take-append-drop i out)
 
+-- the numbers of update i, as the batch is cut in fours
+chunk_at : (xs : List ℕ) (m i : ℕ) → i < m → get_or (first_chunks update_numbers m xs) i [] ≡ take update_numbers (drop (update_numbers * i) xs)
+chunk_at xs zero i h = absurd (omega arith)
+chunk_at xs (suc m) zero h = refl
+chunk_at xs (suc m) (suc i) h =
+    let e : update_numbers + update_numbers * i ≡ update_numbers * suc i = omega arith in
+    chunk_at (drop update_numbers xs) m i (omega arith) ∙ ap (take update_numbers) (drop-drop (update_numbers * i) update_numbers xs ∙ ap (λ (k : ℕ). drop k xs) e)
+
+chunk_number : (xs : List ℕ) (i k : ℕ) → k < update_numbers → get_or (take update_numbers (drop (update_numbers * i) xs)) k 0 ≡ get_or xs (update_numbers * i + k) 0
+chunk_number xs i k h = get_or-take update_numbers (drop (update_numbers * i) xs) k 0 h ∙ get_or-drop (update_numbers * i) xs k 0
+
+module _ {n : ℕ} {xs : List ℕ} {t₀ : Tables} {out₀ : List ℤ} {i : ℕ} {t : Tables} {out : List ℤ} (w : Underway n xs t₀ out₀ i t out) where
+  pub underway_chunk : {cs : List (List ℕ)} (m : ℕ) {t₁ : Tables} {a b : ℤ} → cs ≡ first_chunks update_numbers m xs → length cs ≡ m → update_numbers * length cs ≡ length xs → i < length cs → i < length out₀ → Updated n (asked_by (get_or cs i [])) t t₁ a → b ≡ a
+      → Underway n xs t₀ out₀ (i + 1) t₁ (set out i b)
+  underway_chunk {cs} m {t₁} {a} c size whole h l u e =
+      underway_next w (omega (arith, whole)) l refl refl
+      (rw (ap (λ (ys : List (List ℕ)). get_or ys i []) c ∙ chunk_at xs m i (omega (arith, size, h)), chunk_number xs i 0 (omega arith), chunk_number xs i 1 (omega arith), chunk_number xs i 2 (omega arith), chunk_number xs i 3 (omega arith), add-zero (update_numbers * i)) at u) e
+
 -- a batch of whole updates
+pub chunks-whole : (xs : List ℕ) (k : ℕ) → k ≡ length xs / update_numbers → length xs % update_numbers ≡ 0 → update_numbers * k ≡ length xs
+chunks-whole xs k e h = omega (arith, e, h)
+
+pub chunks_fit : (xs : List ℕ) (k : ℕ) {m : ℕ} → k ≡ length xs / update_numbers → update_count xs ≤ m → k ≤ m
+unfolding update_count
+chunks_fit xs k e h = omega (arith, e, h)
+
 pub count-whole : (xs : List ℕ) (k : ℕ) → k ≡ update_count xs → length xs % update_numbers ≡ 0 → update_numbers * k ≡ length xs
 unfolding update_count
 count-whole xs k e h = omega arith

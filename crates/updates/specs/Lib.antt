@@ -1,3 +1,4 @@
+pub mod Asked
 pub mod UpdateLaws
 pub mod Batch
 pub mod BatchLaws

@@ -8,7 +8,7 @@ ghost use Rattle.tables.specs.Lent.{Held};
 ghost use Rattle.updates.specs.Batch.{BatchApplied};
 
 use rows::Graph;
-use updating::update;
+use updating::{answer, apply};
 
 mod updating;
 
@@ -42,10 +42,8 @@ pub fn run(
     requires update_numbers_len { (length batch.now % update_numbers ≡ 0) × (update_count batch.now ≤ length answers.old) }
     ensures { BatchApplied n batch.now (lent edges.old nodes.old keys.old) answers.old (lent edges.new nodes.new keys.new) answers.new }
 {
-    for i in 0..count(batch) {
-        let a = Graph::UPDATE_NUMBERS * i;
-        let u = rows::wide(batch[a + 1]);
-        let v = rows::wide(batch[a + 2]);
-        answers[i] = update(n, edges, nodes, keys, batch[a], u, v, batch[a + 3]);
+    let (updates, _) = batch.as_chunks();
+    for (i, numbers) in updates.iter().enumerate() {
+        answers[i] = answer(apply(n, edges, nodes, keys, *numbers));
     }
 }
