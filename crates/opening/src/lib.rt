@@ -11,6 +11,7 @@ ghost use Rattle.opening.specs.Open.{KeysFilled, NodePut, NodesFilled, ring_next
 use rows::Graph;
 
 // The node after p in the ring of all nodes, and the one before it.
+#[tactic(auto, unfolding(crate::specs::Open::ring_next))]
 fn ring_next(n: usize, p: usize) -> u16
     requires { (n ≤ max_nodes) × (p < n) }
     ensures { result ≡ ring_next n p }
@@ -21,6 +22,7 @@ fn ring_next(n: usize, p: usize) -> u16
     0
 }
 
+#[tactic(auto, unfolding(crate::specs::Open::ring_prev))]
 fn ring_prev(n: usize, p: usize) -> u16
     requires { (n ≤ max_nodes) × (p < n) }
     ensures { result ≡ ring_prev n p }
@@ -37,6 +39,7 @@ fn put_node(nodes: &mut [u16], p: usize, next: u16, prev: u16)
     ensures { NodePut p next prev nodes.old nodes.new }
 {
     let a = Graph::NODE_NUMBERS * p;
+    // One by one: copied from an array, they take five times as long.
     nodes[a] = 0;
     nodes[a + 1] = next;
     nodes[a + 2] = prev;
@@ -72,7 +75,7 @@ pub fn fill(graph: Graph, edges: &mut [u64], nodes: &mut [u16], keys: &mut [u32]
     ensures { lent edges.new nodes.new keys.new ≡ tables_of (empty_graph graph.n) }
 {
     let n = graph.n;
-    buffers::clear_words(edges);
+    edges.fill(0);
     fill_nodes(nodes, n);
     fill_keys(keys, n);
 }

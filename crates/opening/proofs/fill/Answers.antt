@@ -1,7 +1,9 @@
 -- `fill` meets its contract.
+use Rattle.std.proofs.Common.{◌≡◌, length, replicate, rules}
 use Rattle.opening.specs.OpenLaws.{tables_opened}
 use Rattle.opening.proofs.fill.Goals as goal
 
 pub returns : goal.returns
 returns c =
-    tables_opened _ c.requires.small c.requires.edges c.requires.nodes c.requires.keys c.clear_words.ensures c.fill_nodes.ensures c.fill_keys.ensures
+    let cleared : c.fill.new.self ≡ replicate (length c.args.edges.now) 0 = search rules in
+    tables_opened _ c.requires.small c.requires.edges c.requires.nodes c.requires.keys cleared c.fill_nodes.ensures c.fill_keys.ensures

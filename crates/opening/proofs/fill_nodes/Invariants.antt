@@ -1,10 +1,6 @@
 -- `fill_nodes` meets its contract.
-use Prim.Native.Nat.{◌-◌, ◌≤◌}
 use Rattle.opening.specs.Open.{NodesFilled}
 use Rattle.opening.proofs.fill_nodes.Given as goal
 
 abbrev pub invariant-loop-p : goal.invariant-loop-p
-invariant-loop-p l = NodesFilled l.n l.p l.initial.nodes l.nodes × l.p ≤ l.n
-
-abbrev pub decreases-loop-p : goal.decreases-loop-p
-decreases-loop-p l = l.n - l.p
+invariant-loop-p l = NodesFilled l.n l.p l.initial.nodes l.nodes
