@@ -7,7 +7,7 @@ ghost use Rattle.model.specs.Tables.{holds};
 ghost use Rattle.rows.specs.Rows.{lent};
 ghost use Rattle.search.specs.Search.{Ready};
 ghost use Rattle.edges.specs.Edges.{row_holds};
-ghost use Rattle.checks.specs.Slots.{Seen, SlotTaken, key_slot, slot_words};
+ghost use Rattle.checks.specs.Slots.{Seen, SlotTaken, key_slot};
 ghost use Rattle.checks.specs.Checks.{
   agrees,
   alone,
@@ -25,7 +25,11 @@ mod dense;
 
 use bits::Bits;
 use groups::{CLASS, LEAST, MARK, NEXT, PREVIOUS, number};
+use lent::Edges;
 use rows::Graph;
+
+// The words of a set of key slots.
+const SLOT_WORDS: usize = 1024;
 
 // Whether the keys of p are those of a row whose cubes add up to sum.
 fn keys_agree(keys: &[u32], p: usize, sum: u32) -> bool
@@ -39,16 +43,15 @@ fn keys_agree(keys: &[u32], p: usize, sum: u32) -> bool
 }
 
 // Whether the bits of p's row are mirrored and its keys are right: one walk over the bits.
-fn row_holds(edges: &[u64], keys: &[u32], n: usize, p: usize) -> bool
-    requires { (n ≤ max_nodes) × (length edges.now ≡ row_words * n) × (length keys.now ≡ 2 * n) × (p < n) }
-    ensures { result ≡ (row_holds n edges.now p && keys_hold n edges.now keys.now p) }
+fn row_holds(edges: Edges, keys: &[u32], p: usize) -> bool
+    requires { (length keys.now ≡ 2 * edges.n) × (p < edges.n) }
+    ensures { result ≡ (row_holds edges.entry.n edges.entry.words.now p && keys_hold edges.entry.n edges.entry.words.now keys.now p) }
 {
-    let a = Graph::ROW_WORDS * p;
     let mut sum = 0u32;
     for w in 0..Graph::ROW_WORDS {
-        for k in Bits::of(edges[a + w]) {
+        for k in Bits::of(edges.word(p, w)) {
             let q = 64 * w + k;
-            if !edges::is_mirrored(edges, n, p, q) {
+            if !edges::is_mirrored(edges, p, q) {
                 return false;
             }
             sum = sum.wrapping_add(rows::cube_of(q));
@@ -58,12 +61,12 @@ fn row_holds(edges: &[u64], keys: &[u32], n: usize, p: usize) -> bool
 }
 
 // Whether edges and keys are those of a graph, bit by bit.
-fn sparse_rows_hold(edges: &[u64], keys: &[u32], n: usize) -> bool
-    requires { (n ≤ max_nodes) × (length edges.now ≡ row_words * n) × (length keys.now ≡ 2 * n) }
-    ensures { result ≡ rows_hold n edges.now keys.now }
+fn sparse_rows_hold(edges: Edges, keys: &[u32]) -> bool
+    requires { length keys.now ≡ 2 * edges.n }
+    ensures { result ≡ rows_hold edges.entry.n edges.entry.words.now keys.now }
 {
-    for p in 0..n {
-        if !row_holds(edges, keys, n, p) {
+    for p in 0..edges.n {
+        if !row_holds(edges, keys, p) {
             return false;
         }
     }
@@ -71,20 +74,20 @@ fn sparse_rows_hold(edges: &[u64], keys: &[u32], n: usize) -> bool
 }
 
 // Whether edges and keys are those of a graph, where every node is a twin of its leader.
-fn rows_hold(edges: &[u64], nodes: &[u16], keys: &[u32], n: usize) -> bool
-    requires { (n ≤ max_nodes) × (length edges.now ≡ row_words * n) × (length nodes.now ≡ node_numbers * n) × (length keys.now ≡ 2 * n) × (twins_hold n edges.now nodes.now ≡ true) }
-    ensures { result ≡ rows_hold n edges.now keys.now }
+fn rows_hold(edges: Edges, nodes: &[u16], keys: &[u32]) -> bool
+    requires { (length nodes.now ≡ node_numbers * edges.n) × (length keys.now ≡ 2 * edges.n) × (twins_hold edges.n edges.words.now nodes.now ≡ true) }
+    ensures { result ≡ rows_hold edges.entry.n edges.entry.words.now keys.now }
 {
-    if keys::is_dense(edges, n) {
-        return dense::rows_hold(edges, nodes, keys, n);
+    if keys::is_dense(edges.words, edges.n) {
+        return dense::rows_hold(edges, nodes, keys);
     }
-    sparse_rows_hold(edges, keys, n)
+    sparse_rows_hold(edges, keys)
 }
 
 // Whether l leads the group of p, of p's class, and p's row is that of a twin of l.
-fn is_twin(edges: &[u64], nodes: &[u16], n: usize, p: usize, l: usize) -> bool
-    requires { (n ≤ max_nodes) × (length edges.now ≡ row_words * n) × (length nodes.now ≡ node_numbers * n) × (p < n) }
-    ensures { result ≡ twin_of edges.now nodes.now p l }
+fn is_twin(edges: Edges, nodes: &[u16], p: usize, l: usize) -> bool
+    requires { (length nodes.now ≡ node_numbers * edges.n) × (p < edges.n) }
+    ensures { result ≡ twin_of edges.entry.words.now nodes.now p l }
 {
     if l > p {
         return false;
@@ -98,12 +101,12 @@ fn is_twin(edges: &[u64], nodes: &[u16], n: usize, p: usize, l: usize) -> bool
     if !search::same_class(nodes, p, l) {
         return false;
     }
-    let closed = rows::edge(edges, l, p);
+    let closed = edges.tied(l, p);
     let a = Graph::ROW_WORDS * p;
     let b = Graph::ROW_WORDS * l;
     search::same_row(
-        &edges[a..a + Graph::ROW_WORDS],
-        &edges[b..b + Graph::ROW_WORDS],
+        &edges.words[a..a + Graph::ROW_WORDS],
+        &edges.words[b..b + Graph::ROW_WORDS],
         closed,
         p,
         l,
@@ -111,13 +114,13 @@ fn is_twin(edges: &[u64], nodes: &[u16], n: usize, p: usize, l: usize) -> bool
 }
 
 // Whether every node is a twin of its leader.
-fn twins_hold(edges: &[u64], nodes: &[u16], n: usize) -> bool
-    requires { (n ≤ max_nodes) × (length edges.now ≡ row_words * n) × (length nodes.now ≡ node_numbers * n) }
-    ensures { result ≡ twins_hold n edges.now nodes.now }
+fn twins_hold(edges: Edges, nodes: &[u16]) -> bool
+    requires { length nodes.now ≡ node_numbers * edges.n }
+    ensures { result ≡ twins_hold edges.entry.n edges.entry.words.now nodes.now }
 {
-    for p in 0..n {
+    for p in 0..edges.n {
         let l = number(nodes, p, LEAST);
-        if !is_twin(edges, nodes, n, p, l) {
+        if !is_twin(edges, nodes, p, l) {
             return false;
         }
     }
@@ -132,8 +135,7 @@ fn slot(key: u32, class: u16) -> usize
 }
 
 // Whether the slot of a key in a class was taken; now it is. Each slot is a bit.
-fn take_slot(slots: &mut [u64], key: u32, class: u16) -> bool
-    requires { length slots.old ≡ slot_words }
+fn take_slot(slots: &mut [u64; SLOT_WORDS], key: u32, class: u16) -> bool
     ensures { SlotTaken key class slots.old slots.new result }
 {
     let s = slot(key, class);
@@ -145,17 +147,16 @@ fn take_slot(slots: &mut [u64], key: u32, class: u16) -> bool
 
 // Whether u leads no group, or no leader below it is similar to it: none can be where none of its class has an equal key.
 fn is_alone(
-    edges: &[u64],
+    edges: Edges,
     nodes: &[u16],
     keys: &[u32],
-    n: usize,
     u: usize,
-    opens: &mut [u64],
-    closeds: &mut [u64],
+    opens: &mut [u64; SLOT_WORDS],
+    closeds: &mut [u64; SLOT_WORDS],
 ) -> bool
-    requires ready { Ready n edges.now keys.now }
-    requires nodes_len { (length nodes.now ≡ node_numbers * n) × (u < n) × Seen nodes.now keys.now 0 u opens.old × Seen nodes.now keys.now 1 u closeds.old }
-    ensures { (result ≡ alone n edges.now nodes.now u) × Seen nodes.now keys.now 0 (u + 1) opens.new × Seen nodes.now keys.now 1 (u + 1) closeds.new }
+    requires ready { Ready edges.n edges.words.now keys.now }
+    requires nodes_len { (length nodes.now ≡ node_numbers * edges.n) × (u < edges.n) × Seen nodes.now keys.now 0 u opens.old × Seen nodes.now keys.now 1 u closeds.old }
+    ensures { (result ≡ alone edges.entry.n edges.entry.words.now nodes.now u) × Seen nodes.now keys.now 0 (u + 1) opens.new × Seen nodes.now keys.now 1 (u + 1) closeds.new }
 {
     if number(nodes, u, LEAST) != u {
         return true;
@@ -166,19 +167,19 @@ fn is_alone(
     if !(open | closed) {
         return true;
     }
-    search::find_group(edges, nodes, keys, n, u, u, u).is_none()
+    search::find_group(edges.words, nodes, keys, edges.n, u, u, u).is_none()
 }
 
 // Whether no two leaders are similar.
-fn leaders_apart(edges: &[u64], nodes: &[u16], keys: &[u32], n: usize) -> bool
-    requires ready { Ready n edges.now keys.now }
-    requires nodes_len { length nodes.now ≡ node_numbers * n }
-    ensures { result ≡ leaders_apart n edges.now nodes.now }
+fn leaders_apart(edges: Edges, nodes: &[u16], keys: &[u32]) -> bool
+    requires ready { Ready edges.n edges.words.now keys.now }
+    requires nodes_len { length nodes.now ≡ node_numbers * edges.n }
+    ensures { result ≡ leaders_apart edges.entry.n edges.entry.words.now nodes.now }
 {
-    let mut opens = [0u64; 1024];
-    let mut closeds = [0u64; 1024];
-    for u in 0..n {
-        if !is_alone(edges, nodes, keys, n, u, &mut opens, &mut closeds) {
+    let mut opens = [0u64; SLOT_WORDS];
+    let mut closeds = [0u64; SLOT_WORDS];
+    for u in 0..edges.n {
+        if !is_alone(edges, nodes, keys, u, &mut opens, &mut closeds) {
             return false;
         }
     }
@@ -238,14 +239,15 @@ pub fn hold(edges: &[u64], nodes: &[u16], keys: &[u32], n: usize) -> bool
     requires { (n ≤ max_nodes) × (length edges.now ≡ row_words * n) × (length nodes.now ≡ node_numbers * n) × (length keys.now ≡ 2 * n) }
     ensures { result ≡ holds n (lent edges.now nodes.now keys.now) }
 {
+    let table = Edges { n, words: edges };
     if !nodes_hold(nodes, n) {
         return false;
     }
-    if !twins_hold(edges, nodes, n) {
+    if !twins_hold(table, nodes) {
         return false;
     }
-    if !rows_hold(edges, nodes, keys, n) {
+    if !rows_hold(table, nodes, keys) {
         return false;
     }
-    leaders_apart(edges, nodes, keys, n)
+    leaders_apart(table, nodes, keys)
 }

@@ -1,5 +1,5 @@
 -- Laws of sums of cubes over the bits of a row, four and eight bits at a time.
-use Rattle.std.specs.Prelude.{◌≡◌, ℕ, zero, suc, ◌+◌, ◌-◌, ◌*◌, ◌/◌, ◌%◌, ◌^◌, ◌<◌, ◌≤◌, Bool, true, false, cond, ◌&&◌, ◌⊎◌, List, length, ◌==◌, ◌≢◌, nat_lt, slice_index, slice_set}
+use Rattle.std.specs.Prelude.{◌≡◌, ℕ, zero, suc, ◌+◌, ◌-◌, ◌*◌, ◌/◌, ◌%◌, ◌^◌, ◌<◌, ◌≤◌, Bool, true, false, cond, ◌&&◌, ◌⊎◌, List, [], ◌∷◌, length, ◌==◌, ◌≢◌, nat_lt, slice_index, slice_set}
 use Rattle.std.proofs.Math.Path.{refl, ap}
 use Rattle.std.proofs.Common.{sym, ap₂, ◌∙◌, subst, inl, inr, shr-shr, lt-ltb}
 use native.Mathlib.Omega.{arith}
@@ -59,6 +59,13 @@ four_more w x i =
 
     three : x / 2 ^ (4 * i) % 16 / 8 % 2 ≡ x / 2 ^ suc (suc (suc (4 * i))) % 2
     three = let s : 4 * i + 3 ≡ suc (suc (suc (4 * i))) = omega arith in let z : x / 2 ^ (4 * i) / 8 ≡ x / 2 ^ suc (suc (suc (4 * i))) = at 3 ∙ ap (λ (m : ℕ). x / 2 ^ m) s in omega arith
+
+pub each_of_four : {a b c d m : ℕ} → a ≤ m → b ≤ m → c ≤ m → d ≤ m → (k : ℕ) → k < 4 → slice_index (a ∷ b ∷ c ∷ d ∷ []) k ≤ m
+each_of_four h₀ h₁ h₂ h₃ zero l = h₀
+each_of_four h₀ h₁ h₂ h₃ (suc zero) l = h₁
+each_of_four h₀ h₁ h₂ h₃ (suc (suc zero)) l = h₂
+each_of_four h₀ h₁ h₂ h₃ (suc (suc (suc zero))) l = h₃
+each_of_four h₀ h₁ h₂ h₃ (suc (suc (suc (suc k)))) l = absurd (omega arith)
 
 -- the table of sums
 pub fours_none : (w : ℕ) (sums : List ℕ) → length sums ≡ 256 → FoursFilled w 0 sums

@@ -1,7 +1,7 @@
 // An edge table that is lent, with the number of its nodes.
 #![tactic(auto)]
 
-ghost use Rattle.std.specs.Prelude.{◌≡◌, ◌+◌, ◌*◌, ◌≤◌, ◌<◌, length, slice_index, slice_range};
+ghost use Rattle.std.specs.Prelude.{◌≡◌, ◌+◌, ◌*◌, ◌≤◌, ◌<◌, length, slice_index};
 ghost use Rattle.model.specs.Graph.{max_nodes, row_words};
 ghost use Rattle.model.specs.Tables.{edge_bit};
 ghost use Rattle.rows.specs.Rows.{Words};
@@ -25,15 +25,6 @@ impl<'a> Edges<'a> {
         ensures { result ≡ slice_index self.entry.words.now (row_words * p + w) }
     {
         self.words[Graph::ROW_WORDS * p + w]
-    }
-
-    #[inline]
-    pub fn row(self, p: usize) -> &'a [u64]
-        requires { p < self.n }
-        ensures { result.now ≡ slice_range self.entry.words.now (row_words * p) (row_words * p + row_words) }
-    {
-        let a = Graph::ROW_WORDS * p;
-        &self.words[a..a + Graph::ROW_WORDS]
     }
 
     // Whether p's row has the bit for q.

@@ -31,10 +31,6 @@ returns-then-not-open-closed c =
     let fresh = alone_fresh _ c.requires.ready c.requires.nodes_len.1 (sym c.number.ensures ∙ c.if-number-u.false) (seen_new c.requires.nodes_len.2 key class x free.0) (seen_new c.requires.nodes_len.3 refl class y free.1) in
     (fresh, seen_leader c.requires.nodes_len.2 key class x, seen_leader c.requires.nodes_len.3 refl class y)
 
-pub find_group-requires : goal.find_group-requires
-find_group-requires c =
-    record { ready = c.requires.ready; nodes_len = (c.requires.nodes_len.0, omega arith, omega arith, omega arith) }
-
 pub returns : goal.returns
 returns c =
     let key = even_place c.args.keys.now c.args.u in

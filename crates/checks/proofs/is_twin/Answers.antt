@@ -21,4 +21,4 @@ returns-then-not-same_class c =
 
 pub returns : goal.returns
 returns c =
-    twin_rows _ _ _ _ (omega arith) c.number.ensures c.if-number-l.false c.same_class.ensures _ _ (ap not c.if-not-same_class.false) c.edge-closed.ensures (meets_parts _ _ _ _ c.same_row.ensures)
+    twin_rows _ _ _ _ (omega arith) c.number.ensures c.if-number-l.false c.same_class.ensures _ _ (ap not c.if-not-same_class.false) c.tied-closed.ensures (meets_parts _ _ _ _ c.same_row.ensures)

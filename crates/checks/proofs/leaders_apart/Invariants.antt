@@ -5,7 +5,4 @@ use Rattle.checks.specs.Slots.{Seen}
 use Rattle.checks.proofs.leaders_apart.Given as goal
 
 abbrev pub invariant-loop-u : goal.invariant-loop-u
-invariant-loop-u l = (l.u ≤ l.n) × ((k : ℕ) → k < l.u → alone l.n l.edges l.nodes k ≡ true) × Seen l.nodes l.keys 0 l.u l.opens × Seen l.nodes l.keys 1 l.u l.closeds
-
-abbrev pub decreases-loop-u : goal.decreases-loop-u
-decreases-loop-u l = l.n - l.u
+invariant-loop-u l = ((k : ℕ) → k < l.u → alone l.edges.n l.edges.words.now l.nodes k ≡ true) × Seen l.nodes l.keys 0 l.u l.opens × Seen l.nodes l.keys 1 l.u l.closeds

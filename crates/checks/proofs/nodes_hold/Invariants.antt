@@ -4,7 +4,4 @@ use Rattle.checks.specs.Checks.{node_holds}
 use Rattle.checks.proofs.nodes_hold.Given as goal
 
 abbrev pub invariant-loop-p : goal.invariant-loop-p
-invariant-loop-p l = (l.p ≤ l.n) × ((k : ℕ) → k < l.p → node_holds l.n l.nodes k ≡ true)
-
-abbrev pub decreases-loop-p : goal.decreases-loop-p
-decreases-loop-p l = l.n - l.p
+invariant-loop-p l = (k : ℕ) → k < l.p → node_holds l.n l.nodes k ≡ true

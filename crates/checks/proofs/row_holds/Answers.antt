@@ -6,7 +6,7 @@ use Rattle.checks.specs.DenseLaws.{key_told}
 use Rattle.checks.proofs.row_holds.Goals as goal
 
 pub loop-w-init : goal.loop-w-init
-loop-w-init c = walk_start (omega arith) (λ i. omega (arith, c.type_inv.edges i))
+loop-w-init c = walk_start (omega arith) c.args.edges.bits
 
 pub overflow_add-q : goal.overflow_add-q
 overflow_add-q c =
@@ -30,7 +30,7 @@ loop-k-preserved c =
 
 pub loop-w-preserved : goal.loop-w-preserved
 loop-w-preserved c =
-    walk_next c.loop-k.invariant (all_cleared _ (omega arith) c.in-None.ensures.steps.0) (λ i. omega (arith, c.type_inv.edges i))
+    walk_next c.loop-k.invariant (all_cleared _ (omega arith) c.in-None.ensures.steps.0) c.args.edges.bits
 
 pub returns : goal.returns
 returns c =

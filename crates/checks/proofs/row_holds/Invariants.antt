@@ -4,7 +4,7 @@ use Rattle.edges.specs.EdgesLaws.{Walking}
 use Rattle.checks.proofs.row_holds.Given as goal
 
 abbrev pub invariant-loop-w : goal.invariant-loop-w
-invariant-loop-w l = Walking l.n l.edges l.p l.w (get_or l.edges (8 * l.p + l.w) 0) l.sum
+invariant-loop-w l = Walking l.edges.n l.edges.words.now l.p l.w (get_or l.edges.words.now (8 * l.p + l.w) 0) l.sum
 
 abbrev pub invariant-loop-k : goal.invariant-loop-k
-invariant-loop-k l = Walking l.n l.edges l.p l.w l.k-iterator.word l.sum
+invariant-loop-k l = Walking l.edges.n l.edges.words.now l.p l.w l.k-iterator.word l.sum

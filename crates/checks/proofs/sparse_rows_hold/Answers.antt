@@ -5,16 +5,10 @@ use Rattle.buffers.specs.AllLaws.{all_fail, all_pass_lem, failed, passed}
 use Rattle.std.proofs.Common.{ap, not}
 use Rattle.checks.proofs.sparse_rows_hold.Goals as goal
 
-pub loop-p-init : goal.loop-p-init
-loop-p-init c = (omega arith, below_none _)
-
 pub returns-then-not-row_holds : goal.returns-then-not-row_holds
 unfolding rows_hold
 returns-then-not-row_holds c = all_fail _ _ _ (omega arith) (failed c.row_holds.ensures (ap not c.if-not-row_holds.true))
 
-pub loop-p-preserved : goal.loop-p-preserved
-loop-p-preserved c = (omega arith, below_more _ _ c.loop-p.invariant.1 (passed c.row_holds.ensures (ap not c.if-not-row_holds.false)))
-
 pub returns : goal.returns
 unfolding rows_hold
-returns c = all_pass_lem _ _ _ (omega arith) c.loop-p.invariant.1
+returns c = all_pass_lem _ _ _ (omega arith) c.loop-p.invariant

@@ -5,7 +5,4 @@ use Rattle.checks.specs.Checks.{keys_hold}
 use Rattle.checks.proofs.sparse_rows_hold.Given as goal
 
 abbrev pub invariant-loop-p : goal.invariant-loop-p
-invariant-loop-p l = (l.p ≤ l.n) × ((k : ℕ) → k < l.p → (row_holds l.n l.edges k && keys_hold l.n l.edges l.keys k) ≡ true)
-
-abbrev pub decreases-loop-p : goal.decreases-loop-p
-decreases-loop-p l = l.n - l.p
+invariant-loop-p l = (k : ℕ) → k < l.p → (row_holds l.edges.n l.edges.words.now k && keys_hold l.edges.n l.edges.words.now l.keys k) ≡ true

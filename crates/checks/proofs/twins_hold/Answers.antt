@@ -6,16 +6,10 @@ use Rattle.buffers.specs.AllLaws.{all_fail, all_pass_lem, failed, passed}
 use Rattle.std.proofs.Common.{ap, not}
 use Rattle.checks.proofs.twins_hold.Goals as goal
 
-pub loop-p-init : goal.loop-p-init
-loop-p-init c = (omega arith, below_none _)
-
 pub returns-then-not-is_twin : goal.returns-then-not-is_twin
 unfolding twins_hold
 returns-then-not-is_twin c = all_fail _ _ _ (omega arith) (failed (twin_told _ _ _ _ c.number-l.ensures c.is_twin.ensures) (ap not c.if-not-is_twin.true))
 
-pub loop-p-preserved : goal.loop-p-preserved
-loop-p-preserved c = (omega arith, below_more _ _ c.loop-p.invariant.1 (passed (twin_told _ _ _ _ c.number-l.ensures c.is_twin.ensures) (ap not c.if-not-is_twin.false)))
-
 pub returns : goal.returns
 unfolding twins_hold
-returns c = all_pass_lem _ _ _ (omega arith) c.loop-p.invariant.1
+returns c = all_pass_lem _ _ _ (omega arith) c.loop-p.invariant

@@ -5,7 +5,4 @@ use Rattle.checks.specs.Checks.{twin_of}
 use Rattle.checks.proofs.twins_hold.Given as goal
 
 abbrev pub invariant-loop-p : goal.invariant-loop-p
-invariant-loop-p l = (l.p ≤ l.n) × ((k : ℕ) → k < l.p → twin_of l.edges l.nodes k (node_number l.nodes k 0) ≡ true)
-
-abbrev pub decreases-loop-p : goal.decreases-loop-p
-decreases-loop-p l = l.n - l.p
+invariant-loop-p l = (k : ℕ) → k < l.p → twin_of l.edges.words.now l.nodes k (node_number l.nodes k 0) ≡ true

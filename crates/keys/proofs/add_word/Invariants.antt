@@ -4,7 +4,4 @@ use Rattle.keys.specs.LeaderLaws.{Amid}
 use Rattle.keys.proofs.add_word.Given as goal
 
 abbrev pub invariant-loop-p : goal.invariant-loop-p
-invariant-loop-p l = (l.p ≤ l.n) × Amid l.n l.stride l.least l.edges l.w l.p l.totals
-
-abbrev pub decreases-loop-p : goal.decreases-loop-p
-decreases-loop-p l = l.n - l.p
+invariant-loop-p l = Amid l.edges.n l.stride l.least l.edges.words.now l.w l.p l.totals

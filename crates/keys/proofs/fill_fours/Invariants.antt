@@ -4,7 +4,4 @@ use Rattle.keys.specs.KeySums.{FoursFilled}
 use Rattle.keys.proofs.fill_fours.Given as goal
 
 abbrev pub invariant-loop-b : goal.invariant-loop-b
-invariant-loop-b l = (l.b ≤ 16) × FoursFilled l.w (16 * l.b) l.sums
-
-abbrev pub decreases-loop-b : goal.decreases-loop-b
-decreases-loop-b l = 16 - l.b
+invariant-loop-b l = FoursFilled l.w (16 * l.b) l.sums

@@ -5,7 +5,7 @@ use Rattle.keys.specs.SumLaws.{adding_done, adding_next, adding_on, adding_place
 use Rattle.keys.proofs.sum_row.Goals as goal
 
 pub loop-w-init : goal.loop-w-init
-loop-w-init c = adding_start (omega arith) (λ i. omega (arith, c.type_inv.edges i))
+loop-w-init c = adding_start (omega arith) c.args.edges.bits
 
 pub overflow_add-w : goal.overflow_add-w
 overflow_add-w c =
@@ -21,11 +21,11 @@ pub loop-k-preserved : goal.loop-k-preserved
 loop-k-preserved c =
     let inv = c.loop-k.invariant in
     let cut = cleared _ _ _ (omega arith) (omega arith) c.in-Some.ensures.steps in
-    adding_on inv cut (c.requires.3 _ (adding_place inv cut (omega arith)) (adding_set inv cut)) c.cube_of-sum.ensures refl
+    adding_on inv cut (c.requires.1 _ (adding_place inv cut (omega arith)) (adding_set inv cut)) c.cube_of-sum.ensures refl
 
 pub loop-w-preserved : goal.loop-w-preserved
 loop-w-preserved c =
-    adding_next c.loop-k.invariant (all_cleared _ (omega arith) c.in-None.ensures.steps.0) (λ i. omega (arith, c.type_inv.edges i))
+    adding_next c.loop-k.invariant (all_cleared _ (omega arith) c.in-None.ensures.steps.0) c.args.edges.bits
 
 pub returns : goal.returns
 returns c = adding_done c.loop-w.invariant (omega arith) (omega arith)

@@ -4,7 +4,4 @@ use Rattle.keys.specs.KeySums.{Widened}
 use Rattle.keys.proofs.widen.Given as goal
 
 abbrev pub invariant-loop-i : goal.invariant-loop-i
-invariant-loop-i l = (l.i ≤ 8) × Widened l.w (256 * l.i) l.sums
-
-abbrev pub decreases-loop-i : goal.decreases-loop-i
-decreases-loop-i l = 8 - l.i
+invariant-loop-i l = Widened l.w (256 * l.i) l.sums

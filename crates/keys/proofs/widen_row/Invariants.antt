@@ -4,7 +4,4 @@ use Rattle.keys.specs.KeySums.{Widened}
 use Rattle.keys.proofs.widen_row.Given as goal
 
 abbrev pub invariant-loop-l : goal.invariant-loop-l
-invariant-loop-l l = (l.l ≤ 16) × Widened l.w (256 * l.i + 16 * l.h + l.l) l.sums
-
-abbrev pub decreases-loop-l : goal.decreases-loop-l
-decreases-loop-l l = 16 - l.l
+invariant-loop-l l = Widened l.w (256 * l.i + 16 * l.h + l.l) l.sums

@@ -4,7 +4,4 @@ use Rattle.keys.specs.KeySums.{Widened}
 use Rattle.keys.proofs.widen_rows.Given as goal
 
 abbrev pub invariant-loop-h : goal.invariant-loop-h
-invariant-loop-h l = (l.h ≤ 16) × Widened l.w (256 * l.i + 16 * l.h) l.sums
-
-abbrev pub decreases-loop-h : goal.decreases-loop-h
-decreases-loop-h l = 16 - l.h
+invariant-loop-h l = Widened l.w (256 * l.i + 16 * l.h) l.sums

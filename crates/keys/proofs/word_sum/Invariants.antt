@@ -4,7 +4,4 @@ use Rattle.keys.specs.KeySums.{Widened, word_cubes}
 use Rattle.keys.proofs.word_sum.Given as goal
 
 abbrev pub invariant-loop-i : goal.invariant-loop-i
-invariant-loop-i l = (l.i ≤ 8) × ((w : ℕ) → Widened w 2048 l.sums → l.total ≡ word_cubes w l.x (8 * l.i) % 2 ^ 32)
-
-abbrev pub decreases-loop-i : goal.decreases-loop-i
-decreases-loop-i l = 8 - l.i
+invariant-loop-i l = ((w : ℕ) → Widened w 2048 l.sums → l.total ≡ word_cubes w l.x (8 * l.i) % 2 ^ 32)

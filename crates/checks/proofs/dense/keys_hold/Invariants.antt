@@ -4,7 +4,4 @@ use Rattle.checks.specs.Checks.{KeysBelow}
 use Rattle.checks.proofs.dense.keys_hold.Given as goal
 
 abbrev pub invariant-loop-p : goal.invariant-loop-p
-invariant-loop-p l = (l.p ≤ l.n) × KeysBelow l.n l.edges l.keys l.p
-
-abbrev pub decreases-loop-p : goal.decreases-loop-p
-decreases-loop-p l = l.n - l.p
+invariant-loop-p l = KeysBelow l.edges.n l.edges.words.now l.keys l.p

@@ -9,13 +9,10 @@ use Rattle.checks.proofs.dense.rows_hold.Goals as goal
 pub returns-then-not-hold_by_strips : goal.returns-then-not-hold_by_strips
 returns-then-not-hold_by_strips c =
     let pre = c.requires in
-    asymmetric _ _ pre.0 pre.1 _ (failed c.hold_by_strips.ensures (ap not c.if-not-hold_by_strips.true))
+    asymmetric _ _ c.args.edges.small c.args.edges.rows _ (failed c.hold_by_strips.ensures (ap not c.if-not-hold_by_strips.true))
 
 pub keys_hold-requires : goal.keys_hold-requires
 keys_hold-requires c =
     let pre = c.requires in
     let b = passed c.hold_by_strips.ensures (ap not c.if-not-hold_by_strips.false) in
-    record { n_le_max_nodes = (pre.0, pre.1, pre.2, pre.3); edges_value = (and_fst (symmetric _) _ b, and_snd (symmetric _) _ b, pre.4) }
-
-pub returns : goal.returns
-returns c = c.keys_hold.ensures
+    record { lens = (pre.0, pre.1); edges_value = (and_fst (symmetric _) _ b, and_snd (symmetric _) _ b, pre.2) }
