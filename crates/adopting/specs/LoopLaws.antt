@@ -1,13 +1,11 @@
 -- What is found of a row and of a node: empty, bare, hidden, isolated.
-use Rattle.std.specs.Prelude.{◌≡◌, refl, Bool, true, false, cond, List, ◌⊎◌, ℕ, ◌+◌, ◌*◌, ◌-◌, ◌^◌, ◌≤◌, ◌<◌, eqb, ltb, drop, get_or, length, set, take}
-use Rattle.std.proofs.Common.{sym, ap, ◌∙◌, inl, inr, arith, length-set, get_or-set_other, get_or-set_same, eqb-true, eq-eqb, ne_eqb}
-use Rattle.std.proofs.lemmas.Bool.{eqb-false}
+use Rattle.std.specs.Prelude.{◌≡◌, Bool, true, false, List, ℕ, ◌+◌, ◌*◌, ◌-◌, ◌^◌, eqb, ltb, drop, get_or, take}
+use Rattle.std.proofs.Common.{sym, ap, ◌∙◌, eq-eqb, ne_eqb}
 use Rattle.model.specs.Lists.{all}
-use Rattle.model.proofs.TestLaws.{decide}
 use Rattle.buffers.specs.UnionLaws.{is_none}
 use Rattle.rows.specs.Rows.{leads}
 use Rattle.search.specs.SearchLaws.{row_part_lem}
-use Rattle.adopting.specs.Adopting.{NumbersRenamed, empty_row, is_bare, is_hidden, is_isolated}
+use Rattle.adopting.specs.Adopting.{empty_row, is_bare, is_hidden, is_isolated}
 
 -- the words of a row united
 pub empty_united : (edges : List ℕ) (p u : ℕ) → ((k : ℕ) → ltb u (2 ^ k) ≡ all (take (8 * p + 8 - 8 * p) (drop (8 * p) edges)) (λ x. ltb x (2 ^ k))) → eqb u 0 ≡ empty_row edges p

@@ -1,5 +1,5 @@
 -- Laws of chains: what a walk over one finds, and a leader put in.
-use Rattle.std.specs.Prelude.{◌≡◌, ℕ, suc, ◌+◌, ◌-◌, ◌*◌, ◌^◌, ◌<◌, ◌≤◌, Bool, true, false, cond, ◌&&◌, ◌⊎◌, List, length, take, drop, replicate, ◌==◌, ◌≢◌, nat_lt, slice_index, slice_index_or, slice_set, Option, None, Some}
+use Rattle.std.specs.Prelude.{◌≡◌, ℕ, suc, ◌+◌, ◌-◌, ◌*◌, ◌^◌, ◌<◌, ◌≤◌, Bool, true, false, cond, ◌&&◌, ◌⊎◌, List, length, take, drop, replicate, ◌==◌, ◌≢◌, nat_lt, slice_index, slice_index_or, slice_set, None, Some}
 use Rattle.std.proofs.Math.Path.{refl, sym, ap, ap₂}
 use Rattle.std.proofs.Common.{◌∙◌, inl, inr, arith, length-set, pow_pos, get_or-set_other, get_or-set_same, eqb-true, eq-eqb, ltb-true, ltb-false, ne_eqb}
 use Rattle.std.proofs.Math.Bool.{and-false, xor}

@@ -1,7 +1,7 @@
 -- Laws of the hash of a row: the closed row's follows from the open row's, since rotating and adding up bits go together.
 use Rattle.std.specs.Prelude.{◌≡◌, ℕ, zero, suc, ◌+◌, ◌-◌, ◌*◌, ◌/◌, ◌%◌, ◌^◌, ◌<◌, Bool, true, false, List, [], nat_eq, slice_index, ◌≤◌, length, drop, take, fold}
 use Rattle.std.proofs.Math.Path.{refl, sym, ap₂}
-use Rattle.std.proofs.Common.{ap, ◌∙◌, add-zero, mod-eq_of_lt, add-one, arith, pow_pos, eqb-true}
+use Rattle.std.proofs.Common.{ap, ◌∙◌, add-zero, mod-eq_of_lt, arith, pow_pos, eqb-true}
 use Rattle.std.proofs.Math.Bool.{xor}
 use Rattle.std.specs.Int.Bits.{bit_xor, xor_zero_r}
 use Rattle.std.proofs.lemmas.List.{get_or-drop, length-drop}

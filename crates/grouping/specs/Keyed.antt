@@ -1,11 +1,9 @@
 -- Slots of nodes' rows by their keys, where nobody is hidden.
-use Rattle.std.specs.Prelude.{◌≡◌, ℕ, ◌+◌, ◌*◌, ◌<◌, ◌≤◌, Bool, true, false, cond, List, length, replicate, slice_index}
+use Rattle.std.specs.Prelude.{◌≡◌, ℕ, ◌+◌, ◌*◌, ◌<◌, ◌≤◌, Bool, cond, List, length, replicate, slice_index}
 use Rattle.model.specs.Graph.{Proper, max_classes, max_nodes}
 use Rattle.model.specs.Tables.{graph_in, keys_of}
 use Rattle.search.specs.Search.{Within}
-use Rattle.masking.specs.Masking.{Apart, drawn}
-use Rattle.grouping.specs.Least.{least_visible}
-use Rattle.grouping.specs.Chains.{SlotsTell, Sought, slot_in}
+use Rattle.grouping.specs.Chains.{slot_in}
 
 -- the marks of a graph without hidden nodes
 unfoldable pub nobody : List ℕ

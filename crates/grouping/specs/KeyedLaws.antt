@@ -1,5 +1,5 @@
 -- Laws of slots by keys: rows that agree have one slot; and where nobody is hidden, the groups of all nodes are those of the visible ones.
-use Rattle.std.specs.Prelude.{◌≡◌, ℕ, ◌+◌, ◌*◌, ◌<◌, ◌≤◌, Bool, true, false, cond, ◌&&◌, ◌⊎◌, List, length, ◌==◌, nat_lt, slice_index, refl}
+use Rattle.std.specs.Prelude.{◌≡◌, ℕ, ◌+◌, ◌*◌, ◌<◌, Bool, true, false, cond, ◌&&◌, ◌⊎◌, List, length, ◌==◌, nat_lt, slice_index, refl}
 use Rattle.std.proofs.Common.{sym, ◌∙◌, inl, inr}
 use Rattle.std.proofs.Math.Path.{ap}
 use Rattle.std.proofs.Math.Bool.{and-false}
@@ -25,11 +25,9 @@ use Rattle.compressed.specs.Compressed.{alike}
 use Rattle.layout.specs.Truth.{Truth}
 use Rattle.masking.specs.Masking.{Apart, drawn, shown}
 use Rattle.masking.specs.MaskLaws.{visible_is}
-use Rattle.grouping.specs.Chains.{Chains, Entered, Met, SlotsTell, Sought, class_alike, classed_slot, slot_in, slot_in_class}
+use Rattle.grouping.specs.Chains.{SlotsTell, classed_slot, slot_in}
 use Rattle.grouping.specs.HashLaws.{slot_in-lt}
-use Rattle.grouping.specs.ChainLaws.{classed_slot_lem, classed_tell, met_miss, seeking_start}
-use Rattle.grouping.specs.Least.{least_visible}
-use Rattle.grouping.specs.LeastLaws.{least_fits}
+use Rattle.grouping.specs.ChainLaws.{classed_tell}
 use Rattle.grouping.specs.Keyed.{KeysTold, key_slot, nobody}
 
 -- where nobody is hidden

@@ -61,7 +61,13 @@ fn clique_row(least: &[u16], n: usize, row: &[u64], l: usize, p: usize) -> [u64;
 }
 
 // The neighbours of p as a row.
-pub fn neighbour_row(least: &[u16], kinds: &[u16], joined: &[u64], n: usize, p: usize) -> [u64; Graph::ROW_WORDS]
+pub fn neighbour_row(
+    least: &[u16],
+    kinds: &[u16],
+    joined: &[u64],
+    n: usize,
+    p: usize,
+) -> [u64; Graph::ROW_WORDS]
     requires { Compressed n least.now kinds.now joined.now × (placed n least.now p ≡ true) }
     ensures { NeighbourRow n least.now kinds.now joined.now p result }
 {

@@ -1,7 +1,7 @@
 -- `grouping::is_new` meets its contract.
 -- One law for each way out.
 use Rattle.std.proofs.Common.{ap, not, ◌∙◌, sym}
-use Rattle.grouping.specs.PartedLaws.{new_hit, new_miss}
+use Rattle.grouping.specs.PartedLaws.{new_hit}
 use Rattle.grouping.proofs.is_new.Goals as goal
 
 pub returns-then-is_some : goal.returns-then-is_some

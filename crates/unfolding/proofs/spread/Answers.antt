@@ -1,5 +1,5 @@
 -- `unfolding::spread` meets its contract.
-use Rattle.std.proofs.Common.{refl, arith}
+use Rattle.std.proofs.Common.{arith}
 use Rattle.buffers.specs.StoreLaws.{stored}
 use Rattle.model.specs.Tables.{edge_bit}
 use Rattle.unfolding.specs.SpreadLaws.{spread_words}

@@ -1,5 +1,5 @@
 -- A walk down the chain.
-use Rattle.std.proofs.Common.{◌∙◌, arith}
+use Rattle.std.proofs.Common.{arith}
 use Rattle.grouping.specs.ChainLaws.{alike-agrees, alike_differs, class_differs, links_less, met_hit, met_miss, row-size, seeking_on, seeking_start}
 use Rattle.grouping.proofs.Leaders.find.Goals as goal
 

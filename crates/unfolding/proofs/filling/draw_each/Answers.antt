@@ -1,5 +1,5 @@
 -- `unfolding::filling::draw_each` meets its contract.
-use Rattle.std.proofs.Common.{refl, arith}
+use Rattle.std.proofs.Common.{arith}
 use Rattle.buffers.specs.WordBitsLaws.{cleared_less}
 use Rattle.unfolding.specs.FillingLaws.{each_done, each_place, each_rest, each_room, each_step}
 use Rattle.unfolding.proofs.filling.draw_each.Goals as goal

@@ -1,5 +1,5 @@
 -- `unfolding::filling::draw_joined` meets its contract.
-use Rattle.std.proofs.Common.{◌≡◌, ℕ, ◌<◌, ◌+◌, ◌-◌, ◌*◌, List, get_or, take, drop, refl, arith}
+use Rattle.std.proofs.Common.{◌≡◌, ℕ, ◌<◌, ◌+◌, ◌-◌, ◌*◌, List, get_or, take, drop, arith}
 use Rattle.search.specs.SearchLaws.{row_part_lem, row_word_lem}
 use Rattle.unfolding.specs.FillingLaws.{joined_done, joined_step, keyed_start, word_room}
 use Rattle.unfolding.proofs.filling.draw_joined.Goals as goal
