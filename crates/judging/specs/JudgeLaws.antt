@@ -1,5 +1,6 @@
 -- A file that was read is a release exactly if no two of its groups could be one.
-use Rattle.std.specs.Prelude.{◌≡◌, refl, Bool, false, cond, not, List, [], ◌∷◌, ◌⊎◌, ℕ, ◌*◌, ◌≤◌, ◌<◌, eqb, length, get_or}
+use Rattle.std.specs.Prelude.{◌≡◌, refl, Bool, false, cond, not, List, [], ◌∷◌, ◌⊎◌, ℕ, ◌*◌, ◌≤◌, ◌<◌, eqb, length, get_or, Option, Some, None}
+use Rattle.std.proofs.lemmas.Option.{cond_some, none-some, same_Some}
 use Rattle.std.proofs.Math.Path.{sym, ap, subst}
 use Rattle.std.proofs.Common.{◌∙◌, inl, inr, arith}
 use Rattle.std.proofs.Math.Bool.{true}
@@ -23,8 +24,6 @@ use Rattle.compressed.specs.ReleasedLaws.{release-least}
 use Rattle.sums.specs.Sums.{Cubed}
 use Rattle.sums.specs.Joined.{JoinedSummed}
 use Rattle.grouping.specs.Slots.{SumsTold}
-use Rattle.reader.specs.declared.Decoded.{Decoded}
-use Rattle.reader.specs.declared.Decoded.TheVariants as answer
 use Rattle.reader.specs.Decoding.{Decodes, SumsKept, accepted, decoded, is_few}
 use Rattle.reader.specs.Bytes.{Bytes}
 use Rattle.reader.specs.BytesLaws.{accepted-in_order}
@@ -39,41 +38,34 @@ release-accepted s t =
     ap accepted o.1 ∙ in_order-accepted (u16_at s 2) (told_groups s) (told_superedges s) o.0
 
 -- what the answer says of the bytes
-answer_accepts : (s : List ℕ) (n : ℕ) → answer.Graph n ≡ decoded s → (accepted s ≡ true) × (n ≡ u16_at s 2)
+answer_accepts : (s : List ℕ) (n : ℕ) → Some n ≡ decoded s → (accepted s ≡ true) × (n ≡ u16_at s 2)
 unfolding decoded
-answer_accepts s n e = step (decide (accepted s))
-  where
-    step : (accepted s ≡ true) ⊎ (accepted s ≡ false) → (accepted s ≡ true) × (n ≡ u16_at s 2)
-    step (inl t) = let f : answer.Graph n ≡ answer.Graph (u16_at s 2) = rw t at e in (t, cc)
-    step (inr t) = let f : answer.Graph n ≡ answer.NoRelease = rw t at e in let z : ◌≡◌ {A = ℕ} 0 1 = cc in absurd (omega arith)
+answer_accepts s n e = let both = cond_some (accepted s) (u16_at s 2) n (sym e) in (both.0, sym both.1)
 
-answer_none : (s : List ℕ) → answer.NoRelease ≡ decoded s → is_release s ≡ false
+answer_none : (s : List ℕ) → None ≡ decoded s → is_release s ≡ false
 unfolding decoded
 answer_none s e = step (decide (is_release s))
   where
     step : (is_release s ≡ true) ⊎ (is_release s ≡ false) → is_release s ≡ false
-    step (inl t) = let f : answer.NoRelease ≡ answer.Graph (u16_at s 2) = rw (release-accepted s t) at e in let z : ◌≡◌ {A = ℕ} 0 1 = cc in absurd (omega arith)
+    step (inl t) = absurd (none-some (u16_at s 2) (rw (release-accepted s t) at e))
     step (inr t) = t
 
 -- no release, by its number
-judged_no : (s : List ℕ) {first kinds classes joined sums : List ℕ} → is_release s ≡ false → Judged s first kinds classes joined sums answer.NoRelease
+judged_no : (s : List ℕ) {first kinds classes joined sums : List ℕ} → is_release s ≡ false → Judged s first kinds classes joined sums None
 judged_no s z = record {
   asked = unfold asked_number first_of in rw z;
   read = λ n. unfold read_number first_of in rw z;
-  graph = λ n w. never n w;
-  exact = λ n w. never n w;
-  cubed = λ n w f. never n w;
-  summed = λ n w f. never n w;
+  graph = λ n w. absurd (none-some n w);
+  exact = λ n w. absurd (none-some n w);
+  cubed = λ n w f. absurd (none-some n w);
+  summed = λ n w f. absurd (none-some n w);
 }
-  where
-    never : {X : Type 0} (n : ℕ) → answer.NoRelease ≡ answer.Graph n → X
-    never n w = let x : ◌≡◌ {A = ℕ} 0 1 = cc in absurd (omega arith)
 
-pub judged_none : (s : List ℕ) {first kinds classes joined sums : List ℕ} {r : Decoded} → Decodes s first kinds classes joined r → r ≡ answer.NoRelease → Judged s first kinds classes joined sums answer.NoRelease
+pub judged_none : (s : List ℕ) {first kinds classes joined sums : List ℕ} {r : Option ℕ} → Decodes s first kinds classes joined r → r ≡ None → Judged s first kinds classes joined sums None
 judged_none s d e = judged_no s (answer_none s (sym e ∙ d.result))
 
 -- the number of the release of a graph of n nodes
-release-number : (s : List ℕ) (n : ℕ) → is_release s ≡ true → (decode s).node_count ≡ n → (m : ℕ) → read_number m (answer.Graph n) ≡ first_of ((not (is_release s), 19) ∷ (not (eqb (decode s).node_count m), 20) ∷ [])
+release-number : (s : List ℕ) (n : ℕ) → is_release s ≡ true → (decode s).node_count ≡ n → (m : ℕ) → read_number m (Some n) ≡ first_of ((not (is_release s), 19) ∷ (not (eqb (decode s).node_count m), 20) ∷ [])
 unfolding read_number first_of
 release-number s n t count m = rw (t, count) (step (eqb n m))
   where
@@ -81,7 +73,7 @@ release-number s n t count m = rw (t, count) (step (eqb n m))
     step true = refl
     step false = refl
 
-module _ (s : List ℕ) (bytes : Bytes s) {first kinds classes joined sums : List ℕ} (n : ℕ) {r : Decoded} (d : Decodes s first kinds classes joined r) (k : SumsKept s first joined sums) (e : r ≡ answer.Graph n) (w : Words joined) where
+module _ (s : List ℕ) (bytes : Bytes s) {first kinds classes joined sums : List ℕ} (n : ℕ) {r : Option ℕ} (d : Decodes s first kinds classes joined r) (k : SumsKept s first joined sums) (e : r ≡ Some n) (w : Words joined) where
   abbrev gs : List (Head × List ℕ)
   gs = told_groups s
 
@@ -130,17 +122,17 @@ module _ (s : List ℕ) (bytes : Bytes s) {first kinds classes joined sums : Lis
   same : apart n first kinds classes joined ≡ is_release s
   same = told-apart n (told_groups s) (told_superedges s) ordered told w ∙ sym (ap is_release file ∙ in_order-release n (told_groups s) (told_superedges s) ordered)
 
-  pub judged_other : {b : Bool} → b ≡ apart n first kinds classes joined → b ≡ false → Judged s first kinds classes joined sums answer.NoRelease
+  pub judged_other : {b : Bool} → b ≡ apart n first kinds classes joined → b ≡ false → Judged s first kinds classes joined sums None
   judged_other c z = judged_no s (sym same ∙ sym c ∙ z)
 
-  pub judged-release : {b : Bool} → b ≡ apart n first kinds classes joined → b ≡ true → Judged s first kinds classes joined sums (answer.Graph n)
+  pub judged-release : {b : Bool} → b ≡ apart n first kinds classes joined → b ≡ true → Judged s first kinds classes joined sums (Some n)
   judged-release {b} c z = record {
     asked = unfold asked_number first_of in rw is;
     read = release-number s n is (sym (ap (λ (g : Graph). g.node_count) graph) ∙ unfold unfolded in refl);
-    graph = λ m x. let q : n ≡ m = cc in ap (λ (k : ℕ). held k first kinds classes joined) (sym q) ∙ graph;
-    exact = λ m x. let q : n ≡ m = cc in subst (λ (k : ℕ). Exact k first kinds classes joined) q exact;
-    cubed = λ m x. let q : n ≡ m = cc in subst (λ (j : ℕ). is_few (length s) j ≡ true → Cubed j first sums) q cubed;
-    summed = λ m x. let q : n ≡ m = cc in subst (λ (j : ℕ). is_few (length s) j ≡ true → JoinedSummed joined sums) q summed;
+    graph = λ m x. let q : n ≡ m = same_Some n m x in ap (λ (k : ℕ). held k first kinds classes joined) (sym q) ∙ graph;
+    exact = λ m x. let q : n ≡ m = same_Some n m x in subst (λ (k : ℕ). Exact k first kinds classes joined) q exact;
+    cubed = λ m x. let q : n ≡ m = same_Some n m x in subst (λ (j : ℕ). is_few (length s) j ≡ true → Cubed j first sums) q cubed;
+    summed = λ m x. let q : n ≡ m = same_Some n m x in subst (λ (j : ℕ). is_few (length s) j ≡ true → JoinedSummed joined sums) q summed;
   }
     where
       is : is_release s ≡ true

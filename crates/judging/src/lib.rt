@@ -6,27 +6,25 @@ ghost use Rattle.model.specs.Graph.{max_nodes};
 ghost use Rattle.reader.specs.Decoding.{Blank};
 ghost use Rattle.judging.specs.Judging.{Judged};
 
-use reader::Decoded;
+use compressed::Groups;
 
-// The graph of a release, by its groups in the lent arrays; or that the bytes are no release.
-pub fn judge(
-    file: &[u8],
-    least: &mut [u16],
-    kinds: &mut [u16],
-    classes: &mut [u16],
-    joined: &mut [u64],
-    sums: &mut [u32],
-) -> Decoded
-    requires { Blank file.now least.old kinds.old classes.old joined.old × (sums.old ≡ replicate (2 * max_nodes) 0) }
-    ensures { Judged file.now least.new kinds.new classes.new joined.new sums.new result }
+// How many nodes the graph of a release has, told by its groups in the lent arrays; none if the bytes are no release.
+pub fn judge(file: &[u8], groups: &mut Groups, joined: &mut [u64]) -> Option<usize>
+    requires { Blank file.now groups.old.least groups.old.kinds groups.old.classes joined.old × (groups.old.sums ≡ replicate (2 * max_nodes) 0) }
+    ensures { Judged file.now groups.new.least groups.new.kinds groups.new.classes joined.new groups.new.sums result }
 {
-    let told = reader::decode(file, least, kinds, classes, joined, sums);
-    let Decoded::Graph { n } = told else {
-        return Decoded::NoRelease;
-    };
+    let n = reader::decode(file, groups, joined)?;
     let few = reader::are_few(file.len(), n);
-    if !grouping::are_apart(joined, least, kinds, classes, n, few, sums) {
-        return Decoded::NoRelease;
+    if !grouping::are_apart(
+        joined,
+        &groups.least,
+        &groups.kinds,
+        &groups.classes,
+        n,
+        few,
+        &groups.sums,
+    ) {
+        return None;
     }
-    Decoded::Graph { n }
+    Some(n)
 }

@@ -1,5 +1,5 @@
 -- Every file in order is accepted.
-use Rattle.std.specs.Prelude.{◌≡◌, Bool, true, false, not, ◌&&◌, ◌||◌, cond, ltb, leb, drop}
+use Rattle.std.specs.Prelude.{◌≡◌, Bool, true, false, not, ◌&&◌, ◌||◌, cond, ltb, leb, drop, Some}
 use Rattle.std.proofs.Math.Path.{refl, ap}
 use Rattle.std.proofs.Common.{sym, ◌∙◌, arith, length-append, drop_at, drop-drop}
 use mathlib.Core.List.{List, [], ◌∷◌, ◌++◌, map, append_assoc}
@@ -17,42 +17,39 @@ use Rattle.model.proofs.ReleaseLaws.{length_superedge_records, length-u16s}
 use Rattle.model.proofs.ReadingLaws.{u16s_back}
 use Rattle.model.proofs.InOrderLaws.{in_order_parts, members_few}
 use Rattle.records.specs.declared.Counts.{Counts}
-use Rattle.records.specs.declared.Lessened.TheVariants.{Left}
 use Rattle.records.specs.declared.Record.TheVariants.{Head, Group, Superedge, End}
 use Rattle.records.specs.Records.{group_item, head_item, if_whole, item_in, less_group, less_member, spent, superedge_item}
 use Rattle.records.specs.RecordLaws.{u16-drop}
 use Rattle.compressed.specs.Compressed.{kind_marked}
-use Rattle.reader.specs.declared.Grouped.TheVariants.{Taken}
-use Rattle.reader.specs.declared.Groups.TheVariants.{Whole}
 use Rattle.reader.specs.Decoding.{accepted, body_fits, count_at, counts_fit, ends_at, group_taken, groups_read, least_count, listed_at, members_read, numbers_at, stop_at}
 
 number : (x : ℕ) → x % 256 + 256 * (x / 256) ≡ x
 number x = omega arith
 
 -- each record is read as what it was written for
-head_item_lem : (n m g : ℕ) (r : List ℕ) → item_in (head_record n m g ++ r) ≡ Head n m g
+head_item_lem : (n m g : ℕ) (r : List ℕ) → item_in (head_record n m g ++ r) ≡ Some (Head n m g)
 unfolding item_in is_mark head_item if_whole head_record u16 u16_at
 head_item_lem n m g r =
     let l = head_record n m g ++ r in
     rw (le-ltb (length l) 2 (omega arith), le-leb 8 (length l) (omega arith), number n, number m, number g)
 
-group_item_lem : (q : Bool) (count class : ℕ) (r : List ℕ) → item_in (0x47 ∷ cond q 0x43 0x49 ∷ (u16 count ++ (u16 class ++ r))) ≡ Group q count class
+group_item_lem : (q : Bool) (count class : ℕ) (r : List ℕ) → item_in (0x47 ∷ cond q 0x43 0x49 ∷ (u16 count ++ (u16 class ++ r))) ≡ Some (Group q count class)
 unfolding item_in is_mark group_item if_whole u16 u16_at
 group_item_lem true count class r = let l : List ℕ = 0x47 ∷ 0x43 ∷ (u16 count ++ (u16 class ++ r)) in rw (le-ltb (length l) 2 (omega arith), le-leb 6 (length l) (omega arith), number count, number class)
 group_item_lem false count class r = let l : List ℕ = 0x47 ∷ 0x49 ∷ (u16 count ++ (u16 class ++ r)) in rw (le-ltb (length l) 2 (omega arith), le-leb 6 (length l) (omega arith), number count, number class)
 
-superedge_item_lem : (x : ℕ × ℕ) (r : List ℕ) → item_in (superedge_record x ++ r) ≡ Superedge x.0 x.1
+superedge_item_lem : (x : ℕ × ℕ) (r : List ℕ) → item_in (superedge_record x ++ r) ≡ Some (Superedge x.0 x.1)
 unfolding item_in is_mark superedge_item if_whole superedge_record u16 u16_at
 superedge_item_lem x r =
     let l = superedge_record x ++ r in
     rw (le-ltb (length l) 2 (omega arith), le-leb 6 (length l) (omega arith), number x.0, number x.1)
 
-end_item : item_in end_record ≡ End
+end_item : item_in end_record ≡ Some End
 unfolding item_in is_mark end_record
 end_item = refl
 
 -- members that fit are taken while the counts last
-members_pass : (n : ℕ) (f : ℕ → Bool) (ms : List ℕ) (low : ℕ) (c : Counts) → members_fit n f low ms ≡ true → length ms ≤ c.members → members_read n f low c ms ≡ Left (record { members = c.members - length ms; groups = c.groups })
+members_pass : (n : ℕ) (f : ℕ → Bool) (ms : List ℕ) (low : ℕ) (c : Counts) → members_fit n f low ms ≡ true → length ms ≤ c.members → members_read n f low c ms ≡ Some (record { members = c.members - length ms; groups = c.groups })
 unfolding members_read members_fit less_member
 members_pass n f [] low c t l = let e : c.members - 0 ≡ c.members = omega arith in rw e
 members_pass n f (x ∷ xs) low c t l =
@@ -100,7 +97,7 @@ module _ (n : ℕ) (s : List ℕ) where
     room : at + 6 + 2 * length g.1 ≤ length s
     room = omega (arith, length-drop at s, ap length here, length-append (marked_record g) r, length_marked g)
 
-    item : item_in (drop at s) ≡ Group g.0.clique (length g.1) g.0.class
+    item : item_in (drop at s) ≡ Some (Group g.0.clique (length g.1) g.0.class)
     item = ap item_in here ∙ (unfold marked_record u16 in group_item_lem g.0.clique (length g.1) g.0.class (concat (map u16 g.1) ++ r))
 
     body : drop (at + 6) s ≡ concat (map u16 g.1) ++ r
@@ -130,17 +127,17 @@ module _ (n : ℕ) (s : List ℕ) where
         ap (λ (x : ℕ). drop x s) (sym f) ∙ sym (drop-drop (6 + 2 * length g.1) at s) ∙ ap (drop (6 + 2 * length g.1)) here ∙ drop_at (marked_record g) r (6 + 2 * length g.1) (length_marked g)
 
     group-pass : (f : ℕ → Bool) (low : ℕ) (c : Counts) → group_fits n f low g ≡ true → length g.1 ≤ c.members → 0 < c.groups
-        → group_taken n f low c s at ≡ Taken (kind_marked g.0.clique (length g.1)) g.0.class (head_or 0 g.1) (at + 6 + 2 * length g.1) (record { members = c.members - length g.1; groups = c.groups - 1 })
+        → group_taken n f low c s at ≡ Some (record { kind = kind_marked g.0.clique (length g.1); class = g.0.class; first = head_or 0 g.1; next = at + 6 + 2 * length g.1; left = record { members = c.members - length g.1; groups = c.groups - 1 } })
     group-pass f low c t l some = unfold group_taken less_group in rw (item, (group_parts n f low g t).0, (group_parts n f low g t).1, le-leb (at + 6 + 2 * length g.1) (length s) room, ne_eqb c.groups 0 (λ z. omega arith), members, taken, first (group_some n f low g t))
       where
-        taken : members_read n f low (record { members = c.members; groups = c.groups - 1 }) g.1 ≡ Left (record { members = c.members - length g.1; groups = c.groups - 1 })
+        taken : members_read n f low (record { members = c.members; groups = c.groups - 1 }) g.1 ≡ Some (record { members = c.members - length g.1; groups = c.groups - 1 })
         taken = members_pass n f g.1 low (record { members = c.members; groups = c.groups - 1 }) (group_parts n f low g t).2 l
 
   -- groups that fit are taken while the counts last
   groups-pass : (gs : List (reading.Head × List ℕ)) (f : ℕ → Bool) (low : ℕ) (r : List ℕ) (at : ℕ) (c : Counts) → drop at s ≡ concat (map marked_record gs) ++ r → groups_fit n f low gs ≡ true → c.groups ≡ length gs → c.members ≡ length (members_in gs)
-      → (next : ℕ) × (groups_read n (length gs) f low c s at ≡ Whole next (record { members = 0; groups = 0 })) × (drop next s ≡ r)
+      → (next : ℕ) × (groups_read n (length gs) f low c s at ≡ Some (record { next = next; left = record { members = 0; groups = 0 } })) × (drop next s ≡ r)
   unfolding concat members_in groups_fit
-  groups-pass [] f low r at c here t a b = (at, (unfold groups_read in (λ i. Whole at (record { members = b i; groups = a i }))), here)
+  groups-pass [] f low r at c here t a b = (at, (unfold groups_read in (λ i. Some (record { next = at; left = record { members = b i; groups = a i } }))), here)
   groups-pass (g ∷ gs) f low r at c here t a b =
       let more = groups-pass gs (λ p. member p g.1 || f p) (suc (head_or 0 g.1)) r (at + 6 + 2 * length g.1) left (after g (concat (map marked_record gs) ++ r) at one) (and_snd (group_fits n f low g) _ t) (omega arith) (omega (arith, size)) in
       (more.0, step ∙ more.1, more.2)
@@ -199,7 +196,7 @@ in_order-accepted n gs js t = unfold accepted in rw head (and_true sizes body-fi
     tail : List ℕ
     tail = concat (map superedge_record js) ++ end_record
 
-    head : item_in (file_by n gs js) ≡ Head n (length (members_in gs)) (length gs)
+    head : item_in (file_by n gs js) ≡ Some (Head n (length (members_in gs)) (length gs))
     head = unfold file_by in head_item_lem n m (length gs) (concat (map marked_record gs) ++ tail)
 
     sizes : counts_fit n (length (members_in gs)) (length gs) ≡ true
@@ -211,7 +208,7 @@ in_order-accepted n gs js t = unfold accepted in rw head (and_true sizes body-fi
     long : length js ≤ length s
     long = omega (arith, length-drop 8 s, ap length after_head, length-append (concat (map marked_record gs)) tail, length-append (concat (map superedge_record js)) end_record, length_superedge_records js)
 
-    groups : (next : ℕ) × (groups_read n (length gs) (λ p. false) 0 (record { members = m; groups = length gs }) s 8 ≡ Whole next (record { members = 0; groups = 0 })) × (drop next s ≡ tail)
+    groups : (next : ℕ) × (groups_read n (length gs) (λ p. false) 0 (record { members = m; groups = length gs }) s 8 ≡ Some (record { next = next; left = record { members = 0; groups = 0 } })) × (drop next s ≡ tail)
     groups = groups-pass n s gs (λ p. false) 0 tail 8 (record { members = m; groups = length gs }) after_head parts.1 refl refl
 
     body-fits : body_fits (file_by n gs js) n (length (members_in gs)) (length gs) ≡ true

@@ -1,7 +1,8 @@
 -- An accepted file has the bytes of what it tells, in order, and no others.
 use Rattle.std.proofs.Math.Path.{◌≡◌, refl, sym, ap, ap₂, subst}
 use Rattle.std.proofs.Common.{◌∙◌, inl, inr, length-append, drop-drop, get_or-drop}
-use Rattle.std.specs.Prelude.{Bool, not, ◌&&◌, ◌||◌, ◌⊎◌, eqb, ltb, get_or}
+use Rattle.std.specs.Prelude.{Bool, not, ◌&&◌, ◌||◌, ◌⊎◌, eqb, ltb, get_or, Option, Some, None, option_and_then}
+use Rattle.std.proofs.lemmas.Option.{none-some, same_Some}
 use Rattle.std.proofs.Math.Bool.{true, false, cond}
 use mathlib.Core.List.{List, [], ◌∷◌, ◌++◌, map, append_assoc}
 use Prim.Native.Nat.{ℕ, zero, suc, ◌+◌, ◌*◌, ◌-◌, ◌≤◌}
@@ -18,18 +19,14 @@ use Rattle.model.specs.InOrder.{file_by, follows, group_fits, groups_fit, in_ord
 use Rattle.model.proofs.TestLaws.{and_fst, and_snd, and_true, decide, differ}
 use Rattle.model.proofs.InOrderLaws.{file_count, file_told_groups, file_told_superedges}
 use Rattle.records.specs.declared.Counts.{Counts}
-use Rattle.records.specs.declared.Lessened.{Lessened}
-use Rattle.records.specs.declared.Lessened.TheVariants.{Left, Over}
 use Rattle.records.specs.declared.Record.{Record}
-use Rattle.records.specs.declared.Record.TheVariants.{Head, Group, Superedge, End, Malformed}
+use Rattle.records.specs.declared.Record.TheVariants.{Head, Group, Superedge, End}
 use Rattle.records.specs.Records.{group_item, head_item, if_whole, item_in, less_group, less_member, spent, superedge_item}
 use Rattle.records.specs.RecordLaws.{u16-drop}
 use Rattle.compressed.specs.Compressed.{kind_marked}
-use Rattle.reader.specs.declared.Grouped.{Grouped}
-use Rattle.reader.specs.declared.Grouped.TheVariants.{Taken, Missing}
-use Rattle.reader.specs.declared.Groups.{Groups}
-use Rattle.reader.specs.declared.Groups.TheVariants.{Whole, Broken}
-use Rattle.reader.specs.Decoding.{accepted, body_fits, count_at, counts_fit, ends_at, group_by, group_taken, groups_read, least_count, listed_at, members_read, numbers_at, on_end, on_head, on_less, on_superedge, on_taken, on_whole, stop_at}
+use Rattle.reader.specs.declared.Taken.{Taken}
+use Rattle.reader.specs.declared.Rest.{Rest}
+use Rattle.reader.specs.Decoding.{accepted, body_fits, count_at, counts_fit, ends_at, group_by, group_taken, groups_read, least_count, listed_at, members_read, numbers_at, on_end, on_head, on_superedge, on_whole, stop_at}
 use Rattle.reader.specs.Bytes.{Bytes}
 use Rattle.reader.specs.GroupLaws.{length-numbers}
 
@@ -57,22 +54,22 @@ numbers (suc k) r b h =
     ∙ sym (append_assoc (u16 (u16_at r 0)) (concat (map u16 (u16s k (drop 2 r)))) (drop (2 * suc k) r))
 
 -- a record that was read is written at the front of the bytes
-abbrev Written : List ℕ → Record → Type 0
-Written r (Head n m g) = r ≡ head_record n m g ++ drop 8 r
-Written r (Group q count class) = r ≡ 0x47 ∷ cond q 0x43 0x49 ∷ (u16 count ++ (u16 class ++ drop 6 r))
-Written r (Superedge i j) = r ≡ superedge_record (i, j) ++ drop 6 r
-Written r End = r ≡ end_record ++ drop 2 r
-Written r Malformed = Unit {0}
+abbrev Written : List ℕ → Option Record → Type 0
+Written r (Some (Head n m g)) = r ≡ head_record n m g ++ drop 8 r
+Written r (Some (Group q count class)) = r ≡ 0x47 ∷ cond q 0x43 0x49 ∷ (u16 count ++ (u16 class ++ drop 6 r))
+Written r (Some (Superedge i j)) = r ≡ superedge_record (i, j) ++ drop 6 r
+Written r (Some End) = r ≡ end_record ++ drop 2 r
+Written r None = Unit {0}
 
-whole-written : (r : List ℕ) (size : ℕ) (i : Record) → (size ≤ length r → Written r i) → Written r (if_whole r size i)
+whole-written : (r : List ℕ) (size : ℕ) (i : Record) → (size ≤ length r → Written r (Some i)) → Written r (if_whole r size i)
 unfolding if_whole
 whole-written r size i f = step (decide (leb size (length r)))
   where
-    step : (leb size (length r) ≡ true) ⊎ (leb size (length r) ≡ false) → Written r (cond (leb size (length r)) i Malformed)
+    step : (leb size (length r) ≡ true) ⊎ (leb size (length r) ≡ false) → Written r (cond (leb size (length r)) (Some i) None)
     step (inl t) = rw t (f (leb-true size (length r) t))
     step (inr t) = rw t tt
 
-cond-written : (r : List ℕ) (t : Bool) (i j : Record) → (t ≡ true → Written r i) → (t ≡ false → Written r j) → Written r (cond t i j)
+cond-written : (r : List ℕ) (t : Bool) (i j : Option Record) → (t ≡ true → Written r i) → (t ≡ false → Written r j) → Written r (cond t i j)
 cond-written r true i j f g = f refl
 cond-written r false i j f g = g refl
 
@@ -101,41 +98,41 @@ module _ (r : List ℕ) (b : Bytes r) where
   item-written : Written r (item_in r)
   unfolding item_in superedge_item group_item head_item
   item-written =
-      cond-written r (ltb (length r) 2) Malformed _ (λ t. tt) (λ room.
+      cond-written r (ltb (length r) 2) None _ (λ t. tt) (λ room.
       cond-written r (is_mark r 0x53 0x45) (superedge_item r) _ (λ t. whole-written r 6 (Superedge (u16_at r 2) (u16_at r 4)) (superedge-written t)) (λ _.
       cond-written r (is_mark r 0x47 0x49) (group_item false r) _ (λ t. whole-written r 6 (Group false (u16_at r 2) (u16_at r 4)) (group-written 0x49 t)) (λ _.
       cond-written r (is_mark r 0x47 0x43) (group_item true r) _ (λ t. whole-written r 6 (Group true (u16_at r 2) (u16_at r 4)) (group-written 0x43 t)) (λ _.
       cond-written r (is_mark r 0x48 0x44) (head_item r) _ (λ t. whole-written r 8 (Head (u16_at r 2) (u16_at r 4) (u16_at r 6)) (head-written t)) (λ _.
-      cond-written r (is_mark r 0x45 0x4E) End Malformed (λ t. end-written t (ltb-false (length r) 2 room)) (λ _. tt))))))
+      cond-written r (is_mark r 0x45 0x4E) (Some End) None (λ t. end-written t (ltb-false (length r) 2 room)) (λ _. tt))))))
 
 -- members that were taken fit, and are counted
-members_counted : (n : ℕ) (f : ℕ → Bool) (ms : List ℕ) (low : ℕ) (c d : Counts) → members_read n f low c ms ≡ Left d → (members_fit n f low ms ≡ true) × (c.members ≡ length ms + d.members)
+members_counted : (n : ℕ) (f : ℕ → Bool) (ms : List ℕ) (low : ℕ) (c d : Counts) → members_read n f low c ms ≡ Some d → (members_fit n f low ms ≡ true) × (c.members ≡ length ms + d.members)
 unfolding members_read members_fit
-members_counted n f [] low c d e = let g : c ≡ d = cc in (refl, omega (arith, ap (λ (x : Counts). x.members) g))
+members_counted n f [] low c d e = let g : c ≡ d = same_Some c d e in (refl, omega (arith, ap (λ (x : Counts). x.members) g))
 members_counted n f (x ∷ xs) low c d e = fits (members_counted n f xs (suc x)) (decide (leb low x && (ltb x n && not (f x)))) e
   where
     Below : Type 0
-    Below = (y z : Counts) → members_read n f (suc x) y xs ≡ Left z → (members_fit n f (suc x) xs ≡ true) × (y.members ≡ length xs + z.members)
+    Below = (y z : Counts) → members_read n f (suc x) y xs ≡ Some z → (members_fit n f (suc x) xs ≡ true) × (y.members ≡ length xs + z.members)
 
     Goal : Type 0
     Goal = ((leb low x && (ltb x n && (not (f x) && members_fit n f (suc x) xs))) ≡ true) × (c.members ≡ suc (length xs) + d.members)
 
-    none : {X : Type 0} → Over ≡ Left d → X
-    none g = let z : ◌≡◌ {A = ℕ} 0 1 = cc in absurd (omega arith)
+    none : {X : Type 0} → None ≡ Some d → X
+    none g = absurd (none-some d g)
 
-    one : Below → (leb low x && (ltb x n && not (f x))) ≡ true → (eqb c.members 0 ≡ true) ⊎ (eqb c.members 0 ≡ false) → on_less (cond (eqb c.members 0) Over (Left (record { members = c.members - 1; groups = c.groups }))) (λ y. members_read n f (suc x) y xs) Over ≡ Left d → Goal
+    one : Below → (leb low x && (ltb x n && not (f x))) ≡ true → (eqb c.members 0 ≡ true) ⊎ (eqb c.members 0 ≡ false) → option_and_then (λ y. members_read n f (suc x) y xs) (cond (eqb c.members 0) None (Some (record { members = c.members - 1; groups = c.groups }))) ≡ Some d → Goal
     one below t (inl u) g = none (rw u at g)
     one below t (inr u) g =
         let more = below (record { members = c.members - 1; groups = c.groups }) d (rw u at g) in
         let v : (ltb x n && not (f x)) ≡ true = and_snd (leb low x) _ t in
         (and_true (and_fst (leb low x) _ t) (and_true (and_fst (ltb x n) _ v) (and_true (and_snd (ltb x n) _ v) more.0)), omega (arith, eqb-false c.members 0 u, more.1))
 
-    fits : Below → ((leb low x && (ltb x n && not (f x))) ≡ true) ⊎ ((leb low x && (ltb x n && not (f x))) ≡ false) → cond (leb low x && (ltb x n && not (f x))) (on_less (less_member c) (λ y. members_read n f (suc x) y xs) Over) Over ≡ Left d → Goal
+    fits : Below → ((leb low x && (ltb x n && not (f x))) ≡ true) ⊎ ((leb low x && (ltb x n && not (f x))) ≡ false) → cond (leb low x && (ltb x n && not (f x))) (option_and_then (λ y. members_read n f (suc x) y xs) (less_member c)) None ≡ Some d → Goal
     fits below (inl t) g = one below t (decide (eqb c.members 0)) (unfold less_member in rw t at g)
     fits below (inr t) g = none (rw t at g)
 
 -- the count in a group record, and its first number
-group-count : (r : List ℕ) (q : Bool) (count class : ℕ) → Written r (Group q count class) → count ≡ u16_at r 2
+group-count : (r : List ℕ) (q : Bool) (count class : ℕ) → Written r (Some (Group q count class)) → count ≡ u16_at r 2
 group-count r q count class w = sym (ap (λ (x : List ℕ). u16_at x 2) w ∙ back)
   where
     back : u16_at (0x47 ∷ cond q 0x43 0x49 ∷ (u16 count ++ (u16 class ++ drop 6 r))) 2 ≡ count
@@ -158,23 +155,23 @@ some_members false k t = leb-true 1 k t
 -- a group that was taken: its record fits, and stands at its place
 record GroupIn (n : ℕ) (f : ℕ → Bool) (low : ℕ) (c : Counts) (s : List ℕ) (at first next : ℕ) (d : Counts) : Type 0 where
   head : reading.Head
-  item : item_in (drop at s) ≡ Group head.clique (count_at s at) head.class
+  item : item_in (drop at s) ≡ Some (Group head.clique (count_at s at) head.class)
   room : at + 6 + 2 * count_at s at ≤ length s
   after : next ≡ at + 6 + 2 * count_at s at
   lead : first ≡ head_or 0 (listed_at s at)
   fits : group_fits n f low (head, listed_at s at) ≡ true
   members : c.members ≡ length (listed_at s at) + d.members
 
-module _ (n : ℕ) (f : ℕ → Bool) (low : ℕ) (c : Counts) (s : List ℕ) (b : Bytes s) (at kind class first next : ℕ) (d : Counts) where
+module _ (n : ℕ) (f : ℕ → Bool) (low : ℕ) (c : Counts) (s : List ℕ) (b : Bytes s) (at : ℕ) (a : Taken) where
   abbrev many : ℕ
   many = count_at s at
 
-  taken_in : group_taken n f low c s at ≡ Taken kind class first next d → GroupIn n f low c s at first next d
+  taken_in : group_taken n f low c s at ≡ Some a → GroupIn n f low c s at a.first a.next a.left
   unfolding group_taken
   taken_in e = by_kind (item_in (drop at s)) refl (item-written (drop at s) (bytes_after_lem s at b)) e
     where
-      none : {X : Type 0} → Missing ≡ Taken kind class first next d → X
-      none g = let z : ◌≡◌ {A = ℕ} 0 1 = cc in absurd (omega arith)
+      none : {X : Type 0} → None ≡ Some a → X
+      none g = absurd (none-some a g)
 
       -- the tests that a group passes before its members are read
       Passed : Bool → ℕ → Type 0
@@ -183,25 +180,26 @@ module _ (n : ℕ) (f : ℕ → Bool) (low : ℕ) (c : Counts) (s : List ℕ) (b
       enough : (q : Bool) → leb (least_count q) many ≡ true → leb (cond q 2 1) (length (listed_at s at)) ≡ true
       enough q l = unfold least_count in rw (length-listed s at) l
 
-      by_members : (q : Bool) (k : ℕ) (y : Counts) (o : Lessened) → members_read n f low y (listed_at s at) ≡ o → y.members ≡ c.members → item_in (drop at s) ≡ Group q many k → Passed q k
-          → on_less o (λ z. Taken (kind_marked q many) k (u16_at s (at + 6)) (at + 6 + 2 * many) z) Missing ≡ Taken kind class first next d → GroupIn n f low c s at first next d
-      by_members q k y (Left z) h m i l u =
+      by_members : (q : Bool) (k : ℕ) (y : Counts) (o : Option Counts) → members_read n f low y (listed_at s at) ≡ o → y.members ≡ c.members → item_in (drop at s) ≡ Some (Group q many k) → Passed q k
+          → option_and_then (λ z. Some (record { kind = kind_marked q many; class = k; first = u16_at s (at + 6); next = at + 6 + 2 * many; left = z })) o ≡ Some a → GroupIn n f low c s at a.first a.next a.left
+      by_members q k y (Some z) h m i l u =
           let told = members_counted n f (listed_at s at) low y z h in
-          let led : first ≡ u16_at s (at + 6) = cc in
-          let left : z ≡ d = cc in
+          let same : a ≡ record { kind = kind_marked q many; class = k; first = u16_at s (at + 6); next = at + 6 + 2 * many; left = z } = sym (same_Some _ a u) in
+          let led : a.first ≡ u16_at s (at + 6) = ap (λ (x : Taken). x.first) same in
+          let left : z ≡ a.left = sym (ap (λ (x : Taken). x.left) same) in
           record {
             head = record { clique = q; class = k };
             item = i;
             room = l.2;
-            after = cc;
+            after = ap (λ (x : Taken). x.next) same;
             lead = led ∙ (unfold listed_at in first_number s (at + 6) many (some_members q many l.1));
             fits = unfold group_fits in and_true l.0 (and_true (enough q l.1) told.0);
             members = sym m ∙ told.1 ∙ ap (λ (x : Counts). length (listed_at s at) + x.members) left;
           }
-      by_members q k y Over h m i l u = none u
+      by_members q k y None h m i l u = none u
 
-      by_less : (q : Bool) (k : ℕ) → item_in (drop at s) ≡ Group q many k → Passed q k → (eqb c.groups 0 ≡ true) ⊎ (eqb c.groups 0 ≡ false)
-          → on_less (cond (eqb c.groups 0) Over (Left (record { members = c.members; groups = c.groups - 1 }))) (λ y. on_less (members_read n f low y (numbers_at s (at + 6) many)) (λ z. Taken (kind_marked q many) k (u16_at s (at + 6)) (at + 6 + 2 * many) z) Missing) Missing ≡ Taken kind class first next d → GroupIn n f low c s at first next d
+      by_less : (q : Bool) (k : ℕ) → item_in (drop at s) ≡ Some (Group q many k) → Passed q k → (eqb c.groups 0 ≡ true) ⊎ (eqb c.groups 0 ≡ false)
+          → option_and_then (λ y. option_and_then (λ z. Some (record { kind = kind_marked q many; class = k; first = u16_at s (at + 6); next = at + 6 + 2 * many; left = z })) (members_read n f low y (numbers_at s (at + 6) many))) (cond (eqb c.groups 0) None (Some (record { members = c.members; groups = c.groups - 1 }))) ≡ Some a → GroupIn n f low c s at a.first a.next a.left
       by_less q k i l (inl t) u = none (rw t at u)
       by_less q k i l (inr t) u = by_members q k (record { members = c.members; groups = c.groups - 1 }) (members_read n f low (record { members = c.members; groups = c.groups - 1 }) (listed_at s at)) refl refl i l (unfold listed_at in rw t at u)
 
@@ -210,18 +208,18 @@ module _ (n : ℕ) (f : ℕ → Bool) (low : ℕ) (c : Counts) (s : List ℕ) (b
           let v = and_snd (ltb k max_classes) (leb (least_count q) many && leb (at + 6 + 2 * many) (length s)) t in
           (and_fst (ltb k max_classes) _ t, and_fst (leb (least_count q) many) _ v, leb-true (at + 6 + 2 * many) (length s) (and_snd (leb (least_count q) many) _ v))
 
-      by-room : (q : Bool) (k : ℕ) → item_in (drop at s) ≡ Group q many k → ((ltb k max_classes && (leb (least_count q) many && leb (at + 6 + 2 * many) (length s))) ≡ true) ⊎ ((ltb k max_classes && (leb (least_count q) many && leb (at + 6 + 2 * many) (length s))) ≡ false) → group_by n f low c s at (Group q many k) ≡ Taken kind class first next d → GroupIn n f low c s at first next d
+      by-room : (q : Bool) (k : ℕ) → item_in (drop at s) ≡ Some (Group q many k) → ((ltb k max_classes && (leb (least_count q) many && leb (at + 6 + 2 * many) (length s))) ≡ true) ⊎ ((ltb k max_classes && (leb (least_count q) many && leb (at + 6 + 2 * many) (length s))) ≡ false) → group_by n f low c s at (Some (Group q many k)) ≡ Some a → GroupIn n f low c s at a.first a.next a.left
       by-room q k i (inl t) u = by_less q k i (passed q k t) (decide (eqb c.groups 0)) (unfold less_group in rw t at u)
       by-room q k i (inr t) u = none (rw t at u)
 
-      by_kind : (i : Record) → item_in (drop at s) ≡ i → Written (drop at s) i → group_by n f low c s at i ≡ Taken kind class first next d → GroupIn n f low c s at first next d
-      by_kind (Group q m k) i w u =
+      by_kind : (i : Option Record) → item_in (drop at s) ≡ i → Written (drop at s) i → group_by n f low c s at i ≡ Some a → GroupIn n f low c s at a.first a.next a.left
+      by_kind (Some (Group q m k)) i w u =
           let g : m ≡ many = unfold count_at in (group-count (drop at s) q m k w ∙ u16-drop s at 2) in
-          by-room q k (i ∙ ap (λ (x : ℕ). Group q x k) g) (decide (ltb k max_classes && (leb (least_count q) many && leb (at + 6 + 2 * many) (length s)))) (rw g at u)
-      by_kind (Head x y z) i w k = none k
-      by_kind (Superedge x y) i w k = none k
-      by_kind End i w k = none k
-      by_kind Malformed i w k = none k
+          by-room q k (i ∙ ap (λ (x : ℕ). Some (Group q x k)) g) (decide (ltb k max_classes && (leb (least_count q) many && leb (at + 6 + 2 * many) (length s)))) (rw g at u)
+      by_kind (Some (Head x y z)) i w k = none k
+      by_kind (Some (Superedge x y)) i w k = none k
+      by_kind (Some End) i w k = none k
+      by_kind None i w k = none k
 
 -- records one after the other
 more_bytes : (g : reading.Head × List ℕ) (gs : List (reading.Head × List ℕ)) (r : List ℕ) → concat (map marked_record (g ∷ gs)) ++ r ≡ marked_record g ++ (concat (map marked_record gs) ++ r)
@@ -260,10 +258,10 @@ no_superedges g last s at = record { pairs = []; fits = refl; bytes = refl }
 
 module _ (s : List ℕ) (b : Bytes s) where
   -- one group
-  group-here : (at : ℕ) (h : reading.Head) → item_in (drop at s) ≡ Group h.clique (count_at s at) h.class → at + 6 + 2 * count_at s at ≤ length s → drop at s ≡ marked_record (h, listed_at s at) ++ drop (at + 6 + 2 * count_at s at) s
+  group-here : (at : ℕ) (h : reading.Head) → item_in (drop at s) ≡ Some (Group h.clique (count_at s at) h.class) → at + 6 + 2 * count_at s at ≤ length s → drop at s ≡ marked_record (h, listed_at s at) ++ drop (at + 6 + 2 * count_at s at) s
   unfolding marked_record listed_at numbers_at
   group-here at h i room =
-      let w : Written (drop at s) (Group h.clique (count_at s at) h.class) = subst (Written (drop at s)) i (item-written (drop at s) (bytes_after_lem s at b)) in
+      let w : Written (drop at s) (Some (Group h.clique (count_at s at) h.class)) = subst (Written (drop at s)) i (item-written (drop at s) (bytes_after_lem s at b)) in
       let f : drop (at + 6) s ≡ concat (map u16 (u16s (count_at s at) (drop (at + 6) s))) ++ drop (at + 6 + 2 * count_at s at) s =
       numbers (count_at s at) (drop (at + 6) s) (bytes_after_lem s (at + 6) b) (omega (arith, length-drop (at + 6) s)) ∙ ap (λ (x : List ℕ). concat (map u16 (u16s (count_at s at) (drop (at + 6) s))) ++ x) (drop-drop (2 * count_at s at) (at + 6) s) in
       w
@@ -277,21 +275,20 @@ module _ (s : List ℕ) (b : Bytes s) where
       rest : List ℕ
       rest = drop (at + 6 + 2 * count_at s at) s
 
-  groups-in : (n k : ℕ) (f : ℕ → Bool) (low : ℕ) (c : Counts) (at next : ℕ) (left : Counts) → groups_read n k f low c s at ≡ Whole next left → GroupsIn n k f low c s at next left
-  groups-in n zero f low c at next left e =
-      let g : at ≡ next = unfold groups_read in cc in
-      let h : c ≡ left = unfold groups_read in cc in
-      subst (λ (x : ℕ). GroupsIn n 0 f low c s at x left) g (subst (λ (x : Counts). GroupsIn n 0 f low c s at at x) h (no_groups n f low c s at))
-  groups-in n (suc k) f low c at next left e = by_group (group_taken n f low c s at) refl (λ g x d y. groups-in n k g x d y next left) (unfold groups_read in e)
+  groups-in : (n k : ℕ) (f : ℕ → Bool) (low : ℕ) (c : Counts) (at : ℕ) (a : Rest) → groups_read n k f low c s at ≡ Some a → GroupsIn n k f low c s at a.next a.left
+  groups-in n zero f low c at a e =
+      let same : record { next = at; left = c } ≡ a = same_Some (record { next = at; left = c }) a (unfold groups_read in e) in
+      subst (λ (x : Rest). GroupsIn n 0 f low c s at x.next x.left) same (no_groups n f low c s at)
+  groups-in n (suc k) f low c at a e = by_group (group_taken n f low c s at) refl (λ g x d y. groups-in n k g x d y a) (unfold groups_read in e)
     where
       Below : Type 0
-      Below = (g : ℕ → Bool) (x : ℕ) (d : Counts) (y : ℕ) → groups_read n k g x d s y ≡ Whole next left → GroupsIn n k g x d s y next left
+      Below = (g : ℕ → Bool) (x : ℕ) (d : Counts) (y : ℕ) → groups_read n k g x d s y ≡ Some a → GroupsIn n k g x d s y a.next a.left
 
-      by_group : (g : Grouped) → group_taken n f low c s at ≡ g → Below → on_taken g (λ first x d. groups_read n k (λ p. member p (listed_at s at) || f p) (suc first) d s x) ≡ Whole next left → GroupsIn n (suc k) f low c s at next left
-      by_group Missing h below u = let z : ◌≡◌ {A = ℕ} 0 1 = cc in absurd (omega arith)
-      by_group (Taken kind class first x d) h below u =
-          let one : GroupIn n f low c s at first x d = taken_in n f low c s b at kind class first x d h in
-          let more : GroupsIn n k (λ p. member p (listed_at s at) || f p) (suc first) d s x next left = below (λ p. member p (listed_at s at) || f p) (suc first) d x u in
+      by_group : (g : Option Taken) → group_taken n f low c s at ≡ g → Below → option_and_then (λ t. groups_read n k (λ p. member p (listed_at s at) || f p) (suc t.first) t.left s t.next) g ≡ Some a → GroupsIn n (suc k) f low c s at a.next a.left
+      by_group None h below u = absurd (none-some a u)
+      by_group (Some t) h below u =
+          let one : GroupIn n f low c s at t.first t.next t.left = taken_in n f low c s b at t h in
+          let more : GroupsIn n k (λ p. member p (listed_at s at) || f p) (suc t.first) t.left s t.next a.next a.left = below (λ p. member p (listed_at s at) || f p) (suc t.first) t.left t.next u in
           let g : reading.Head × List ℕ = (one.head, listed_at s at) in
           record {
             groups = g ∷ more.groups;
@@ -300,7 +297,7 @@ module _ (s : List ℕ) (b : Bytes s) where
             bytes =
                 group-here at one.head one.item one.room
                 ∙ ap (λ (y : List ℕ). marked_record g ++ y) (ap (λ (y : ℕ). drop y s) (sym one.after) ∙ more.bytes)
-                ∙ sym (more_bytes g more.groups (drop next s));
+                ∙ sym (more_bytes g more.groups (drop a.next s));
             members = omega (arith, one.members, more.members, more_members g more.groups);
           }
 
@@ -312,7 +309,7 @@ module _ (s : List ℕ) (b : Bytes s) where
       Below : Type 0
       Below = (last at : ℕ) → SuperedgesIn g last s at (stop_at g s last k at)
 
-      by_order : (i j : ℕ) → Written (drop at s) (Superedge i j) → Below → (follows g last i j ≡ true) ⊎ (follows g last i j ≡ false) → SuperedgesIn g last s at (cond (follows g last i j) (stop_at g s (pair_key i j) k (at + 6)) at)
+      by_order : (i j : ℕ) → Written (drop at s) (Some (Superedge i j)) → Below → (follows g last i j ≡ true) ⊎ (follows g last i j ≡ false) → SuperedgesIn g last s at (cond (follows g last i j) (stop_at g s (pair_key i j) k (at + 6)) at)
       by_order i j w below (inl t) =
           let more : SuperedgesIn g (pair_key i j) s (at + 6) (stop_at g s (pair_key i j) k (at + 6)) = below (pair_key i j) (at + 6) in
           rw t
@@ -323,12 +320,12 @@ module _ (s : List ℕ) (b : Bytes s) where
           })
       by_order i j w below (inr t) = rw t (no_superedges g last s at)
 
-      by_kind : (i : Record) → Written (drop at s) i → Below → SuperedgesIn g last s at (on_superedge i (λ i j. cond (follows g last i j) (stop_at g s (pair_key i j) k (at + 6)) at) at)
-      by_kind (Superedge i j) w below = by_order i j w below (decide (follows g last i j))
-      by_kind End w below = no_superedges g last s at
-      by_kind (Head x y z) w below = no_superedges g last s at
-      by_kind (Group x y z) w below = no_superedges g last s at
-      by_kind Malformed w below = no_superedges g last s at
+      by_kind : (i : Option Record) → Written (drop at s) i → Below → SuperedgesIn g last s at (on_superedge i (λ i j. cond (follows g last i j) (stop_at g s (pair_key i j) k (at + 6)) at) at)
+      by_kind (Some (Superedge i j)) w below = by_order i j w below (decide (follows g last i j))
+      by_kind (Some End) w below = no_superedges g last s at
+      by_kind (Some (Head x y z)) w below = no_superedges g last s at
+      by_kind (Some (Group x y z)) w below = no_superedges g last s at
+      by_kind None w below = no_superedges g last s at
 
   -- the end of the file
   end-here : (c : Counts) (at : ℕ) → ends_at c s at ≡ true → (c.members ≡ 0) × (drop at s ≡ end_record)
@@ -338,15 +335,15 @@ module _ (s : List ℕ) (b : Bytes s) where
       alone : (r : List ℕ) → r ≡ [] → end_record ++ r ≡ end_record
       alone r e = unfold end_record in rw e
 
-      by_kind : (i : Record) → Written (drop at s) i → on_end i (spent c && eqb (at + 2) (length s)) ≡ true → (c.members ≡ 0) × (drop at s ≡ end_record)
-      by_kind End w u =
+      by_kind : (i : Option Record) → Written (drop at s) i → on_end i (spent c && eqb (at + 2) (length s)) ≡ true → (c.members ≡ 0) × (drop at s ≡ end_record)
+      by_kind (Some End) w u =
           let none : (eqb c.members 0 && eqb c.groups 0) ≡ true = unfold spent in and_fst (spent c) _ u in
           let last : at + 2 ≡ length s = eqb-true (at + 2) (length s) (and_snd (spent c) _ u) in
           (eqb-true c.members 0 (and_fst (eqb c.members 0) _ none), w ∙ alone (drop 2 (drop at s)) (drop-drop 2 at s ∙ drop_of_length-le s {i = at + 2} (omega arith)))
-      by_kind (Superedge x y) w u = differ u refl
-      by_kind (Head x y z) w u = differ u refl
-      by_kind (Group x y z) w u = differ u refl
-      by_kind Malformed w u = differ u refl
+      by_kind (Some (Superedge x y)) w u = differ u refl
+      by_kind (Some (Head x y z)) w u = differ u refl
+      by_kind (Some (Group x y z)) w u = differ u refl
+      by_kind None w u = differ u refl
 
   -- the whole file
   abbrev FileIn : Type 0
@@ -356,7 +353,7 @@ module _ (s : List ℕ) (b : Bytes s) where
   unfolding accepted
   file-in t = by_kind (item_in s) (item-written s b) t
     where
-      by_parts : (n m g next : ℕ) (left : Counts) → Written s (Head n m g) → n ≤ max_nodes → GroupsIn n g (λ p. false) 0 (record { members = m; groups = g }) s 8 next left → SuperedgesIn g 0 s next (stop_at g s 0 (length s) next) → (left.members ≡ 0) × (drop (stop_at g s 0 (length s) next) s ≡ end_record) → FileIn
+      by_parts : (n m g next : ℕ) (left : Counts) → Written s (Some (Head n m g)) → n ≤ max_nodes → GroupsIn n g (λ p. false) 0 (record { members = m; groups = g }) s 8 next left → SuperedgesIn g 0 s next (stop_at g s 0 (length s) next) → (left.members ≡ 0) × (drop (stop_at g s 0 (length s) next) s ≡ end_record) → FileIn
       by_parts n m g next left w small gs js end = (
         n,
         gs.groups,
@@ -372,19 +369,19 @@ module _ (s : List ℕ) (b : Bytes s) where
           total : m ≡ length (members_in gs.groups)
           total = omega (arith, gs.members, end.0)
 
-      by_groups : (n m g : ℕ) (r : Groups) → groups_read n g (λ p. false) 0 (record { members = m; groups = g }) s 8 ≡ r → Written s (Head n m g) → n ≤ max_nodes → on_whole r (λ next left. ends_at left s (stop_at g s 0 (length s) next)) ≡ true → FileIn
-      by_groups n m g (Whole next left) e w small u = by_parts n m g next left w small (groups-in n g (λ p. false) 0 (record { members = m; groups = g }) 8 next left e) (superedges-in g (length s) 0 next) (end-here left (stop_at g s 0 (length s) next) u)
-      by_groups n m g Broken e w small u = differ u refl
+      by_groups : (n m g : ℕ) (r : Option Rest) → groups_read n g (λ p. false) 0 (record { members = m; groups = g }) s 8 ≡ r → Written s (Some (Head n m g)) → n ≤ max_nodes → on_whole r (λ next left. ends_at left s (stop_at g s 0 (length s) next)) ≡ true → FileIn
+      by_groups n m g (Some a) e w small u = by_parts n m g a.next a.left w small (groups-in n g (λ p. false) 0 (record { members = m; groups = g }) 8 a e) (superedges-in g (length s) 0 a.next) (end-here a.left (stop_at g s 0 (length s) a.next) u)
+      by_groups n m g None e w small u = differ u refl
 
-      by_kind : (i : Record) → Written s i → on_head i (λ n m g. counts_fit n m g && body_fits s n m g) false ≡ true → FileIn
-      by_kind (Head n m g) w u =
+      by_kind : (i : Option Record) → Written s i → on_head i (λ n m g. counts_fit n m g && body_fits s n m g) false ≡ true → FileIn
+      by_kind (Some (Head n m g)) w u =
           by_groups n m g (groups_read n g (λ p. false) 0 (record { members = m; groups = g }) s 8) refl w
           (leb-true n max_nodes (and_fst (leb n max_nodes) (leb m n && leb g m) (unfold counts_fit in and_fst (counts_fit n m g) (body_fits s n m g) u)))
           (unfold body_fits in and_snd (counts_fit n m g) (body_fits s n m g) u)
-      by_kind (Group x y z) w u = differ u refl
-      by_kind (Superedge x y) w u = differ u refl
-      by_kind End w u = differ u refl
-      by_kind Malformed w u = differ u refl
+      by_kind (Some (Group x y z)) w u = differ u refl
+      by_kind (Some (Superedge x y)) w u = differ u refl
+      by_kind (Some End) w u = differ u refl
+      by_kind None w u = differ u refl
 
 pub accepted-in_order : (s : List ℕ) → Bytes s → accepted s ≡ true → (in_order (u16_at s 2) (told_groups s) (told_superedges s) ≡ true) × (s ≡ file_by (u16_at s 2) (told_groups s) (told_superedges s))
 accepted-in_order s b t = step (file-in s b t)

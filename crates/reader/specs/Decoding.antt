@@ -1,5 +1,5 @@
 -- A release file read record by record: what is taken, what is left of the counts, and what the file tells.
-use Rattle.std.specs.Prelude.{◌≡◌, Bool, true, false, not, ◌&&◌, ◌||◌, cond, List, [], ◌∷◌, ℕ, zero, suc, ◌+◌, ◌*◌, ◌-◌, ◌/◌, ◌≤◌, ◌<◌, eqb, ltb, leb, length, get_or, drop, replicate}
+use Rattle.std.specs.Prelude.{◌≡◌, Bool, true, false, not, ◌&&◌, ◌||◌, cond, List, [], ◌∷◌, ℕ, zero, suc, ◌+◌, ◌*◌, ◌-◌, ◌/◌, ◌≤◌, ◌<◌, eqb, ltb, leb, length, get_or, drop, replicate, Option, Some, None, option_and_then}
 use Rattle.model.specs.Lists.{head_or, member}
 use Rattle.model.specs.Graph.{max_classes, max_nodes, row_words}
 use Rattle.model.specs.Reading.{after_groups, groups_at, superedges_at, u16_at, u16s}
@@ -7,10 +7,8 @@ use Rattle.model.specs.Reading as reading
 use Rattle.model.specs.Release.{u16_limit}
 use Rattle.model.specs.InOrder.{follows, pair_key, told_groups, told_superedges}
 use Rattle.records.specs.declared.Counts.{Counts}
-use Rattle.records.specs.declared.Lessened.{Lessened}
-use Rattle.records.specs.declared.Lessened.TheVariants.{Left, Over}
 use Rattle.records.specs.declared.Record.{Record}
-use Rattle.records.specs.declared.Record.TheVariants.{Head, Group, Superedge, End, Malformed}
+use Rattle.records.specs.declared.Record.TheVariants.{Head, Group, Superedge, End}
 use Rattle.records.specs.Records.{item_in, less_group, less_member, record_at, spent}
 use Rattle.drawing.specs.Drawing.{Added, Adding, pair_bits}
 use Rattle.mirroring.specs.Mirroring.{StripsFor}
@@ -18,17 +16,8 @@ use Rattle.rows.specs.Rows.{leads, no_node}
 use Rattle.compressed.specs.Compressed.{Told, class_of, first_at, first_member_of, kind_in, kind_marked, led_by, single}
 use Rattle.sums.specs.Joined.{JoinedSummed, SumsAdded, SumsAdding, pair_cubes}
 use Rattle.sums.specs.Sums.{Cubed}
-use Rattle.reader.specs.declared.Grouped.{Grouped}
-use Rattle.reader.specs.declared.Grouped.TheVariants.{Taken, Missing}
-use Rattle.reader.specs.declared.Groups.{Groups}
-use Rattle.reader.specs.declared.Groups.TheVariants.{Whole, Broken}
-use Rattle.reader.specs.declared.Decoded.{Decoded}
-use Rattle.reader.specs.declared.Decoded.TheVariants as answer
-
--- what is done with lessened counts, or without
-abbrev pub on_less : {A : Type 0} → Lessened → (Counts → A) → A → A
-on_less (Left c) f a = f c
-on_less Over f a = a
+use Rattle.reader.specs.declared.Taken.{Taken}
+use Rattle.reader.specs.declared.Rest.{Rest}
 
 -- count numbers from a place on
 unfoldable pub numbers_at : List ℕ → ℕ → ℕ → List ℕ
@@ -57,9 +46,9 @@ unfoldable pub taken : List ℕ → ℕ → Bool
 taken least p = not (eqb (get_or least p 0) no_node)
 
 -- members taken one after the other: nodes of no group, ascending from low on, and one member less is left
-unfoldable pub members_read : ℕ → (ℕ → Bool) → ℕ → Counts → List ℕ → Lessened
-members_read n f low c [] = Left c
-members_read n f low c (x ∷ xs) = cond (leb low x && (ltb x n && not (f x))) (on_less (less_member c) (λ d. members_read n f (suc x) d xs) Over) Over
+unfoldable pub members_read : ℕ → (ℕ → Bool) → ℕ → Counts → List ℕ → Option Counts
+members_read n f low c [] = Some c
+members_read n f low c (x ∷ xs) = cond (leb low x && (ltb x n && not (f x))) (option_and_then (λ d. members_read n f (suc x) d xs) (less_member c)) None
 
 -- the members have l, everybody else is as before
 pub record LeastPut (ms : List ℕ) (l : ℕ) (t after : List ℕ) : Type 0 where
@@ -72,38 +61,34 @@ pub record LeastPutting (l : ℕ) (all rest : List ℕ) (low : ℕ) (t now : Lis
   pub least : (p : ℕ) → cond (member p rest) l (get_or now p 0) ≡ cond (member p all) l (get_or t p 0)
   pub above : (p : ℕ) → low ≤ p → get_or now p 0 ≡ get_or t p 0
 
-pub record MembersRead (n low : ℕ) (c : Counts) (ms t after : List ℕ) (r : Lessened) : Type 0 where
+pub record MembersRead (n low : ℕ) (c : Counts) (ms t after : List ℕ) (r : Option Counts) : Type 0 where
   pub result : r ≡ members_read n (taken t) low c ms
   pub size : length after ≡ length t
-  pub put : (d : Counts) → r ≡ Left d → LeastPut ms (head_or 0 ms) t after
+  pub put : (d : Counts) → r ≡ Some d → LeastPut ms (head_or 0 ms) t after
 
 -- a group record taken, with its members
-abbrev pub group_by : ℕ → (ℕ → Bool) → ℕ → Counts → List ℕ → ℕ → Record → Grouped
-group_by n f low c s at (Group clique count class) =
+abbrev pub group_by : ℕ → (ℕ → Bool) → ℕ → Counts → List ℕ → ℕ → Option Record → Option Taken
+group_by n f low c s at (Some (Group clique count class)) =
     cond (ltb class max_classes && (leb (least_count clique) count && leb (at + 6 + 2 * count) (length s)))
-    (on_less (less_group c) (λ d. on_less (members_read n f low d (numbers_at s (at + 6) count)) (λ e. Taken (kind_marked clique count) class (u16_at s (at + 6)) (at + 6 + 2 * count) e) Missing) Missing)
-    Missing
-group_by n f low c s at (Head x y z) = Missing
-group_by n f low c s at (Superedge x y) = Missing
-group_by n f low c s at End = Missing
-group_by n f low c s at Malformed = Missing
+    (option_and_then (λ d. option_and_then (λ e. Some (record { kind = kind_marked clique count; class = class; first = u16_at s (at + 6); next = at + 6 + 2 * count; left = e })) (members_read n f low d (numbers_at s (at + 6) count))) (less_group c))
+    None
+group_by n f low c s at (Some (Head x y z)) = None
+group_by n f low c s at (Some (Superedge x y)) = None
+group_by n f low c s at (Some End) = None
+group_by n f low c s at None = None
 
-unfoldable pub group_taken : ℕ → (ℕ → Bool) → ℕ → Counts → List ℕ → ℕ → Grouped
+unfoldable pub group_taken : ℕ → (ℕ → Bool) → ℕ → Counts → List ℕ → ℕ → Option Taken
 group_taken n f low c s at = group_by n f low c s at (item_in (drop at s))
 
-pub record GroupTaken (n low : ℕ) (c : Counts) (s : List ℕ) (at : ℕ) (t after : List ℕ) (r : Grouped) : Type 0 where
+pub record GroupTaken (n low : ℕ) (c : Counts) (s : List ℕ) (at : ℕ) (t after : List ℕ) (r : Option Taken) : Type 0 where
   pub result : r ≡ group_taken n (taken t) low c s at
   pub size : length after ≡ length t
-  pub put : (kind class first next : ℕ) (d : Counts) → r ≡ Taken kind class first next d → LeastPut (listed_at s at) first t after
+  pub put : (a : Taken) → r ≡ Some a → LeastPut (listed_at s at) a.first t after
 
 -- k groups taken one after the other
-abbrev pub on_taken : Grouped → (ℕ → ℕ → Counts → Groups) → Groups
-on_taken (Taken kind class first next left) f = f first next left
-on_taken Missing f = Broken
-
-unfoldable pub groups_read : ℕ → ℕ → (ℕ → Bool) → ℕ → Counts → List ℕ → ℕ → Groups
-groups_read n zero f low c s at = Whole at c
-groups_read n (suc k) f low c s at = on_taken (group_taken n f low c s at) (λ first next d. groups_read n k (λ p. member p (listed_at s at) || f p) (suc first) d s next)
+unfoldable pub groups_read : ℕ → ℕ → (ℕ → Bool) → ℕ → Counts → List ℕ → ℕ → Option Rest
+groups_read n zero f low c s at = Some (record { next = at; left = c })
+groups_read n (suc k) f low c s at = option_and_then (λ a. groups_read n k (λ p. member p (listed_at s at) || f p) (suc a.first) a.left s a.next) (group_taken n f low c s at)
 
 -- k groups from a place on, and what follows them
 unfoldable pub groups_from : List ℕ → ℕ → ℕ → List (reading.Head × List ℕ)
@@ -152,21 +137,20 @@ pub record GroupsHeld (n g : ℕ) (s : List ℕ) (from next : ℕ) (least firsts
   pub ascend : FirstsAscend n g firsts
   pub rest : drop next s ≡ bytes_after s from g
 
-pub record GroupsRead (n g : ℕ) (c : Counts) (s : List ℕ) (from : ℕ) (least firsts₀ firsts kinds classes : List ℕ) (r : Groups) : Type 0 where
+pub record GroupsRead (n g : ℕ) (c : Counts) (s : List ℕ) (from : ℕ) (least firsts kinds classes : List ℕ) (r : Option Rest) : Type 0 where
   pub result : r ≡ groups_read n g (λ p. false) 0 c s from
   pub nodes : length least ≡ max_nodes
   pub groups : length kinds ≡ max_nodes
   pub labels : length classes ≡ max_nodes
-  pub size : length firsts ≡ length firsts₀
-  pub held : (next : ℕ) (left : Counts) → r ≡ Whole next left → GroupsHeld n g s from next least firsts kinds classes
+  pub held : (a : Rest) → r ≡ Some a → GroupsHeld n g s from a.next least firsts kinds classes
 
 -- the first place, among at most k records, without a superedge in order, and the superedges before it
-abbrev pub on_superedge : {A : Type 0} → Record → (ℕ → ℕ → A) → A → A
-on_superedge (Superedge i j) f a = f i j
-on_superedge End f a = a
-on_superedge (Head n m g) f a = a
-on_superedge (Group q count class) f a = a
-on_superedge Malformed f a = a
+abbrev pub on_superedge : {A : Type 0} → Option Record → (ℕ → ℕ → A) → A → A
+on_superedge (Some (Superedge i j)) f a = f i j
+on_superedge (Some End) f a = a
+on_superedge (Some (Head n m g)) f a = a
+on_superedge (Some (Group q count class)) f a = a
+on_superedge None f a = a
 
 unfoldable pub stop_at : ℕ → List ℕ → ℕ → ℕ → ℕ → ℕ
 stop_at g s last zero at = at
@@ -217,7 +201,7 @@ pub record RunLeft (g i : ℕ) (few : Bool) (s : List ℕ) (from : ℕ) (firsts 
 
 -- no superedge from a group before i stands in order at a place
 abbrev pub RunsPassed : ℕ → List ℕ → ℕ → ℕ → ℕ → Type 0
-RunsPassed g s i last at = (a j : ℕ) → item_in (drop at s) ≡ Superedge a j → a < i → follows g last a j ≡ false
+RunsPassed g s i last at = (a j : ℕ) → item_in (drop at s) ≡ Some (Superedge a j) → a < i → follows g last a j ≡ false
 
 -- underway: the runs of the groups before i are read
 pub record RunsLeft (g : ℕ) (few : Bool) (s : List ℕ) (from : ℕ) (firsts joined₀ joined sums₀ sums : List ℕ) (i at : ℕ) : Type 0 where
@@ -248,12 +232,12 @@ pub record JoinedRead (n g : ℕ) (s : List ℕ) (from : ℕ) (least firsts join
   pub summed : is_few (length s) n ≡ true → JoinedSummed joined sums
 
 -- no more bytes or counts than the end record
-abbrev pub on_end : Record → Bool → Bool
-on_end End b = b
-on_end (Superedge i j) b = false
-on_end (Head n m g) b = false
-on_end (Group q count class) b = false
-on_end Malformed b = false
+abbrev pub on_end : Option Record → Bool → Bool
+on_end (Some End) b = b
+on_end (Some (Superedge i j)) b = false
+on_end (Some (Head n m g)) b = false
+on_end (Some (Group q count class)) b = false
+on_end None b = false
 
 unfoldable pub ends_at : Counts → List ℕ → ℕ → Bool
 ends_at c s at = on_end (item_in (drop at s)) (spent c && eqb (at + 2) (length s))
@@ -262,16 +246,16 @@ ends_at c s at = on_end (item_in (drop at s)) (spent c && eqb (at + 2) (length s
 unfoldable pub counts_fit : ℕ → ℕ → ℕ → Bool
 counts_fit n m g = leb n max_nodes && (leb m n && leb g m)
 
-abbrev pub on_head : {A : Type 0} → Record → (ℕ → ℕ → ℕ → A) → A → A
-on_head (Head n m g) f a = f n m g
-on_head (Group q count class) f a = a
-on_head (Superedge i j) f a = a
-on_head End f a = a
-on_head Malformed f a = a
+abbrev pub on_head : {A : Type 0} → Option Record → (ℕ → ℕ → ℕ → A) → A → A
+on_head (Some (Head n m g)) f a = f n m g
+on_head (Some (Group q count class)) f a = a
+on_head (Some (Superedge i j)) f a = a
+on_head (Some End) f a = a
+on_head None f a = a
 
-abbrev pub on_whole : Groups → (ℕ → Counts → Bool) → Bool
-on_whole (Whole next left) f = f next left
-on_whole Broken f = false
+abbrev pub on_whole : Option Rest → (ℕ → Counts → Bool) → Bool
+on_whole (Some a) f = f a.next a.left
+on_whole None f = false
 
 -- after the head, which has 8 bytes: all groups, all superedges, the end
 unfoldable pub body_fits : List ℕ → ℕ → ℕ → ℕ → Bool
@@ -280,8 +264,8 @@ body_fits s n m g = on_whole (groups_read n g (λ p. false) 0 (record { members 
 unfoldable pub accepted : List ℕ → Bool
 accepted s = on_head (item_in s) (λ n m g. counts_fit n m g && body_fits s n m g) false
 
-unfoldable pub decoded : List ℕ → Decoded
-decoded s = cond (accepted s) (answer.Graph (u16_at s 2)) answer.NoRelease
+unfoldable pub decoded : List ℕ → Option ℕ
+decoded s = cond (accepted s) (Some (u16_at s 2)) None
 
 -- how many nodes the head tells; 0 if the bytes are too few for a head
 unfoldable pub nodes_in : List ℕ → ℕ
@@ -312,7 +296,7 @@ pub record BodyRead (s : List ℕ) (n m g : ℕ) (least kinds classes joined sum
   pub summed : r ≡ true → is_few (length s) n ≡ true → JoinedSummed joined sums
 
 -- the answer, and what the arrays hold then
-pub record Decodes (s least kinds classes joined : List ℕ) (r : Decoded) : Type 0 where
+pub record Decodes (s least kinds classes joined : List ℕ) (r : Option ℕ) : Type 0 where
   pub result : r ≡ decoded s
   pub nodes : length least ≡ max_nodes
   pub groups : length kinds ≡ max_nodes
@@ -328,4 +312,4 @@ pub record SumsKept (s least joined sums : List ℕ) : Type 0 where
 
 -- the head was just read
 pub record AfterHead (s : List ℕ) (at : ℕ) (head : Record) : Type 0 where
-  pub read : record { next = at; item = head } ≡ record_at s 0
+  pub read : Some (record { next = at; item = head }) ≡ record_at s 0

@@ -2,7 +2,8 @@
 use Rattle.std.proofs.Math.Path.{◌≡◌, refl, sym, ap, ap₂}
 use Rattle.std.proofs.Common.{subst, ◌∙◌, inl, inr, length-set, get_or-drop, get_or-set_same}
 use Rattle.std.proofs.Math.Bool.{Bool, false, cond}
-use Rattle.std.specs.Prelude.{true, not, ◌&&◌, ◌||◌, ◌⊎◌, ltb, set, replicate}
+use Rattle.std.specs.Prelude.{true, not, ◌&&◌, ◌||◌, ◌⊎◌, ltb, set, replicate, Option, Some, None, option_and_then}
+use Rattle.std.proofs.lemmas.Option.{none-some, same_Some}
 use mathlib.Core.List.{List, [], ◌∷◌}
 use Prim.Native.Nat.{ℕ, zero, suc, ◌+◌, ◌*◌, ◌-◌, ◌≤◌, ◌<◌}
 use native.Mathlib.Omega.{arith}
@@ -18,40 +19,16 @@ use Rattle.model.specs.Reading as reading
 use Rattle.model.specs.InOrder.{members_at}
 use Rattle.model.proofs.TestLaws.{decide, differ, and_fst, and_snd, or_cases, or_left}
 use Rattle.records.specs.declared.Counts.{Counts}
-use Rattle.records.specs.declared.Lessened.{Lessened}
-use Rattle.records.specs.declared.Lessened.TheVariants.{Left, Over}
 use Rattle.records.specs.declared.Record.{Record}
-use Rattle.records.specs.declared.Record.TheVariants.{Head, Group, Superedge, End, Malformed}
+use Rattle.records.specs.declared.Record.TheVariants.{Head, Group, Superedge, End}
 use Rattle.records.specs.declared.Read.{Read}
 use Rattle.records.specs.Records.{item_in, less_group, less_member, record_at, size_of}
-use Rattle.records.specs.RecordLaws.{Fits, fits_at, item_fits, item_is, next_is, u16-drop}
+use Rattle.records.specs.RecordLaws.{Fits, fits_at, item_fits, item_is, next_is, none_in, u16-drop}
 use Rattle.rows.specs.Rows.{leads, no_node}
-use Rattle.compressed.specs.Compressed.{class_of, clique, first_at, first_member_of, independent, kind_in, kind_marked, led_by, single}
-use Rattle.reader.specs.declared.Grouped.{Grouped}
-use Rattle.reader.specs.declared.Grouped.TheVariants.{Taken, Missing}
-use Rattle.reader.specs.declared.Groups.TheVariants.{Whole, Broken}
-use Rattle.reader.specs.Decoding.{GroupTaken, GroupsHeld, GroupsLeft, GroupsRead, LeastPut, LeastPutting, MembersRead, NumbersLeft, bytes_after, count_at, group_by, group_head, group_taken, groups_from, groups_read, least_count, listed_at, members_read, numbers_at, on_less, on_taken, rest_at, taken}
-
--- the kind and the least count of a group
-pub kind_clique : (count : ℕ) → clique ≡ kind_marked true count
-unfolding kind_marked
-kind_clique count = refl
-
-pub kind_single : (count : ℕ) → count ≡ 1 → single ≡ kind_marked false count
-unfolding kind_marked
-kind_single count e = rw (eq-eqb count 1 e)
-
-pub kind_independent : (count : ℕ) → (count ≡ 1 → ⊥) → independent ≡ kind_marked false count
-unfolding kind_marked
-kind_independent count h = rw (ne_eqb count 1 h)
-
-pub least-clique : 2 ≡ least_count true
-unfolding least_count
-least-clique = refl
-
-pub least_other : 1 ≡ least_count false
-unfolding least_count
-least_other = refl
+use Rattle.compressed.specs.Compressed.{class_of, first_at, first_member_of, kind_in, kind_marked, led_by, single}
+use Rattle.reader.specs.declared.Taken.{Taken}
+use Rattle.reader.specs.declared.Rest.{Rest}
+use Rattle.reader.specs.Decoding.{GroupTaken, GroupsLeft, GroupsRead, LeastPut, LeastPutting, MembersRead, NumbersLeft, bytes_after, count_at, group_by, group_head, group_taken, groups_from, groups_read, least_count, listed_at, members_read, numbers_at, rest_at, taken}
 
 -- numbers in a file, one after the other
 module _ (s : List ℕ) (at count : ℕ) where
@@ -82,25 +59,25 @@ length-numbers zero r = refl
 length-numbers (suc k) r = ap suc (length-numbers k (drop 2 r))
 
 -- the members' loop
-module _ (n : ℕ) (f : ℕ → Bool) (s : List ℕ) (at count k q : ℕ) (inside : k < count) (read : q ≡ u16_at s (at + 2 * k)) (low : ℕ) (c : Counts) (r : Lessened) (before : members_read n f low c (rest_at s at count k) ≡ r) where
-  pub member_low : q < low → Over ≡ r
+module _ (n : ℕ) (f : ℕ → Bool) (s : List ℕ) (at count k q : ℕ) (inside : k < count) (read : q ≡ u16_at s (at + 2 * k)) (low : ℕ) (c : Counts) (r : Option Counts) (before : members_read n f low c (rest_at s at count k) ≡ r) where
+  pub member_low : q < low → None ≡ r
   unfolding members_read
   member_low l = rw (rest_step s at count k inside, ← read, lt-leb low q l) at before
 
-  pub member_large : low ≤ q → n ≤ q → Over ≡ r
+  pub member_large : low ≤ q → n ≤ q → None ≡ r
   unfolding members_read
   member_large h l = rw (rest_step s at count k inside, ← read, le-leb low q h, le-ltb q n l) at before
 
-  pub member_twice : low ≤ q → q < n → f q ≡ true → Over ≡ r
+  pub member_twice : low ≤ q → q < n → f q ≡ true → None ≡ r
   unfolding members_read
   member_twice h l t = rw (rest_step s at count k inside, ← read, le-leb low q h, lt-ltb q n l, t) at before
 
-  module _ (o : Lessened) (h : low ≤ q) (l : q < n) (t : f q ≡ false) (less : o ≡ less_member c) where
-    pub member_over : o ≡ Over → Over ≡ r
+  module _ (o : Option Counts) (h : low ≤ q) (l : q < n) (t : f q ≡ false) (less : o ≡ less_member c) where
+    pub member_over : o ≡ None → None ≡ r
     unfolding members_read
     member_over e = rw (rest_step s at count k inside, ← read, le-leb low q h, lt-ltb q n l, t, ← less, e) at before
 
-    pub member_counts : (d : Counts) → o ≡ Left d → members_read n f (q + 1) d (rest_at s at count (k + 1)) ≡ r
+    pub member_counts : (d : Counts) → o ≡ Some d → members_read n f (q + 1) d (rest_at s at count (k + 1)) ≡ r
     unfolding members_read
     member_counts d e =
         let one : q + 1 ≡ suc q = omega arith in
@@ -119,7 +96,7 @@ module _ (s : List ℕ) (at count : ℕ) where
   pub members_start : (n : ℕ) (f : ℕ → Bool) (low : ℕ) (c : Counts) → members_read n f low c (rest_at s at count 0) ≡ members_read n f low c (numbers_at s at count)
   members_start n f low c = ap (members_read n f low c) (rest_start s at count)
 
-  pub members_end : (n : ℕ) (f : ℕ → Bool) (low k : ℕ) (c : Counts) (r : Lessened) → count ≤ k → members_read n f low c (rest_at s at count k) ≡ r → Left c ≡ r
+  pub members_end : (n : ℕ) (f : ℕ → Bool) (low k : ℕ) (c : Counts) (r : Option Counts) → count ≤ k → members_read n f low c (rest_at s at count k) ≡ r → Some c ≡ r
   unfolding members_read
   members_end n f low k c r l h = rw (rest_end s at count k l) at h
 
@@ -154,13 +131,13 @@ module _ (s : List ℕ) (at count : ℕ) where
       put-done h = record { size = before.size; least = λ p. sym (ap (λ (ms : List ℕ). cond (member p ms) l (get_or now p 0)) (rest_end s at count k h)) ∙ before.least p }
 
   -- what the function hands back: all members, or none
-  pub members_over : (n low : ℕ) (c : Counts) (t now : List ℕ) → length now ≡ length t → Over ≡ members_read n (taken t) low c (numbers_at s at count) → MembersRead n low c (numbers_at s at count) t now Over
+  pub members_over : (n low : ℕ) (c : Counts) (t now : List ℕ) → length now ≡ length t → None ≡ members_read n (taken t) low c (numbers_at s at count) → MembersRead n low c (numbers_at s at count) t now None
   members_over n low c t now size e = record { result = e; size = size; put = λ d f. over f }
     where
-      over : {d : Counts} → Over ≡ Left d → LeastPut (numbers_at s at count) (head_or 0 (numbers_at s at count)) t now
+      over : {d : Counts} → None ≡ Some d → LeastPut (numbers_at s at count) (head_or 0 (numbers_at s at count)) t now
       over f = let z : ◌≡◌ {A = ℕ} 0 1 = cc in absurd (omega arith)
 
-  pub members_done : (n low : ℕ) (c left : Counts) (from k first : ℕ) (t now : List ℕ) → 0 < count → count ≤ k → first ≡ u16_at s at → Left left ≡ members_read n (taken t) low c (numbers_at s at count) → LeastPutting first (numbers_at s at count) (rest_at s at count k) from t now → MembersRead n low c (numbers_at s at count) t now (Left left)
+  pub members_done : (n low : ℕ) (c left : Counts) (from k first : ℕ) (t now : List ℕ) → 0 < count → count ≤ k → first ≡ u16_at s at → Some left ≡ members_read n (taken t) low c (numbers_at s at count) → LeastPutting first (numbers_at s at count) (rest_at s at count k) from t now → MembersRead n low c (numbers_at s at count) t now (Some left)
   members_done n low c left from k first t now some h is e x = record {
     result = e;
     size = x.size;
@@ -168,7 +145,7 @@ module _ (s : List ℕ) (at count : ℕ) where
   }
 
 -- a record that was read at a place
-module _ (s : List ℕ) (at : ℕ) (r : Read) (read : r ≡ record_at s at) where
+module _ (s : List ℕ) (at : ℕ) (r : Read) (read : Some r ≡ record_at s at) where
   -- a group: its count, its head and its room
   pub group-told : (q : Bool) (count class : ℕ) → r.item ≡ Group q count class → (r.next ≡ at + 6) × (at + 6 ≤ length s) × (count ≡ count_at s at)
   unfolding count_at size_of
@@ -183,33 +160,33 @@ some true count m e h = omega arith
 some false count m e h = omega arith
 
 -- all members of a group stand in the bytes
-pub numbers_room : (s : List ℕ) (at : ℕ) (r : Read) → r ≡ record_at s at → (q : Bool) (count class : ℕ) → r.item ≡ Group q count class → (m : ℕ) → m ≡ least_count q → m ≤ count → 2 * count ≤ length s - r.next → (0 < count) × (r.next + 2 * count ≤ length s)
+pub numbers_room : (s : List ℕ) (at : ℕ) (r : Read) → Some r ≡ record_at s at → (q : Bool) (count class : ℕ) → r.item ≡ Group q count class → (m : ℕ) → m ≡ least_count q → m ≤ count → 2 * count ≤ length s - r.next → (0 < count) × (r.next + 2 * count ≤ length s)
 numbers_room s at r read q count class item m least h room =
     let told = group-told s at r read q count class item in
     (some q count m least h, omega (arith, told.0, told.1))
 
 -- what the function hands back: the group, or none
 module _ (n low : ℕ) (c : Counts) (s : List ℕ) (at : ℕ) (t : List ℕ) where
-  group-missing : (now : List ℕ) → length now ≡ length t → Missing ≡ group_taken n (taken t) low c s at → GroupTaken n low c s at t now Missing
-  group-missing now size e = record { result = e; size = size; put = λ kind class first next d f. none f }
-    where
-      none : {kind class first next : ℕ} {d : Counts} → Missing ≡ Taken kind class first next d → LeastPut (listed_at s at) first t now
-      none f = let z : ◌≡◌ {A = ℕ} 0 1 = cc in absurd (omega arith)
+  group-missing : (now : List ℕ) → length now ≡ length t → None ≡ group_taken n (taken t) low c s at → GroupTaken n low c s at t now None
+  group-missing now size e = record { result = e; size = size; put = λ a f. absurd (none-some a f) }
 
-  module _ (r : Read) (read : r ≡ record_at s at) where
-    by-item : (i : Record) → r.item ≡ i → group_by n (taken t) low c s at i ≡ group_taken n (taken t) low c s at
+  -- no record at all
+  pub no_record : None ≡ record_at s at → GroupTaken n low c s at t t None
+  no_record read = group-missing t refl (unfold group_taken in (ap (group_by n (taken t) low c s at) (none_in s at read)))
+
+  module _ (r : Read) (read : Some r ≡ record_at s at) where
+    by-item : (i : Record) → r.item ≡ i → group_by n (taken t) low c s at (Some i) ≡ group_taken n (taken t) low c s at
     unfolding group_taken
-    by-item i e = ap (group_by n (taken t) low c s at) (sym e ∙ item_is s at r read)
+    by-item i e = ap (group_by n (taken t) low c s at) (ap Some (sym e) ∙ item_is s at r read)
 
-    pub other_record : ((q : Bool) (count class : ℕ) → r.item ≡ Group q count class → ⊥) → GroupTaken n low c s at t t Missing
+    pub other_record : ((q : Bool) (count class : ℕ) → r.item ≡ Group q count class → ⊥) → GroupTaken n low c s at t t None
     other_record h = group-missing t refl (step r.item refl)
       where
-        step : (i : Record) → r.item ≡ i → Missing ≡ group_taken n (taken t) low c s at
+        step : (i : Record) → r.item ≡ i → None ≡ group_taken n (taken t) low c s at
         step (Group q count class) e = absurd (h q count class e)
         step (Head x y z) e = by-item (Head x y z) e
         step (Superedge x y) e = by-item (Superedge x y) e
         step End e = by-item End e
-        step Malformed e = by-item Malformed e
 
     module _ (q : Bool) (count class : ℕ) (item : r.item ≡ Group q count class) where
       six : r.next ≡ at + 6
@@ -218,44 +195,44 @@ module _ (n low : ℕ) (c : Counts) (s : List ℕ) (at : ℕ) (t : List ℕ) whe
       inside : at + 6 ≤ length s
       inside = (group-told s at r read q count class item).1
 
-      by_group : group_by n (taken t) low c s at (Group q count class) ≡ group_taken n (taken t) low c s at
+      by_group : group_by n (taken t) low c s at (Some (Group q count class)) ≡ group_taken n (taken t) low c s at
       by_group = by-item (Group q count class) item
 
-      pub large_class : max_classes ≤ class → GroupTaken n low c s at t t Missing
+      pub large_class : max_classes ≤ class → GroupTaken n low c s at t t None
       large_class l = group-missing t refl (sym (sym by_group ∙ (rw (le-ltb class max_classes l))))
 
       module _ (m : ℕ) (small : class < max_classes) (least : m ≡ least_count q) where
-        pub few_members : count < m → GroupTaken n low c s at t t Missing
+        pub few_members : count < m → GroupTaken n low c s at t t None
         few_members l = group-missing t refl (sym (sym by_group ∙ (rw (lt-ltb class max_classes small, ← least, lt-leb m count l))))
 
-        pub no_room : m ≤ count → length s - r.next < 2 * count → GroupTaken n low c s at t t Missing
+        pub no_room : m ≤ count → length s - r.next < 2 * count → GroupTaken n low c s at t t None
         no_room h l = group-missing t refl (sym (sym by_group ∙ (rw (lt-ltb class max_classes small, ← least, le-leb m count h, lt-leb (at + 6 + 2 * count) (length s) (omega (arith, six, inside))))))
 
-        module _ (o : Lessened) (enough : m ≤ count) (room : 2 * count ≤ length s - r.next) (less : o ≡ less_group c) where
+        module _ (o : Option Counts) (enough : m ≤ count) (room : 2 * count ≤ length s - r.next) (less : o ≡ less_group c) where
           roomy : leb (at + 6 + 2 * count) (length s) ≡ true
           roomy = le-leb (at + 6 + 2 * count) (length s) (omega (arith, six, inside))
 
-          pub no_group : o ≡ Over → GroupTaken n low c s at t t Missing
+          pub no_group : o ≡ None → GroupTaken n low c s at t t None
           no_group e = group-missing t refl (sym (sym by_group ∙ (rw (lt-ltb class max_classes small, ← least, le-leb m count enough, roomy, ← less, e))))
 
-          module _ (d : Counts) (left : o ≡ Left d) (now : List ℕ) (p : Lessened) (members : MembersRead n low d (numbers_at s r.next count) t now p) where
+          module _ (d : Counts) (left : o ≡ Some d) (now : List ℕ) (p : Option Counts) (members : MembersRead n low d (numbers_at s r.next count) t now p) where
             by_members : p ≡ members_read n (taken t) low d (numbers_at s (at + 6) count)
             by_members = members.result ∙ ap (λ (x : ℕ). members_read n (taken t) low d (numbers_at s x count)) six
 
-            pub no_members : p ≡ Over → GroupTaken n low c s at t now Missing
+            pub no_members : p ≡ None → GroupTaken n low c s at t now None
             no_members e = group-missing now members.size (sym (sym by_group ∙ (rw (lt-ltb class max_classes small, ← least, le-leb m count enough, roomy, ← less, left, ← by_members, e))))
 
             listed : numbers_at s r.next count ≡ listed_at s at
             unfolding listed_at
             listed = ap₂ (λ (x y : ℕ). numbers_at s x y) six (group-told s at r read q count class item).2
 
-            pub all_members : (kind first : ℕ) (e : Counts) → p ≡ Left e → kind ≡ kind_marked q count → first ≡ u16_at s r.next → GroupTaken n low c s at t now (Taken kind class first (r.next + 2 * count) e)
+            pub all_members : (kind first : ℕ) (e : Counts) → p ≡ Some e → kind ≡ kind_marked q count → first ≡ u16_at s r.next → GroupTaken n low c s at t now (Some (record { kind = kind; class = class; first = first; next = r.next + 2 * count; left = e }))
             all_members kind first e is k f = record {
               result = sym (sym by_group ∙ (rw (lt-ltb class max_classes small, ← least, le-leb m count enough, roomy, ← less, left, ← by_members, is, k, f, six)));
               size = members.size;
               put =
-                  λ a v b x y z.
-                  let same : first ≡ b = cc in
+                  λ a z.
+                  let same : first ≡ a.first = ap (λ (x : Taken). x.first) (same_Some (record { kind = kind; class = class; first = first; next = r.next + 2 * count; left = e }) a z) in
                   subst (λ (l : ℕ). LeastPut (listed_at s at) l t now) (sym (f ∙ numbers_first s r.next count (some q count m least enough)) ∙ same)
                   (subst (λ (ms : List ℕ). LeastPut ms (head_or 0 (numbers_at s r.next count)) t now) listed (members.put e is));
             }
@@ -266,17 +243,17 @@ head_in [] h = absurd (omega arith)
 head_in (x ∷ xs) h = rw (eq-eqb x x refl)
 
 -- members that were taken are nodes of no group
-pub members_free : (n : ℕ) (f : ℕ → Bool) (low : ℕ) (c d : Counts) (ms : List ℕ) → members_read n f low c ms ≡ Left d → (p : ℕ) → member p ms ≡ true → (p < n) × (f p ≡ false)
+pub members_free : (n : ℕ) (f : ℕ → Bool) (low : ℕ) (c d : Counts) (ms : List ℕ) → members_read n f low c ms ≡ Some d → (p : ℕ) → member p ms ≡ true → (p < n) × (f p ≡ false)
 unfolding members_read member any
 members_free n f low c d [] e p m = differ m refl
 members_free n f low c d (x ∷ xs) e p m = by (λ y h j. members_free n f (suc x) y d xs h p j) (decide (leb low x && (ltb x n && not (f x))))
   where
     Below : Type 0
-    Below = (y : Counts) → members_read n f (suc x) y xs ≡ Left d → any xs (eqb p) ≡ true → (p < n) × (f p ≡ false)
+    Below = (y : Counts) → members_read n f (suc x) y xs ≡ Some d → any xs (eqb p) ≡ true → (p < n) × (f p ≡ false)
 
-    rest : Below → (o : Lessened) → on_less o (λ y. members_read n f (suc x) y xs) Over ≡ Left d → any xs (eqb p) ≡ true → (p < n) × (f p ≡ false)
-    rest below (Left y) h j = below y h j
-    rest below Over h j = let z : ◌≡◌ {A = ℕ} 0 1 = cc in absurd (omega arith)
+    rest : Below → (o : Option Counts) → option_and_then (λ y. members_read n f (suc x) y xs) o ≡ Some d → any xs (eqb p) ≡ true → (p < n) × (f p ≡ false)
+    rest below (Some y) h j = below y h j
+    rest below None h j = let z : ◌≡◌ {A = ℕ} 0 1 = cc in absurd (omega arith)
 
     by : Below → ((leb low x && (ltb x n && not (f x))) ≡ true) ⊎ ((leb low x && (ltb x n && not (f x))) ≡ false) → (p < n) × (f p ≡ false)
     by below (inl t) = here (or_cases (eqb p x) (any xs (eqb p)) m)
@@ -287,17 +264,17 @@ members_free n f low c d (x ∷ xs) e p m = by (λ y h j. members_free n f (suc 
         here : (eqb p x ≡ true) ⊎ (any xs (eqb p) ≡ true) → (p < n) × (f p ≡ false)
         here (inl i) = rw (eqb-true p x i) (ltb-true x n (and_fst (ltb x n) (not (f x)) fits), not-true (f x) (and_snd (ltb x n) (not (f x)) fits))
         here (inr j) = rest below (less_member c) (rw t at e) j
-    by below (inr t) = let h : Over ≡ Left d = rw t at e in let z : ◌≡◌ {A = ℕ} 0 1 = cc in absurd (omega arith)
+    by below (inr t) = let h : None ≡ Some d = rw t at e in let z : ◌≡◌ {A = ℕ} 0 1 = cc in absurd (omega arith)
 
 -- and the first of them is not below the lowest that may be
-members_low : (n : ℕ) (f : ℕ → Bool) (low : ℕ) (c d : Counts) (ms : List ℕ) → 0 < length ms → members_read n f low c ms ≡ Left d → low ≤ head_or 0 ms
+members_low : (n : ℕ) (f : ℕ → Bool) (low : ℕ) (c d : Counts) (ms : List ℕ) → 0 < length ms → members_read n f low c ms ≡ Some d → low ≤ head_or 0 ms
 unfolding members_read
 members_low n f low c d [] h e = absurd (omega arith)
 members_low n f low c d (x ∷ xs) h e = by (decide (leb low x))
   where
     by : (leb low x ≡ true) ⊎ (leb low x ≡ false) → low ≤ x
     by (inl t) = leb-true low x t
-    by (inr t) = let k : Over ≡ Left d = rw t at e in let z : ◌≡◌ {A = ℕ} 0 1 = cc in absurd (omega arith)
+    by (inr t) = let k : None ≡ Some d = rw t at e in let z : ◌≡◌ {A = ℕ} 0 1 = cc in absurd (omega arith)
 
 -- what a group that was taken tells
 pub record GroupTold (n : ℕ) (f : ℕ → Bool) (low : ℕ) (s : List ℕ) (at kind class first next : ℕ) : Type 0 where
@@ -309,8 +286,8 @@ pub record GroupTold (n : ℕ) (f : ℕ → Bool) (low : ℕ) (s : List ℕ) (at
   pub label : class ≡ class_of (group_head s at, listed_at s at)
   pub free : (p : ℕ) → member p (listed_at s at) ≡ true → (p < n) × (f p ≡ false)
 
-module _ (n : ℕ) (f : ℕ → Bool) (low : ℕ) (c : Counts) (s : List ℕ) (at kind class first next : ℕ) (d : Counts) where
-  pub taken-told : group_taken n f low c s at ≡ Taken kind class first next d → GroupTold n f low s at kind class first next
+module _ (n : ℕ) (f : ℕ → Bool) (low : ℕ) (c : Counts) (s : List ℕ) (at : ℕ) (a : Taken) where
+  pub taken-told : group_taken n f low c s at ≡ Some a → GroupTold n f low s at a.kind a.class a.first a.next
   unfolding group_taken
   taken-told e = by-item (item_in (drop at s)) (item_fits (drop at s)) e
     where
@@ -318,18 +295,19 @@ module _ (n : ℕ) (f : ℕ → Bool) (low : ℕ) (c : Counts) (s : List ℕ) (a
       Here : Bool → ℕ → ℕ → Type 0
       Here q count k = (count ≡ count_at s at) × (k ≡ (group_head s at).class) × (q ≡ (group_head s at).clique)
 
-      by_members : (q : Bool) (count k : ℕ) (y : Counts) (o : Lessened) → members_read n f low y (numbers_at s (at + 6) count) ≡ o → 0 < count → Here q count k
-          → on_less o (λ z. Taken (kind_marked q count) k (u16_at s (at + 6)) (at + 6 + 2 * count) z) Missing ≡ Taken kind class first next d → GroupTold n f low s at kind class first next
-      by_members q count k y (Left z) h some is u =
-          let i : next ≡ at + 6 + 2 * count = cc in
-          let j : first ≡ u16_at s (at + 6) = cc in
-          let l : kind ≡ kind_marked q count = cc in
-          let v : class ≡ k = cc in
+      by_members : (q : Bool) (count k : ℕ) (y : Counts) (o : Option Counts) → members_read n f low y (numbers_at s (at + 6) count) ≡ o → 0 < count → Here q count k
+          → option_and_then (λ z. Some (record { kind = kind_marked q count; class = k; first = u16_at s (at + 6); next = at + 6 + 2 * count; left = z })) o ≡ Some a → GroupTold n f low s at a.kind a.class a.first a.next
+      by_members q count k y (Some z) h some is u =
+          let same : a ≡ record { kind = kind_marked q count; class = k; first = u16_at s (at + 6); next = at + 6 + 2 * count; left = z } = sym (same_Some _ a u) in
+          let i : a.next ≡ at + 6 + 2 * count = ap (λ (x : Taken). x.next) same in
+          let j : a.first ≡ u16_at s (at + 6) = ap (λ (x : Taken). x.first) same in
+          let l : a.kind ≡ kind_marked q count = ap (λ (x : Taken). x.kind) same in
+          let v : a.class ≡ k = ap (λ (x : Taken). x.class) same in
           let listed : numbers_at s (at + 6) count ≡ listed_at s at = unfold listed_at in (ap (numbers_at s (at + 6)) is.0) in
           let size : count ≡ length (listed_at s at) = is.0 ∙ sym (unfold listed_at numbers_at in length-numbers (count_at s at) (drop (at + 6) s)) in
-          let lead : first ≡ head_or 0 (numbers_at s (at + 6) count) = j ∙ numbers_first s (at + 6) count some in
+          let lead : a.first ≡ head_or 0 (numbers_at s (at + 6) count) = j ∙ numbers_first s (at + 6) count some in
           let many : length (numbers_at s (at + 6) count) ≡ count = unfold numbers_at in length-numbers count (drop (at + 6) s) in
-          let head : first ≡ head_or 0 (listed_at s at) = lead ∙ ap (head_or 0) listed in
+          let head : a.first ≡ head_or 0 (listed_at s at) = lead ∙ ap (head_or 0) listed in
           record {
             after = i ∙ ap (λ (u : ℕ). at + 6 + 2 * u) is.0;
             leader = head;
@@ -339,30 +317,34 @@ module _ (n : ℕ) (f : ℕ → Bool) (low : ℕ) (c : Counts) (s : List ℕ) (a
             label = v ∙ is.1;
             free = λ p m. members_free n f low y z (numbers_at s (at + 6) count) h p (ap (member p) listed ∙ m);
           }
-      by_members q count k y Over h some is u = let z : ◌≡◌ {A = ℕ} 0 1 = cc in absurd (omega arith)
+      by_members q count k y None h some is u = absurd (none-some a u)
 
-      by_count : (q : Bool) (count k : ℕ) (o : Lessened) → 0 < count → Here q count k
-          → on_less o (λ y. on_less (members_read n f low y (numbers_at s (at + 6) count)) (λ z. Taken (kind_marked q count) k (u16_at s (at + 6)) (at + 6 + 2 * count) z) Missing) Missing ≡ Taken kind class first next d → GroupTold n f low s at kind class first next
-      by_count q count k (Left y) some is u = by_members q count k y (members_read n f low y (numbers_at s (at + 6) count)) refl some is u
-      by_count q count k Over some is u = let z : ◌≡◌ {A = ℕ} 0 1 = cc in absurd (omega arith)
+      by_count : (q : Bool) (count k : ℕ) (o : Option Counts) → 0 < count → Here q count k
+          → option_and_then (λ y. option_and_then (λ z. Some (record { kind = kind_marked q count; class = k; first = u16_at s (at + 6); next = at + 6 + 2 * count; left = z })) (members_read n f low y (numbers_at s (at + 6) count))) o ≡ Some a → GroupTold n f low s at a.kind a.class a.first a.next
+      by_count q count k (Some y) some is u = by_members q count k y (members_read n f low y (numbers_at s (at + 6) count)) refl some is u
+      by_count q count k None some is u = absurd (none-some a u)
 
       enough : (q : Bool) (count k : ℕ) → (ltb k max_classes && (leb (least_count q) count && leb (at + 6 + 2 * count) (length s))) ≡ true → 0 < count
       enough q count k t = some q count (least_count q) refl (leb-true (least_count q) count (and_fst (leb (least_count q) count) _ (and_snd (ltb k max_classes) _ t)))
 
       by-room : (q : Bool) (count k : ℕ) (b : Bool) → (ltb k max_classes && (leb (least_count q) count && leb (at + 6 + 2 * count) (length s))) ≡ b → Here q count k
-          → group_by n f low c s at (Group q count k) ≡ Taken kind class first next d → GroupTold n f low s at kind class first next
+          → group_by n f low c s at (Some (Group q count k)) ≡ Some a → GroupTold n f low s at a.kind a.class a.first a.next
       by-room q count k true t is u = by_count q count k (less_group c) (enough q count k t) is (rw t at u)
-      by-room q count k false t is u = let h : Missing ≡ Taken kind class first next d = rw t at u in let z : ◌≡◌ {A = ℕ} 0 1 = cc in absurd (omega arith)
+      by-room q count k false t is u = absurd (none-some a (rw t at u))
 
-      here : (q : Bool) (count k : ℕ) → Fits (drop at s) (Group q count k) → Here q count k
+      here : (q : Bool) (count k : ℕ) → Fits (drop at s) (Some (Group q count k)) → Here q count k
       here q count k x = unfold count_at group_head in (x.1 ∙ u16-drop s at 2, x.2 ∙ u16-drop s at 4, x.3 ∙ ap (λ (y : ℕ). eqb y 0x43) (get_or-drop at s 1 0))
 
-      by-item : (i : Record) → Fits (drop at s) i → group_by n f low c s at i ≡ Taken kind class first next d → GroupTold n f low s at kind class first next
-      by-item (Group q count k) x u = by-room q count k (ltb k max_classes && (leb (least_count q) count && leb (at + 6 + 2 * count) (length s))) refl (here q count k x) u
-      by-item (Head x y z) g k = let z : ◌≡◌ {A = ℕ} 0 1 = cc in absurd (omega arith)
-      by-item (Superedge x y) g k = let z : ◌≡◌ {A = ℕ} 0 1 = cc in absurd (omega arith)
-      by-item End g k = let z : ◌≡◌ {A = ℕ} 0 1 = cc in absurd (omega arith)
-      by-item Malformed g k = let z : ◌≡◌ {A = ℕ} 0 1 = cc in absurd (omega arith)
+      by-item : (i : Option Record) → Fits (drop at s) i → group_by n f low c s at i ≡ Some a → GroupTold n f low s at a.kind a.class a.first a.next
+      by-item (Some (Group q count k)) x u = by-room q count k (ltb k max_classes && (leb (least_count q) count && leb (at + 6 + 2 * count) (length s))) refl (here q count k x) u
+      by-item (Some (Head x y z)) g k = absurd (none-some a k)
+      by-item (Some (Superedge x y)) g k = absurd (none-some a k)
+      by-item (Some End) g k = absurd (none-some a k)
+      by-item None g k = absurd (none-some a k)
+
+-- its first member is a node
+pub taken-first : (n low : ℕ) (c : Counts) (s : List ℕ) (at : ℕ) (t after : List ℕ) (a : Taken) → GroupTaken n low c s at t after (Some a) → a.first < n
+taken-first n low c s at t after a got = let told = taken-told n (taken t) low c s at a (sym got.result) in (told.free a.first told.listed).0
 
 -- only which nodes of the graph are taken counts
 module _ (n : ℕ) where
@@ -377,18 +359,18 @@ module _ (n : ℕ) where
       Below : Type 0
       Below = (d : Counts) → members_read n f (suc x) d xs ≡ members_read n g (suc x) d xs
 
-      less : Below → (o : Lessened) → on_less o (λ d. members_read n f (suc x) d xs) Over ≡ on_less o (λ d. members_read n g (suc x) d xs) Over
-      less below (Left d) = below d
-      less below Over = refl
+      less : Below → (o : Option Counts) → option_and_then (λ d. members_read n f (suc x) d xs) o ≡ option_and_then (λ d. members_read n g (suc x) d xs) o
+      less below (Some d) = below d
+      less below None = refl
 
       by : Below → (ltb x n ≡ true) ⊎ (ltb x n ≡ false)
-          → cond (leb low x && (ltb x n && not (f x))) (on_less (less_member c) (λ d. members_read n f (suc x) d xs) Over) Over
-          ≡ cond (leb low x && (ltb x n && not (g x))) (on_less (less_member c) (λ d. members_read n g (suc x) d xs) Over) Over
+          → cond (leb low x && (ltb x n && not (f x))) (option_and_then (λ d. members_read n f (suc x) d xs) (less_member c)) None
+          ≡ cond (leb low x && (ltb x n && not (g x))) (option_and_then (λ d. members_read n g (suc x) d xs) (less_member c)) None
       by below (inl t) =
-          ap₂ (λ (b : Bool) (o : Lessened). cond (leb low x && (ltb x n && not b)) o Over) (h x (ltb-true x n t)) (less below (less_member c))
+          ap₂ (λ (b : Bool) (o : Option Counts). cond (leb low x && (ltb x n && not b)) o None) (h x (ltb-true x n t)) (less below (less_member c))
       by below (inr t) = rw t (cut (leb low x))
         where
-          cut : (b : Bool) → cond (b && false) (on_less (less_member c) (λ d. members_read n f (suc x) d xs) Over) Over ≡ cond (b && false) (on_less (less_member c) (λ d. members_read n g (suc x) d xs) Over) Over
+          cut : (b : Bool) → cond (b && false) (option_and_then (λ d. members_read n f (suc x) d xs) (less_member c)) None ≡ cond (b && false) (option_and_then (λ d. members_read n g (suc x) d xs) (less_member c)) None
           cut true = refl
           cut false = refl
 
@@ -396,30 +378,33 @@ module _ (n : ℕ) where
   unfolding group_taken
   group-alike f g h low c s at = by (item_in (drop at s))
     where
-      by : (i : Record) → group_by n f low c s at i ≡ group_by n g low c s at i
-      by (Group q count class) = ap (λ (o : Grouped). cond (ltb class max_classes && (leb (least_count q) count && leb (at + 6 + 2 * count) (length s))) o Missing) (less (less_group c))
+      by : (i : Option Record) → group_by n f low c s at i ≡ group_by n g low c s at i
+      by (Some (Group q count class)) = ap (λ (o : Option Taken). cond (ltb class max_classes && (leb (least_count q) count && leb (at + 6 + 2 * count) (length s))) o None) (less (less_group c))
         where
-          less : (o : Lessened)
-              → on_less o (λ d. on_less (members_read n f low d (numbers_at s (at + 6) count)) (λ e. Taken (kind_marked q count) class (u16_at s (at + 6)) (at + 6 + 2 * count) e) Missing) Missing
-              ≡ on_less o (λ d. on_less (members_read n g low d (numbers_at s (at + 6) count)) (λ e. Taken (kind_marked q count) class (u16_at s (at + 6)) (at + 6 + 2 * count) e) Missing) Missing
-          less (Left d) = ap (λ (o : Lessened). on_less o (λ e. Taken (kind_marked q count) class (u16_at s (at + 6)) (at + 6 + 2 * count) e) Missing) (members_alike f g h low d (numbers_at s (at + 6) count))
-          less Over = refl
-      by (Head x y z) = refl
-      by (Superedge x y) = refl
-      by End = refl
-      by Malformed = refl
+          found : Counts → Option Taken
+          found e = Some (record { kind = kind_marked q count; class = class; first = u16_at s (at + 6); next = at + 6 + 2 * count; left = e })
+
+          less : (o : Option Counts)
+              → option_and_then (λ d. option_and_then found (members_read n f low d (numbers_at s (at + 6) count))) o
+              ≡ option_and_then (λ d. option_and_then found (members_read n g low d (numbers_at s (at + 6) count))) o
+          less (Some d) = ap (option_and_then found) (members_alike f g h low d (numbers_at s (at + 6) count))
+          less None = refl
+      by (Some (Head x y z)) = refl
+      by (Some (Superedge x y)) = refl
+      by (Some End) = refl
+      by None = refl
 
   pub groups_alike : (k : ℕ) (f g : ℕ → Bool) → Alike f g → (low : ℕ) (c : Counts) (s : List ℕ) (at : ℕ) → groups_read n k f low c s at ≡ groups_read n k g low c s at
   unfolding groups_read
   groups_alike zero f g h low c s at = refl
-  groups_alike (suc k) f g h low c s at = ap (λ (o : Grouped). on_taken o (λ first next d. groups_read n k (λ p. member p (listed_at s at) || f p) (suc first) d s next)) (group-alike f g h low c s at) ∙ more (λ first next d. groups_alike k (λ p. member p (listed_at s at) || f p) (λ p. member p (listed_at s at) || g p) (λ p l. ap (λ (b : Bool). member p (listed_at s at) || b) (h p l)) (suc first) d s next) (group_taken n g low c s at)
+  groups_alike (suc k) f g h low c s at = ap (option_and_then (λ (a : Taken). groups_read n k (λ p. member p (listed_at s at) || f p) (suc a.first) a.left s a.next)) (group-alike f g h low c s at) ∙ more (λ a. groups_alike k (λ p. member p (listed_at s at) || f p) (λ p. member p (listed_at s at) || g p) (λ p l. ap (λ (b : Bool). member p (listed_at s at) || b) (h p l)) (suc a.first) a.left s a.next) (group_taken n g low c s at)
     where
       Below : Type 0
-      Below = (first next : ℕ) (d : Counts) → groups_read n k (λ p. member p (listed_at s at) || f p) (suc first) d s next ≡ groups_read n k (λ p. member p (listed_at s at) || g p) (suc first) d s next
+      Below = (a : Taken) → groups_read n k (λ p. member p (listed_at s at) || f p) (suc a.first) a.left s a.next ≡ groups_read n k (λ p. member p (listed_at s at) || g p) (suc a.first) a.left s a.next
 
-      more : Below → (o : Grouped) → on_taken o (λ first next d. groups_read n k (λ p. member p (listed_at s at) || f p) (suc first) d s next) ≡ on_taken o (λ first next d. groups_read n k (λ p. member p (listed_at s at) || g p) (suc first) d s next)
-      more below (Taken kind class first next d) = below first next d
-      more below Missing = refl
+      more : Below → (o : Option Taken) → option_and_then (λ (a : Taken). groups_read n k (λ p. member p (listed_at s at) || f p) (suc a.first) a.left s a.next) o ≡ option_and_then (λ (a : Taken). groups_read n k (λ p. member p (listed_at s at) || g p) (suc a.first) a.left s a.next) o
+      more below (Some a) = below a
+      more below None = refl
 
 -- the groups of a file by places
 pub from_step : (s : List ℕ) (at k next : ℕ) → next ≡ at + 6 + 2 * count_at s at → groups_from s at (suc k) ≡ (group_head s at, listed_at s at) ∷ groups_from s next k
@@ -430,13 +415,13 @@ pub after_step : (s : List ℕ) (at k next : ℕ) → next ≡ at + 6 + 2 * coun
 unfolding bytes_after after_groups count_at
 after_step s at k next e = rw (e, u16-drop s at 2, drop-drop 6 at s, drop-drop (2 * u16_at s (at + 2)) (at + 6) s)
 
-read_missing : (n k : ℕ) (f : ℕ → Bool) (low : ℕ) (c : Counts) (s : List ℕ) (at : ℕ) → group_taken n f low c s at ≡ Missing → groups_read n (suc k) f low c s at ≡ Broken
+read_missing : (n k : ℕ) (f : ℕ → Bool) (low : ℕ) (c : Counts) (s : List ℕ) (at : ℕ) → group_taken n f low c s at ≡ None → groups_read n (suc k) f low c s at ≡ None
 unfolding groups_read
 read_missing n k f low c s at e = rw e
 
-read_taken : (n k : ℕ) (f : ℕ → Bool) (low : ℕ) (c : Counts) (s : List ℕ) (at kind class first next : ℕ) (d : Counts) → group_taken n f low c s at ≡ Taken kind class first next d → groups_read n (suc k) f low c s at ≡ groups_read n k (λ p. member p (listed_at s at) || f p) (suc first) d s next
+read_taken : (n k : ℕ) (f : ℕ → Bool) (low : ℕ) (c : Counts) (s : List ℕ) (at : ℕ) (a : Taken) → group_taken n f low c s at ≡ Some a → groups_read n (suc k) f low c s at ≡ groups_read n k (λ p. member p (listed_at s at) || f p) (suc a.first) a.left s a.next
 unfolding groups_read
-read_taken n k f low c s at kind class first next d e = rw e
+read_taken n k f low c s at a e = rw e
 
 -- first members by position
 at_zero : (g : reading.Head × List ℕ) (gs : List (reading.Head × List ℕ)) → first_at (g ∷ gs) 0 ≡ head_or 0 g.1
@@ -523,41 +508,41 @@ module _ (n g : ℕ) (c : Counts) (s : List ℕ) (from : ℕ) where
           let e : g - 0 ≡ g = omega arith in
           rw e (numbers_start number (groups_from s from g) least t (λ p h. leads-not least p (λ f. omega (arith, none p h))) z)
 
-  module _ (i low : ℕ) (left : Counts) (at : ℕ) (least firsts kinds classes : List ℕ) (more : i < g) (before : GroupsLeft n g c s from i low left at least firsts kinds classes) (r : Grouped) (least' : List ℕ) (got : GroupTaken n low left s at least least' r) where
+  module _ (i low : ℕ) (left : Counts) (at : ℕ) (least firsts kinds classes : List ℕ) (more : i < g) (before : GroupsLeft n g c s from i low left at least firsts kinds classes) (r : Option Taken) (least' : List ℕ) (got : GroupTaken n low left s at least least' r) where
     one_more : g - i ≡ suc (g - (i + 1))
     one_more = omega arith
 
     -- no group: nothing is read
-    pub groups_broken : r ≡ Missing → Broken ≡ groups_read n g (λ p. false) 0 c s from
+    pub groups_broken : r ≡ None → None ≡ groups_read n g (λ p. false) 0 c s from
     groups_broken e = sym (read_missing n (g - (i + 1)) (taken least) low left s at (sym got.result ∙ e)) ∙ (rw one_more at before.result)
 
-    module _ (small : n ≤ max_nodes) (kind class first next : ℕ) (d : Counts) (is : r ≡ Taken kind class first next d) where
-      told : GroupTold n (taken least) low s at kind class first next
-      told = taken-told n (taken least) low left s at kind class first next d (sym got.result ∙ is)
+    module _ (small : n ≤ max_nodes) (took : Taken) (is : r ≡ Some took) where
+      told : GroupTold n (taken least) low s at took.kind took.class took.first took.next
+      told = taken-told n (taken least) low left s at took (sym got.result ∙ is)
 
-      put : LeastPut (listed_at s at) first least least'
-      put = got.put kind class first next d is
+      put : LeastPut (listed_at s at) took.first least least'
+      put = got.put took is
 
-      pub first_small : first < max_nodes
-      first_small = omega (arith, (told.free first told.listed).0)
+      pub first_small : took.first < max_nodes
+      first_small = omega (arith, (told.free took.first told.listed).0)
 
       abbrev others : List (reading.Head × List ℕ)
-      others = groups_from s next (g - (i + 1))
+      others = groups_from s took.next (g - (i + 1))
 
       abbrev this : reading.Head × List ℕ
       this = (group_head s at, listed_at s at)
 
-      cons : groups_from s at (g - i) ≡ (group_head s at, listed_at s at) ∷ groups_from s next (g - (i + 1))
-      cons = ap (groups_from s at) one_more ∙ from_step s at (g - (i + 1)) next told.after
+      cons : groups_from s at (g - i) ≡ (group_head s at, listed_at s at) ∷ groups_from s took.next (g - (i + 1))
+      cons = ap (groups_from s at) one_more ∙ from_step s at (g - (i + 1)) took.next told.after
 
-      mine : (p : ℕ) → member p (listed_at s at) ≡ true → get_or least' p 0 ≡ first
-      mine p m = put.least p ∙ ap (λ (b : Bool). cond b first (get_or least p 0)) m
+      mine : (p : ℕ) → member p (listed_at s at) ≡ true → get_or least' p 0 ≡ took.first
+      mine p m = put.least p ∙ ap (λ (b : Bool). cond b took.first (get_or least p 0)) m
 
       kept : (p : ℕ) → member p (listed_at s at) ≡ false → get_or least' p 0 ≡ get_or least p 0
-      kept p m = put.least p ∙ ap (λ (b : Bool). cond b first (get_or least p 0)) m
+      kept p m = put.least p ∙ ap (λ (b : Bool). cond b took.first (get_or least p 0)) m
 
       now-taken : (p : ℕ) → member p (listed_at s at) ≡ true → taken least' p ≡ true
-      now-taken p m = taken_yes least' p first (sym (mine p m)) (λ e. omega (arith, first_small))
+      now-taken p m = taken_yes least' p took.first (sym (mine p m)) (λ e. omega (arith, first_small))
 
       taken_more : (p : ℕ) → taken least' p ≡ (member p (listed_at s at) || taken least p)
       taken_more p = by (decide (member p (listed_at s at)))
@@ -566,13 +551,13 @@ module _ (n g : ℕ) (c : Counts) (s : List ℕ) (from : ℕ) where
           by (inl m) = now-taken p m ∙ sym (or_left (taken least p) m)
           by (inr m) = taken_by least' least p (kept p m) ∙ sym (ap (λ (b : Bool). b || taken least p) m)
 
-      leads-first : leads least' first ≡ true
-      leads-first = leads_is least' first (mine first told.listed)
+      leads-first : leads least' took.first ≡ true
+      leads-first = leads_is least' took.first (mine took.first told.listed)
 
       leads-not-yet : (p : ℕ) → p < max_nodes → member p (listed_at s at) ≡ true → leads least p ≡ false
       leads-not-yet p h m = leads-not least p (λ e. omega (arith, untaken least p (told.free p m).1))
 
-      leads-other : (p : ℕ) → p < max_nodes → (p ≡ first → ⊥) → leads least' p ≡ leads least p
+      leads-other : (p : ℕ) → p < max_nodes → (p ≡ took.first → ⊥) → leads least' p ≡ leads least p
       leads-other p h f = by (decide (member p (listed_at s at)))
         where
           by : (member p (listed_at s at) ≡ true) ⊎ (member p (listed_at s at) ≡ false) → leads least' p ≡ leads least p
@@ -590,92 +575,88 @@ module _ (n g : ℕ) (c : Counts) (s : List ℕ) (from : ℕ) where
               ap₂ (λ (b : Bool) (y : ℕ). cond b y x) (taken_by least' least p (kept p m)) (kept p m)
               ∙ sym (ap (λ (b : Bool). cond (taken least p) (get_or least p 0) (cond b (head_or 0 (listed_at s at)) x)) m)
 
-      -- a number of the group stands at its first member
+      -- a number of the group stands at its took.first member
       module _ (number : reading.Head × List ℕ → ℕ) (t : List ℕ) (k : ℕ) (is_number : k ≡ number (group_head s at, listed_at s at)) (left-before : NumbersLeft number (groups_from s from g) (groups_from s at (g - i)) least t) where
-        number_step : (p x : ℕ) → p < max_nodes → cond (leads least' p) (get_or (set t first k) p 0) x ≡ cond (leads least p) (get_or t p 0) (cond (eqb p (head_or 0 (listed_at s at))) (number (group_head s at, listed_at s at)) x)
-        number_step p x h = by (decide (eqb p first))
+        number_step : (p x : ℕ) → p < max_nodes → cond (leads least' p) (get_or (set t took.first k) p 0) x ≡ cond (leads least p) (get_or t p 0) (cond (eqb p (head_or 0 (listed_at s at))) (number (group_head s at, listed_at s at)) x)
+        number_step p x h = by (decide (eqb p took.first))
           where
-            by : (eqb p first ≡ true) ⊎ (eqb p first ≡ false) → cond (leads least' p) (get_or (set t first k) p 0) x ≡ cond (leads least p) (get_or t p 0) (cond (eqb p (head_or 0 (listed_at s at))) (number (group_head s at, listed_at s at)) x)
+            by : (eqb p took.first ≡ true) ⊎ (eqb p took.first ≡ false) → cond (leads least' p) (get_or (set t took.first k) p 0) x ≡ cond (leads least p) (get_or t p 0) (cond (eqb p (head_or 0 (listed_at s at))) (number (group_head s at, listed_at s at)) x)
             by (inl e) =
-                let f : p ≡ first = eqb-true p first e in
-                ap₂ (λ (b : Bool) (y : ℕ). cond b y x) (ap (leads least') f ∙ leads-first) (ap (λ (y : ℕ). get_or (set t first k) y 0) f ∙ get_or-set_same t first k 0 (omega (arith, first_small, left-before.size)) ∙ is_number)
-                ∙ sym (ap₂ (λ (b b' : Bool). cond b (get_or t p 0) (cond b' (number this) x)) (ap (leads least) f ∙ leads-not-yet first first_small told.listed) (ap (eqb p) (sym told.leader) ∙ e))
+                let f : p ≡ took.first = eqb-true p took.first e in
+                ap₂ (λ (b : Bool) (y : ℕ). cond b y x) (ap (leads least') f ∙ leads-first) (ap (λ (y : ℕ). get_or (set t took.first k) y 0) f ∙ get_or-set_same t took.first k 0 (omega (arith, first_small, left-before.size)) ∙ is_number)
+                ∙ sym (ap₂ (λ (b b' : Bool). cond b (get_or t p 0) (cond b' (number this) x)) (ap (leads least) f ∙ leads-not-yet took.first first_small told.listed) (ap (eqb p) (sym told.leader) ∙ e))
             by (inr e) =
-                ap₂ (λ (b : Bool) (y : ℕ). cond b y x) (leads-other p h (eqb-false p first e)) (get_or-set_other t first p k 0 (eqb-false p first e))
+                ap₂ (λ (b : Bool) (y : ℕ). cond b y x) (leads-other p h (eqb-false p took.first e)) (get_or-set_other t took.first p k 0 (eqb-false p took.first e))
                 ∙ sym (ap (λ (b : Bool). cond (leads least p) (get_or t p 0) (cond b (number this) x)) (ap (eqb p) (sym told.leader) ∙ e))
 
-        numbers_more : NumbersLeft number (groups_from s from g) (groups_from s next (g - (i + 1))) least' (set t first k)
+        numbers_more : NumbersLeft number (groups_from s from g) (groups_from s took.next (g - (i + 1))) least' (set t took.first k)
         numbers_more = record {
-          size = length-set t first k ∙ left-before.size;
+          size = length-set t took.first k ∙ left-before.size;
           told = λ p h. number_step p (led_by number others p) h ∙ sym (ap (λ (l : List (reading.Head × List ℕ)). cond (leads least p) (get_or t p 0) (led_by number l p)) cons ∙ (unfold led_by in refl)) ∙ left-before.told p h;
-          others = λ p h f. unled p h f (decide (eqb p first));
+          others = λ p h f. unled p h f (decide (eqb p took.first));
         }
           where
-            unled : (p : ℕ) → p < max_nodes → leads least' p ≡ false → (eqb p first ≡ true) ⊎ (eqb p first ≡ false) → get_or (set t first k) p 0 ≡ 0
-            unled p h f (inl e) = differ (ap (leads least') (eqb-true p first e) ∙ leads-first) f
-            unled p h f (inr e) = get_or-set_other t first p k 0 (eqb-false p first e) ∙ left-before.others p h (sym (leads-other p h (eqb-false p first e)) ∙ f)
+            unled : (p : ℕ) → p < max_nodes → leads least' p ≡ false → (eqb p took.first ≡ true) ⊎ (eqb p took.first ≡ false) → get_or (set t took.first k) p 0 ≡ 0
+            unled p h f (inl e) = differ (ap (leads least') (eqb-true p took.first e) ∙ leads-first) f
+            unled p h f (inr e) = get_or-set_other t took.first p k 0 (eqb-false p took.first e) ∙ left-before.others p h (sym (leads-other p h (eqb-false p took.first e)) ∙ f)
 
-      first-here : first_at (groups_from s from g) i ≡ first
+      first-here : first_at (groups_from s from g) i ≡ took.first
       first-here =
           let e : i + 0 ≡ i = omega arith in
           (rw e at (before.shifted 0)) ∙ ap (λ (l : List (reading.Head × List ℕ)). first_at l 0) cons ∙ at_zero this others ∙ sym told.leader
 
-      pub groups_more : i < length firsts → GroupsLeft n g c s from (i + 1) (first + 1) d next least' (set firsts i first) (set kinds first kind) (set classes first class)
+      pub groups_more : i < length firsts → GroupsLeft n g c s from (i + 1) (took.first + 1) took.left took.next least' (set firsts i took.first) (set kinds took.first took.kind) (set classes took.first took.class)
       groups_more fits = record {
         result =
-            groups_alike n (g - (i + 1)) (taken least') (λ p. member p (listed_at s at) || taken least p) (λ p h. taken_more p) (first + 1) d s next
-            ∙ ap (λ (x : ℕ). groups_read n (g - (i + 1)) (λ p. member p (listed_at s at) || taken least p) x d s next) one
-            ∙ sym (read_taken n (g - (i + 1)) (taken least) low left s at kind class first next d (sym got.result ∙ is))
+            groups_alike n (g - (i + 1)) (taken least') (λ p. member p (listed_at s at) || taken least p) (λ p h. taken_more p) (took.first + 1) took.left s took.next
+            ∙ ap (λ (x : ℕ). groups_read n (g - (i + 1)) (λ p. member p (listed_at s at) || taken least p) x took.left s took.next) one
+            ∙ sym (read_taken n (g - (i + 1)) (taken least) low left s at took (sym got.result ∙ is))
             ∙ (rw one_more at before.result);
         nodes = put.size ∙ before.nodes;
         first = λ p h. first_step p (first_member_of others p) ∙ sym (ap (λ (l : List (reading.Head × List ℕ)). cond (taken least p) (get_or least p 0) (first_member_of l p)) cons ∙ (unfold first_member_of in refl)) ∙ before.first p h;
-        kind = numbers_more kind_in kinds kind told.sort before.kind;
-        class = numbers_more class_of classes class told.label before.class;
+        kind = numbers_more kind_in kinds took.kind told.sort before.kind;
+        class = numbers_more class_of classes took.class told.label before.class;
         led = λ k h. led k h (decide (eqb k i));
         ascend = record { small = λ k h. inside k h (decide (eqb k i)); order = λ k l a b. order k l a b (decide (eqb l i)) };
         passed = λ k h. passed k h (decide (eqb k i));
         shifted = λ k. let e : i + 1 + k ≡ i + suc k = omega arith in rw e (before.shifted (suc k) ∙ ap (λ (l : List (reading.Head × List ℕ)). first_at l (suc k)) cons ∙ at_suc this others k);
-        rest = sym (after_step s at (g - (i + 1)) next told.after) ∙ (rw one_more at before.rest);
+        rest = sym (after_step s at (g - (i + 1)) took.next told.after) ∙ (rw one_more at before.rest);
       }
         where
-          one : first + 1 ≡ suc first
+          one : took.first + 1 ≡ suc took.first
           one = omega arith
 
-          led : (k : ℕ) → k < i + 1 → (eqb k i ≡ true) ⊎ (eqb k i ≡ false) → get_or (set firsts i first) k 0 ≡ first_at (groups_from s from g) k
-          led k h (inl e) = rw (eqb-true k i e, get_or-set_same firsts i first 0 fits) (sym first-here)
-          led k h (inr e) = get_or-set_other firsts i k first 0 (eqb-false k i e) ∙ before.led k (omega (arith, eqb-false k i e))
+          led : (k : ℕ) → k < i + 1 → (eqb k i ≡ true) ⊎ (eqb k i ≡ false) → get_or (set firsts i took.first) k 0 ≡ first_at (groups_from s from g) k
+          led k h (inl e) = rw (eqb-true k i e, get_or-set_same firsts i took.first 0 fits) (sym first-here)
+          led k h (inr e) = get_or-set_other firsts i k took.first 0 (eqb-false k i e) ∙ before.led k (omega (arith, eqb-false k i e))
 
-          inside : (k : ℕ) → k < i + 1 → (eqb k i ≡ true) ⊎ (eqb k i ≡ false) → get_or (set firsts i first) k 0 < n
-          inside k h (inl e) = rw (eqb-true k i e, get_or-set_same firsts i first 0 fits) (told.free first told.listed).0
-          inside k h (inr e) = rw (get_or-set_other firsts i k first 0 (eqb-false k i e)) (before.ascend.small k (omega (arith, eqb-false k i e)))
+          inside : (k : ℕ) → k < i + 1 → (eqb k i ≡ true) ⊎ (eqb k i ≡ false) → get_or (set firsts i took.first) k 0 < n
+          inside k h (inl e) = rw (eqb-true k i e, get_or-set_same firsts i took.first 0 fits) (told.free took.first told.listed).0
+          inside k h (inr e) = rw (get_or-set_other firsts i k took.first 0 (eqb-false k i e)) (before.ascend.small k (omega (arith, eqb-false k i e)))
 
-          order : (k l : ℕ) → k < l → l < i + 1 → (eqb l i ≡ true) ⊎ (eqb l i ≡ false) → get_or (set firsts i first) k 0 < get_or (set firsts i first) l 0
+          order : (k l : ℕ) → k < l → l < i + 1 → (eqb l i ≡ true) ⊎ (eqb l i ≡ false) → get_or (set firsts i took.first) k 0 < get_or (set firsts i took.first) l 0
           order k l a b (inl e) =
               let h : l ≡ i = eqb-true l i e in
-              rw (h, get_or-set_same firsts i first 0 fits, get_or-set_other firsts i k first 0 (λ d. omega arith)) (omega (arith, before.passed k (omega arith), told.from))
-          order k l a b (inr e) = rw (get_or-set_other firsts i k first 0 (λ d. omega arith), get_or-set_other firsts i l first 0 (eqb-false l i e)) (before.ascend.order k l a (omega (arith, eqb-false l i e)))
+              rw (h, get_or-set_same firsts i took.first 0 fits, get_or-set_other firsts i k took.first 0 (λ d. omega arith)) (omega (arith, before.passed k (omega arith), told.from))
+          order k l a b (inr e) = rw (get_or-set_other firsts i k took.first 0 (λ d. omega arith), get_or-set_other firsts i l took.first 0 (eqb-false l i e)) (before.ascend.order k l a (omega (arith, eqb-false l i e)))
 
-          passed : (k : ℕ) → k < i + 1 → (eqb k i ≡ true) ⊎ (eqb k i ≡ false) → get_or (set firsts i first) k 0 < first + 1
-          passed k h (inl e) = rw (eqb-true k i e, get_or-set_same firsts i first 0 fits) (omega arith)
-          passed k h (inr e) = rw (get_or-set_other firsts i k first 0 (eqb-false k i e)) (omega (arith, before.passed k (omega (arith, eqb-false k i e)), told.from))
+          passed : (k : ℕ) → k < i + 1 → (eqb k i ≡ true) ⊎ (eqb k i ≡ false) → get_or (set firsts i took.first) k 0 < took.first + 1
+          passed k h (inl e) = rw (eqb-true k i e, get_or-set_same firsts i took.first 0 fits) (omega arith)
+          passed k h (inr e) = rw (get_or-set_other firsts i k took.first 0 (eqb-false k i e)) (omega (arith, before.passed k (omega (arith, eqb-false k i e)), told.from))
 
   -- what the function hands back: all groups, or none
-  pub groups_none : (least firsts₀ firsts kinds classes : List ℕ) → length least ≡ max_nodes → length kinds ≡ max_nodes → length classes ≡ max_nodes → length firsts ≡ length firsts₀ → Broken ≡ groups_read n g (λ p. false) 0 c s from → GroupsRead n g c s from least firsts₀ firsts kinds classes Broken
-  groups_none least firsts₀ firsts kinds classes a b v h e = record { result = e; nodes = a; groups = b; labels = v; size = h; held = λ next left f. none f }
-    where
-      none : {next : ℕ} {left : Counts} → Broken ≡ Whole next left → GroupsHeld n g s from next least firsts kinds classes
-      none f = let z : ◌≡◌ {A = ℕ} 0 1 = cc in absurd (omega arith)
+  pub groups_none : (least firsts kinds classes : List ℕ) → length least ≡ max_nodes → length kinds ≡ max_nodes → length classes ≡ max_nodes → None ≡ groups_read n g (λ p. false) 0 c s from → GroupsRead n g c s from least firsts kinds classes None
+  groups_none least firsts kinds classes a b v e = record { result = e; nodes = a; groups = b; labels = v; held = λ a f. absurd (none-some a f) }
 
-  pub groups_all : (i low : ℕ) (left : Counts) (at : ℕ) (least firsts₀ firsts kinds classes : List ℕ) → i ≡ g → length firsts ≡ length firsts₀ → GroupsLeft n g c s from i low left at least firsts kinds classes → GroupsRead n g c s from least firsts₀ firsts kinds classes (Whole at left)
-  groups_all i low left at least firsts₀ firsts kinds classes last a x = record {
+  pub groups_all : (i low : ℕ) (left : Counts) (at : ℕ) (least firsts kinds classes : List ℕ) → i ≡ g → GroupsLeft n g c s from i low left at least firsts kinds classes → GroupsRead n g c s from least firsts kinds classes (Some (record { next = at; left = left }))
+  groups_all i low left at least firsts kinds classes last x = record {
     result = sym (if_whole (g - i) none) ∙ x.result;
     nodes = x.nodes;
     groups = x.kind.size;
     labels = x.class.size;
-    size = a;
     held =
-        λ next l e.
-        let f : next ≡ at = cc in
+        λ a e.
+        let f : a.next ≡ at = sym (ap (λ (x : Rest). x.next) (same_Some (record { next = at; left = left }) a e)) in
         record {
           first = λ p h. sym (taken_or least p) ∙ sym (ap (λ (y : List (reading.Head × List ℕ)). cond (taken least p) (get_or least p 0) (first_member_of y p)) ended ∙ (unfold first_member_of in refl)) ∙ x.first p h;
           kind = numbers_done kind_in ended x.kind;
@@ -689,7 +670,7 @@ module _ (n g : ℕ) (c : Counts) (s : List ℕ) (from : ℕ) where
       none : g - i ≡ 0
       none = omega arith
 
-      if_whole : (k : ℕ) → k ≡ 0 → groups_read n k (taken least) low left s at ≡ Whole at left
+      if_whole : (k : ℕ) → k ≡ 0 → groups_read n k (taken least) low left s at ≡ Some (record { next = at; left = left })
       if_whole k e = unfold groups_read in rw e
 
       after : (k : ℕ) → k ≡ 0 → bytes_after s at k ≡ drop at s

@@ -1,6 +1,6 @@
 -- Laws of superedges drawn one way, then mirrored.
-use Rattle.std.specs.Prelude.{◌≡◌, refl, Bool, ◌&&◌, ◌||◌, ◌⊎◌, ℕ, zero, suc, ◌+◌, ◌*◌, ◌/◌, ◌%◌, ◌≤◌, ◌<◌, leb, ltb, length, get_or, drop, replicate}
-use Rattle.std.proofs.Common.{sym, ap, ap₂, ◌∙◌, inl, inr, mul-le-mul, arith}
+use Rattle.std.specs.Prelude.{◌≡◌, refl, Bool, ◌&&◌, ◌||◌, ◌⊎◌, ℕ, zero, suc, ◌+◌, ◌*◌, ◌%◌, ◌≤◌, ◌<◌, ltb, length, get_or, drop, replicate, Some}
+use Rattle.std.proofs.Common.{sym, ap, ap₂, ◌∙◌, inl, inr, arith}
 use Rattle.std.proofs.Math.Bool.{true, false, and_comm, or-false}
 use mathlib.Core.List.{List, [], ◌∷◌}
 use Rattle.std.proofs.Math.Dec.{eqb}
@@ -18,14 +18,6 @@ use Rattle.drawing.specs.BitLaws.{added_only, blank_bit, no_bits}
 use Rattle.mirroring.specs.Mirroring.{StripsFor, Lower, Mirrored}
 use Rattle.reader.specs.Decoding.{FirstsAscend, JoinedRead, SuperedgesRead, drawn_by, is_few, pairs_to}
 use Rattle.reader.specs.SuperedgeLaws.{here_or_not, ordered_first, ordered_second, refuted, stop_pair, stops_empty}
-
--- few superedges, or many
-pub few_bound : (w n : ℕ) → w ≤ 8 → n ≤ max_nodes → (8 + 24 * w) * n ≤ 200 * max_nodes
-few_bound w n h l = let k : 8 + 24 * w ≤ 200 = omega arith in mul-le-mul k l
-
-pub few_is : (bytes n w : ℕ) → w ≡ (n + 63) / 64 → leb bytes (384 + (8 + 24 * w) * n) ≡ is_few bytes n
-unfolding is_few
-few_is bytes n w e = rw e
 
 -- sums before anything is added
 pub sums_size : (t : List ℕ) → t ≡ replicate (2 * max_nodes) 0 → length t ≡ 2 * max_nodes
@@ -66,7 +58,7 @@ drawn_lower n g s firsts up (suc k) last at a b t =
         let y = eqb-true b (get_or firsts i 0) (and_snd (eqb a (get_or firsts j 0)) (eqb b (get_or firsts i 0)) v) in
         (omega (arith, up.order i j (ordered_first g last i j f) (ordered_second g last i j f)), omega (arith, up.small j (ordered_second g last i j f)))
 
-    goes : (i j : ℕ) → item_in (drop at s) ≡ Superedge i j → follows g last i j ≡ true → (drawn_by false firsts (pairs_to g s (pair_key i j) k (at + 6)) a b ≡ true → (b < a) × (a < n)) → (b < a) × (a < n)
+    goes : (i j : ℕ) → item_in (drop at s) ≡ Some (Superedge i j) → follows g last i j ≡ true → (drawn_by false firsts (pairs_to g s (pair_key i j) k (at + 6)) a b ≡ true → (b < a) × (a < n)) → (b < a) × (a < n)
     goes i j e f rest = by (or_cases (pair_bits false (get_or firsts i 0) (get_or firsts j 0) a b) (drawn_by false firsts (pairs_to g s (pair_key i j) k (at + 6)) a b) here)
       where
         here : (pair_bits false (get_or firsts i 0) (get_or firsts j 0) a b || drawn_by false firsts (pairs_to g s (pair_key i j) k (at + 6)) a b) ≡ true

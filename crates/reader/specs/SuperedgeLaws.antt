@@ -1,5 +1,5 @@
 -- Laws of the superedges of a file, read run by run.
-use Rattle.std.specs.Prelude.{◌≡◌, Bool, false, ◌&&◌, ◌||◌, cond, ◌⊎◌, eqb, ltb, length, get_or, drop}
+use Rattle.std.specs.Prelude.{◌≡◌, Bool, false, ◌&&◌, ◌||◌, cond, ◌⊎◌, eqb, ltb, length, get_or, drop, Option, Some, None}
 use Rattle.std.proofs.Math.Path.{refl, ap}
 use Rattle.std.proofs.Common.{sym, subst, ◌∙◌, inl, inr, length-drop, eqb-true, eq-eqb, ne_eqb, lt-ltb, le-ltb, ltb-true}
 use Rattle.std.proofs.Math.Bool.{true}
@@ -12,10 +12,10 @@ use Rattle.model.specs.InOrder.{follows, pair_key}
 use Rattle.model.proofs.TestLaws.{and_fst, and_snd, decide, differ, iff_eq}
 use Rattle.records.specs.declared.Counts.{Counts}
 use Rattle.records.specs.declared.Record.{Record}
-use Rattle.records.specs.declared.Record.TheVariants.{Head, Group, Superedge, End, Malformed}
+use Rattle.records.specs.declared.Record.TheVariants.{Head, Group, Superedge, End}
 use Rattle.records.specs.declared.Read.{Read}
 use Rattle.records.specs.Records.{item_in, record_at, size_of, spent, superedge_from}
-use Rattle.records.specs.RecordLaws.{Fits, fits_at, from_is, from-not, item_fits, item_is, next_is}
+use Rattle.records.specs.RecordLaws.{Fits, fits_at, from_is, from-not, none-from, item_fits, item_is, next_is, none_in}
 use Rattle.drawing.specs.Drawing.{Added, pair_bits}
 use Rattle.drawing.specs.DrawingLaws.{adding_done, adding_start, adding_step}
 use Rattle.sums.specs.Joined.{SumsAdded}
@@ -24,8 +24,8 @@ use Rattle.reader.specs.AddedLaws.{all_added, one_added, some_added}
 use Rattle.reader.specs.Decoding.{RunLeft, RunRead, RunsLeft, RunsPassed, SuperedgesRead, added_by, drawn_by, ends_at, in_run, on_superedge, pair_adds, pairs_to, run_pairs, run_stop, stop_at}
 
 -- a superedge has six bytes
-module _ (s : List ℕ) (at i : ℕ) (r : Read) (read : r ≡ superedge_from i s at) (a j : ℕ) (item : r.item ≡ Superedge a j) where
-  read_here : r ≡ record_at s at
+module _ (s : List ℕ) (at i : ℕ) (r : Read) (read : Some r ≡ superedge_from i s at) (a j : ℕ) (item : r.item ≡ Superedge a j) where
+  read_here : Some r ≡ record_at s at
   read_here = (from_is s at i r read a j item).0
 
   pub superedge_next : r.next ≡ at + 6
@@ -36,7 +36,11 @@ module _ (s : List ℕ) (at i : ℕ) (r : Read) (read : r ≡ superedge_from i s
   superedge_room = let f = fits_at s at r read_here (Superedge a j) item in omega (arith, f.0, length-drop at s)
 
 -- the end record, judged by the record just read
-module _ (s : List ℕ) (at : ℕ) (r : Read) (read : r ≡ record_at s at) (c : Counts) where
+pub ends_none : (s : List ℕ) (at : ℕ) (c : Counts) → None ≡ record_at s at → false ≡ ends_at c s at
+unfolding ends_at
+ends_none s at c read = rw (← none_in s at read)
+
+module _ (s : List ℕ) (at : ℕ) (r : Read) (read : Some r ≡ record_at s at) (c : Counts) where
   pub ends_other : (r.item ≡ End → ⊥) → false ≡ ends_at c s at
   ends_other h = by_kind r.item refl
     where
@@ -45,7 +49,6 @@ module _ (s : List ℕ) (at : ℕ) (r : Read) (read : r ≡ record_at s at) (c :
       by_kind End e = absurd (h e)
       by_kind (Head x y z) e = unfold ends_at in rw (← item_is s at r read, e)
       by_kind (Group x y z) e = unfold ends_at in rw (← item_is s at r read, e)
-      by_kind Malformed e = unfold ends_at in rw (← item_is s at r read, e)
 
   module _ (end : r.item ≡ End) where
     pub ends_unspent : false ≡ spent c → false ≡ ends_at c s at
@@ -60,31 +63,31 @@ module _ (s : List ℕ) (at : ℕ) (r : Read) (read : r ≡ record_at s at) (c :
 
 -- the record at a place
 module _ (s : List ℕ) (at : ℕ) where
-  pub told_by : (i : Record) → item_in (drop at s) ≡ i → Fits (drop at s) i
+  pub told_by : (i : Option Record) → item_in (drop at s) ≡ i → Fits (drop at s) i
   told_by i e = subst (Fits (drop at s)) e (item_fits (drop at s))
 
   -- a superedge here that passes a test, or none that does
-  pub here_or_not : (f : ℕ → ℕ → Bool) {X : Type 0} → ((a j : ℕ) → item_in (drop at s) ≡ Superedge a j → f a j ≡ true → X) → (((a j : ℕ) → item_in (drop at s) ≡ Superedge a j → f a j ≡ false) → X) → X
+  pub here_or_not : (f : ℕ → ℕ → Bool) {X : Type 0} → ((a j : ℕ) → item_in (drop at s) ≡ Some (Superedge a j) → f a j ≡ true → X) → (((a j : ℕ) → item_in (drop at s) ≡ Some (Superedge a j) → f a j ≡ false) → X) → X
   here_or_not f {X} taken none = by_kind (item_in (drop at s)) refl
     where
-      by-test : (a j : ℕ) → item_in (drop at s) ≡ Superedge a j → (f a j ≡ true) ⊎ (f a j ≡ false) → X
+      by-test : (a j : ℕ) → item_in (drop at s) ≡ Some (Superedge a j) → (f a j ≡ true) ⊎ (f a j ≡ false) → X
       by-test a j e (inl t) = taken a j e t
       by-test a j e (inr t) = none (λ b k d. let z = sym e ∙ d in let x : a ≡ b = cc in let y : j ≡ k = cc in rw (← x, ← y) t)
 
-      by_kind : (x : Record) → item_in (drop at s) ≡ x → X
-      by_kind (Superedge a j) e = by-test a j e (decide (f a j))
-      by_kind End e = none (λ b k d. let w = sym e ∙ d in let z : ◌≡◌ {A = ℕ} 0 1 = cc in absurd (omega arith))
-      by_kind (Head x y z) e = none (λ b k d. let w = sym e ∙ d in let z : ◌≡◌ {A = ℕ} 0 1 = cc in absurd (omega arith))
-      by_kind (Group x y z) e = none (λ b k d. let w = sym e ∙ d in let z : ◌≡◌ {A = ℕ} 0 1 = cc in absurd (omega arith))
-      by_kind Malformed e = none (λ b k d. let w = sym e ∙ d in let z : ◌≡◌ {A = ℕ} 0 1 = cc in absurd (omega arith))
+      by_kind : (x : Option Record) → item_in (drop at s) ≡ x → X
+      by_kind (Some (Superedge a j)) e = by-test a j e (decide (f a j))
+      by_kind (Some End) e = none (λ b k d. let w = sym e ∙ d in let z : ◌≡◌ {A = ℕ} 0 1 = cc in absurd (omega arith))
+      by_kind (Some (Head x y z)) e = none (λ b k d. let w = sym e ∙ d in let z : ◌≡◌ {A = ℕ} 0 1 = cc in absurd (omega arith))
+      by_kind (Some (Group x y z)) e = none (λ b k d. let w = sym e ∙ d in let z : ◌≡◌ {A = ℕ} 0 1 = cc in absurd (omega arith))
+      by_kind None e = none (λ b k d. let w = sym e ∙ d in let z : ◌≡◌ {A = ℕ} 0 1 = cc in absurd (omega arith))
 
 -- no superedge that passes a test: the way out
-on_none : {A : Type 0} (r : Record) (t : ℕ → ℕ → Bool) (f : ℕ → ℕ → A) (x : A) → ((i j : ℕ) → r ≡ Superedge i j → t i j ≡ false) → on_superedge r (λ i j. cond (t i j) (f i j) x) x ≡ x
-on_none (Superedge i j) t f x h = rw (h i j refl)
-on_none End t f x h = refl
-on_none (Head n m g) t f x h = refl
-on_none (Group q count class) t f x h = refl
-on_none Malformed t f x h = refl
+on_none : {A : Type 0} (r : Option Record) (t : ℕ → ℕ → Bool) (f : ℕ → ℕ → A) (x : A) → ((i j : ℕ) → r ≡ Some (Superedge i j) → t i j ≡ false) → on_superedge r (λ i j. cond (t i j) (f i j) x) x ≡ x
+on_none (Some (Superedge i j)) t f x h = rw (h i j refl)
+on_none (Some End) t f x h = refl
+on_none (Some (Head n m g)) t f x h = refl
+on_none (Some (Group q count class)) t f x h = refl
+on_none None t f x h = refl
 
 -- which superedges a run takes
 other_first : (g i last a j : ℕ) → (a ≡ i → ⊥) → in_run g i last a j ≡ false
@@ -123,7 +126,7 @@ run_second g i last a j t = let u = and_snd (eqb a i) (ltb last j && ltb j g) t 
 -- one record of a run: none that belongs to it, or one
 module _ (g i : ℕ) (s : List ℕ) (last at : ℕ) where
   abbrev NotHere : Type 0
-  NotHere = (a j : ℕ) → item_in (drop at s) ≡ Superedge a j → in_run g i last a j ≡ false
+  NotHere = (a j : ℕ) → item_in (drop at s) ≡ Some (Superedge a j) → in_run g i last a j ≡ false
 
   run-stops : (k : ℕ) → NotHere → run_stop g i s last k at ≡ at
   unfolding run_stop
@@ -135,7 +138,7 @@ module _ (g i : ℕ) (s : List ℕ) (last at : ℕ) where
   run-empty zero h = refl
   run-empty (suc k) h = on_none (item_in (drop at s)) (in_run g i last) (λ a j. (i, j) ∷ run_pairs g i s j k (at + 6)) [] h
 
-  module _ (k a j : ℕ) (here : item_in (drop at s) ≡ Superedge a j) (taken : in_run g i last a j ≡ true) where
+  module _ (k a j : ℕ) (here : item_in (drop at s) ≡ Some (Superedge a j)) (taken : in_run g i last a j ≡ true) where
     run-goes : run_stop g i s last (suc k) at ≡ run_stop g i s j k (at + 6)
     unfolding run_stop
     run-goes = rw (here, taken)
@@ -162,22 +165,30 @@ module _ (g i : ℕ) (few : Bool) (s : List ℕ) (from : ℕ) (firsts joined₀ 
     summed = all_added few firsts left.summed (run-empty g i s last at left.most h);
   }
 
-  module _ (r : Read) (read : r ≡ superedge_from i s at) where
+  -- no record here
+  pub run_none : None ≡ superedge_from i s at → RunRead g i few s from firsts joined₀ joined sums₀ sums at
+  run_none read = run_ends (λ a j e. by a j e (decide (eqb a i)))
+    where
+      by : (a j : ℕ) → item_in (drop at s) ≡ Some (Superedge a j) → (eqb a i ≡ true) ⊎ (eqb a i ≡ false) → in_run g i last a j ≡ false
+      by a j e (inl t) = absurd (none-from s at i read j (e ∙ ap (λ (x : ℕ). Some (Superedge x j)) (eqb-true a i t)))
+      by a j e (inr t) = other_first g i last a j (eqb-false a i t)
+
+  module _ (r : Read) (read : Some r ≡ superedge_from i s at) where
     pub run_other : ((a j : ℕ) → r.item ≡ Superedge a j → ⊥) → RunRead g i few s from firsts joined₀ joined sums₀ sums at
     run_other h = run_ends (λ a j e. by a j e (decide (eqb a i)))
       where
-        by : (a j : ℕ) → item_in (drop at s) ≡ Superedge a j → (eqb a i ≡ true) ⊎ (eqb a i ≡ false) → in_run g i last a j ≡ false
-        by a j e (inl t) = absurd (from-not s at i r read h j (e ∙ ap (λ (x : ℕ). Superedge x j) (eqb-true a i t)))
+        by : (a j : ℕ) → item_in (drop at s) ≡ Some (Superedge a j) → (eqb a i ≡ true) ⊎ (eqb a i ≡ false) → in_run g i last a j ≡ false
+        by a j e (inl t) = absurd (from-not s at i r read h j (e ∙ ap (λ (x : ℕ). Some (Superedge x j)) (eqb-true a i t)))
         by a j e (inr t) = other_first g i last a j (eqb-false a i t)
 
     module _ (a j : ℕ) (item : r.item ≡ Superedge a j) where
-      here : item_in (drop at s) ≡ Superedge a j
-      here = sym (item_is s at r (read_here s at i r read a j item)) ∙ item
+      here : item_in (drop at s) ≡ Some (Superedge a j)
+      here = sym (item_is s at r (read_here s at i r read a j item)) ∙ ap Some item
 
       pub run_over : in_run g i last a j ≡ false → RunRead g i few s from firsts joined₀ joined sums₀ sums at
       run_over h = run_ends (λ b k e. one b k (sym here ∙ e))
         where
-          one : (b k : ℕ) → Superedge a j ≡ Superedge b k → in_run g i last b k ≡ false
+          one : (b k : ℕ) → Some (Superedge a j) ≡ Some (Superedge b k) → in_run g i last b k ≡ false
           one b k e = let x : a ≡ b = cc in let y : j ≡ k = cc in rw (← x, ← y) h
 
       pub run_more : (joined' sums' : List ℕ) (p q : ℕ) → last < j → j < g → p ≡ get_or firsts i 0 → q ≡ get_or firsts j 0
@@ -230,7 +241,7 @@ positions g last i j t =
 -- one record: no superedge in order, or one
 module _ (g : ℕ) (s : List ℕ) (last at : ℕ) where
   abbrev pub NoneHere : Type 0
-  NoneHere = (a j : ℕ) → item_in (drop at s) ≡ Superedge a j → follows g last a j ≡ false
+  NoneHere = (a j : ℕ) → item_in (drop at s) ≡ Some (Superedge a j) → follows g last a j ≡ false
 
   pub stops : (k : ℕ) → NoneHere → stop_at g s last k at ≡ at
   unfolding stop_at
@@ -242,7 +253,7 @@ module _ (g : ℕ) (s : List ℕ) (last at : ℕ) where
   stops_empty zero h = refl
   stops_empty (suc k) h = on_none (item_in (drop at s)) (follows g last) (λ i j. (i, j) ∷ pairs_to g s (pair_key i j) k (at + 6)) [] h
 
-  module _ (k a j : ℕ) (here : item_in (drop at s) ≡ Superedge a j) (taken : follows g last a j ≡ true) where
+  module _ (k a j : ℕ) (here : item_in (drop at s) ≡ Some (Superedge a j)) (taken : follows g last a j ≡ true) where
     pub stop_goes : stop_at g s last (suc k) at ≡ stop_at g s (pair_key a j) k (at + 6)
     unfolding stop_at
     stop_goes = rw (here, taken)
@@ -312,7 +323,7 @@ module _ (g i : ℕ) (s : List ℕ) (few : g ≤ u16_limit) where
   one : (kr : ℕ) → Walk kr → Walk (suc kr)
   one kr rec k key last at l m h p = here_or_not s at (in_run g i last) goes (stays (suc kr) k key last at l h p)
     where
-      goes : (a j : ℕ) → item_in (drop at s) ≡ Superedge a j → in_run g i last a j ≡ true → AfterRun k key last (suc kr) at
+      goes : (a j : ℕ) → item_in (drop at s) ≡ Some (Superedge a j) → in_run g i last a j ≡ true → AfterRun k key last (suc kr) at
       goes a j e t = record {
         most = next.most;
         final = next.final;
@@ -323,14 +334,14 @@ module _ (g i : ℕ) (s : List ℕ) (few : g ≤ u16_limit) where
         pairs = ap (λ (x : ℕ). pairs_to g s key x at) k-is ∙ stop_pair g s key at (k - 1) i j here taken ∙ ap (λ (x : List (ℕ × ℕ)). (i, j) ∷ x) next.pairs ∙ rw (run-pair g i s last at kr a j e t, stop) refl;
       }
         where
-          here : item_in (drop at s) ≡ Superedge i j
-          here = e ∙ ap (λ (x : ℕ). Superedge x j) (run_first g i last a j t)
+          here : item_in (drop at s) ≡ Some (Superedge i j)
+          here = e ∙ ap (λ (x : ℕ). Some (Superedge x j)) (run_first g i last a j t)
 
           taken : follows g key i j ≡ true
           taken = agree h j ∙ ap (λ (x : ℕ). in_run g i last x j) (sym (run_first g i last a j t)) ∙ t
 
           room : at + 6 ≤ length s
-          room = let f = told_by s at (Superedge i j) here in omega (arith, f.0, length-drop at s)
+          room = let f = told_by s at (Some (Superedge i j)) here in omega (arith, f.0, length-drop at s)
 
           k-is : k ≡ suc (k - 1)
           k-is = omega (arith, room)
@@ -342,7 +353,7 @@ module _ (g i : ℕ) (s : List ℕ) (few : g ≤ u16_limit) where
           stop = run-goes g i s last at kr a j e t
 
   walked : (kr : ℕ) → Walk kr
-  walked zero = λ k key last at l m h p. stays zero k key last at l h p (λ a j e. let f = told_by s at (Superedge a j) e in absurd (omega (arith, f.0, length-drop at s)))
+  walked zero = λ k key last at l m h p. stays zero k key last at l h p (λ a j e. let f = told_by s at (Some (Superedge a j)) e in absurd (omega (arith, f.0, length-drop at s)))
   walked (suc kr) = one kr (walked kr)
 
 -- superedges in two parts

@@ -1,7 +1,7 @@
 // A release file read record by record into the groups and superedges that it tells.
 #![tactic(auto)]
 
-ghost use Rattle.std.specs.Prelude.{◌≡◌, ◌+◌, ◌*◌, ◌≤◌, ◌<◌, length, replicate};
+ghost use Rattle.std.specs.Prelude.{◌≡◌, ◌+◌, ◌*◌, ◌≤◌, ◌<◌, IfSome, length, replicate};
 ghost use Rattle.model.specs.Graph.{max_nodes, row_words};
 ghost use Rattle.rows.specs.Rows.{no_node};
 ghost use Rattle.compressed.specs.Compressed.{kind_marked, single};
@@ -12,31 +12,30 @@ ghost use Rattle.sums.specs.Joined.{SumsAdded};
 ghost use Rattle.sums.specs.Sums.{FirstsAreNodes};
 ghost use Rattle.reader.specs.Decoding.{AfterHead, Blank, BodyRead, Decodes, FirstsAscend, FirstsPlaced, GroupTaken, GroupsRead, JoinedRead, MembersRead, RunRead, SumsKept, SuperedgesRead, counts_fit, ends_at, is_few, least_count, nodes_in, numbers_at, pair_adds};
 
-use compressed::{CLIQUE, INDEPENDENT, SINGLE};
-use records::{Counts, Lessened, Record};
+use compressed::{CLIQUE, Groups, INDEPENDENT, SINGLE};
+use records::{Counts, Record};
 use rows::Graph;
 
 // The kind of a group by its mark and count.
+#[tactic(auto, unfolding(compressed::specs::Compressed::kind_marked))]
 fn kind_of(clique: bool, count: usize) -> u16
     ensures { result ≡ kind_marked clique count }
 {
     if clique {
-        return CLIQUE;
+        CLIQUE
+    } else if count == 1 {
+        SINGLE
+    } else {
+        INDEPENDENT
     }
-    if count == 1 {
-        return SINGLE;
-    }
-    INDEPENDENT
 }
 
 // A group has a member, a clique two.
+#[tactic(auto, unfolding(crate::specs::Decoding::least_count))]
 fn least_count(clique: bool) -> usize
     ensures { result ≡ least_count clique }
 {
-    if clique {
-        return 2;
-    }
-    1
+    if clique { 2 } else { 1 }
 }
 
 // The members of a group, led by the first: nodes of no group, ascending from `low` on. Each uses up one of the head's members.
@@ -48,7 +47,7 @@ fn read_members(
     low: usize,
     counts: Counts,
     least: &mut [u16],
-) -> Lessened
+) -> Option<Counts>
     requires { (n ≤ max_nodes) × (0 < count) × (at + 2 * count ≤ length file.now) × (n ≤ length least.old) }
     ensures { MembersRead n low counts (numbers_at file.now at count) least.old least.new result }
 {
@@ -58,38 +57,33 @@ fn read_members(
     for k in 0..count {
         let p = records::node_at(file, at + 2 * k);
         if p < from {
-            return Lessened::Over;
+            return None;
         }
         if p >= n {
-            return Lessened::Over;
+            return None;
         }
         if least[p] != Graph::NONE {
-            return Lessened::Over;
+            return None;
         }
-        let Lessened::Left(c) = left.member() else {
-            return Lessened::Over;
-        };
-        left = c;
+        left = left.member()?;
         least[p] = first;
         from = p + 1;
     }
-    Lessened::Left(left)
+    Some(left)
 }
 
 // A group just taken: its kind, its class and first member, the place after it, and what is left of the counts.
 #[derive(Clone, Copy)]
-enum Grouped {
-    Taken {
-        kind: u16,
-        class: u16,
-        first: usize,
-        next: usize,
-        left: Counts,
-    },
-    Missing,
+struct Taken {
+    kind: u16,
+    class: u16,
+    first: usize,
+    next: usize,
+    left: Counts,
 }
 
 // The group at a place, with its members.
+#[tactic(auto, using(crate::specs::GroupLaws::no_record, crate::specs::GroupLaws::other_record, crate::specs::GroupLaws::large_class, crate::specs::GroupLaws::few_members, crate::specs::GroupLaws::no_room, crate::specs::GroupLaws::no_group, crate::specs::GroupLaws::numbers_room, crate::specs::GroupLaws::no_members, crate::specs::GroupLaws::all_members))]
 fn take_group(
     file: &[u8],
     at: usize,
@@ -97,93 +91,79 @@ fn take_group(
     low: usize,
     counts: Counts,
     least: &mut [u16],
-) -> Grouped
+) -> Option<Taken>
     requires { (n ≤ max_nodes) × (n ≤ length least.old) }
-    ensures { GroupTaken n low counts file.now at least.old least.new result }
+    ensures taken { GroupTaken n low counts file.now at least.old least.new result }
+    ensures first { IfSome result (λ group. group.first < n) }
 {
-    let read = records::record_at(file, at);
-    let item = read.item;
-    let from = read.next;
+    let read = records::record_at(file, at)?;
     let Record::Group {
         clique,
         count,
         class,
-    } = item
+    } = read.item
     else {
-        return Grouped::Missing;
+        return None;
     };
-    if class as usize >= Graph::CLASSES {
-        return Grouped::Missing;
+    if usize::from(class) >= Graph::CLASSES {
+        return None;
     }
-    let members = count as usize;
+    let members = usize::from(count);
     if members < least_count(clique) {
-        return Grouped::Missing;
+        return None;
     }
+    let from = read.next;
     if file.len() - from < 2 * members {
-        return Grouped::Missing;
+        return None;
     }
-    let Lessened::Left(c) = counts.group() else {
-        return Grouped::Missing;
-    };
-    let Lessened::Left(left) = read_members(file, from, members, n, low, c, least) else {
-        return Grouped::Missing;
-    };
-    Grouped::Taken {
+    let others = counts.group()?;
+    let left = read_members(file, from, members, n, low, others, least)?;
+    Some(Taken {
         kind: kind_of(clique, members),
         class,
         first: records::node_at(file, from),
         next: from + 2 * members,
         left,
-    }
+    })
 }
 
-// All groups read: the place after them, and what is left of the counts.
+// The place after all groups, and what is left of the counts.
 #[derive(Clone, Copy)]
-enum Groups {
-    Whole { next: usize, left: Counts },
-    Broken,
+struct Rest {
+    next: usize,
+    left: Counts,
 }
 
-// The groups of a file, by ascending first members.
+// The groups of a file, as many as there is room for their first members, which ascend.
 fn read_groups(
     file: &[u8],
     from: usize,
     n: usize,
-    g: usize,
     counts: Counts,
-    least: &mut [u16],
+    groups: &mut Groups,
     firsts: &mut [u16],
-    kinds: &mut [u16],
-    classes: &mut [u16],
-) -> Groups
-    requires { (n ≤ max_nodes) × (g ≤ max_nodes) × (g ≤ length firsts.old) × (least.old ≡ replicate max_nodes no_node) × (kinds.old ≡ replicate max_nodes single) × (classes.old ≡ replicate max_nodes 0) }
-    ensures { GroupsRead n g counts file.now from least.new firsts.old firsts.new kinds.new classes.new result }
+) -> Option<Rest>
+    requires { (n ≤ max_nodes) × (length firsts.old ≤ max_nodes) × (groups.old.least ≡ replicate max_nodes no_node) × (groups.old.kinds ≡ replicate max_nodes single) × (groups.old.classes ≡ replicate max_nodes 0) }
+    ensures read { GroupsRead n (length firsts.new) counts file.now from groups.new.least firsts.new groups.new.kinds groups.new.classes result }
+    ensures sums { groups.new.sums ≡ groups.old.sums }
 {
     let mut at = from;
     let mut low = 0;
     let mut left = counts;
-    for i in 0..g {
-        let Grouped::Taken {
-            kind,
-            class,
-            first,
-            next,
-            left: less,
-        } = take_group(file, at, n, low, left, least)
-        else {
-            return Groups::Broken;
-        };
-        kinds[first] = kind;
-        classes[first] = class;
-        firsts[i] = first as u16;
-        low = first + 1;
-        at = next;
-        left = less;
+    for first in firsts {
+        let group = take_group(file, at, n, low, left, &mut groups.least)?;
+        groups.kinds[group.first] = group.kind;
+        groups.classes[group.first] = group.class;
+        *first = group.first as u16;
+        low = group.first + 1;
+        at = group.next;
+        left = group.left;
     }
-    Groups::Whole { next: at, left }
+    Some(Rest { next: at, left })
 }
 
 // The superedge between p and q: one bit, or both and the cubes of each added to the other's sum.
+#[tactic(auto, using(crate::specs::AddedLaws::few_adds, crate::specs::AddedLaws::many_add))]
 fn join(joined: &mut [u64], sums: &mut [u32], p: usize, q: usize, few: bool)
     requires { (p < max_nodes) × (q < max_nodes) × (row_words * p + row_words ≤ length joined.old) × (row_words * q + row_words ≤ length joined.old) × (length sums.old ≡ 2 * max_nodes) }
     ensures added { Added (pair_bits few p q) joined.old joined.new }
@@ -199,59 +179,57 @@ fn join(joined: &mut [u64], sums: &mut [u32], p: usize, q: usize, few: bool)
 fn read_run(
     file: &[u8],
     from: usize,
-    g: usize,
     i: usize,
     few: bool,
     firsts: &[u16],
     joined: &mut [u64],
     sums: &mut [u32],
 ) -> usize
-    requires { FirstsPlaced g (length joined.old) firsts.now × (i < g) × (length sums.old ≡ 2 * max_nodes) }
-    ensures { RunRead g i few file.now from firsts.now joined.old joined.new sums.old sums.new result }
+    requires { FirstsPlaced (length firsts.now) (length joined.old) firsts.now × (i < length firsts.now) × (length sums.old ≡ 2 * max_nodes) }
+    ensures { RunRead (length firsts.now) i few file.now from firsts.now joined.old joined.new sums.old sums.new result }
 {
     let p = rows::wide(firsts[i]);
     let mut at = from;
     let mut last = i;
-    loop {
-        let read = records::superedge_from(file, at, i);
-        let item = read.item;
-        let Record::Superedge { second, .. } = item else {
+    while let Some(read) = records::superedge_from(file, at, i) {
+        let Record::Superedge { second, .. } = read.item else {
             return at;
         };
-        let j = second as usize;
+        let j = usize::from(second);
         if j <= last {
             return at;
         }
-        if j >= g {
+        if j >= firsts.len() {
             return at;
         }
         join(joined, sums, p, rows::wide(firsts[j]), few);
         last = j;
         at = read.next;
     }
+    at
 }
 
 // The superedges of a file, run by run. The first place without one in order.
 fn read_superedges(
     file: &[u8],
     from: usize,
-    g: usize,
     few: bool,
     firsts: &[u16],
     joined: &mut [u64],
     sums: &mut [u32],
 ) -> usize
-    requires { FirstsPlaced g (length joined.old) firsts.now × (length sums.old ≡ 2 * max_nodes) }
-    ensures { SuperedgesRead g few file.now from firsts.now joined.old joined.new sums.old sums.new result }
+    requires { FirstsPlaced (length firsts.now) (length joined.old) firsts.now × (length sums.old ≡ 2 * max_nodes) }
+    ensures { SuperedgesRead (length firsts.now) few file.now from firsts.now joined.old joined.new sums.old sums.new result }
 {
     let mut at = from;
-    for i in 0..g {
-        at = read_run(file, at, g, i, few, firsts, joined, sums);
+    for i in 0..firsts.len() {
+        at = read_run(file, at, i, few, firsts, joined, sums);
     }
     at
 }
 
 // Whether a file of so many bytes with n nodes has few superedges: at most about four for each word of each row.
+#[tactic(auto, unfolding(crate::specs::Decoding::is_few))]
 pub fn are_few(bytes: usize, n: usize) -> bool
     requires { n ≤ max_nodes }
     ensures { result ≡ is_few bytes n }
@@ -264,58 +242,44 @@ fn read_joined(
     file: &[u8],
     from: usize,
     n: usize,
-    g: usize,
     least: &[u16],
     firsts: &[u16],
     joined: &mut [u64],
     sums: &mut [u32],
 ) -> usize
-    requires firsts_are_nodes { FirstsAreNodes n least.now × FirstsPlaced g (length joined.old) firsts.now × FirstsAscend n g firsts.now }
+    requires firsts_are_nodes { FirstsAreNodes n least.now × FirstsPlaced (length firsts.now) (length joined.old) firsts.now × FirstsAscend n (length firsts.now) firsts.now }
     requires joined_value { (joined.old ≡ replicate (length joined.old) 0) × StripsFor n (length joined.old) × (sums.old ≡ replicate (2 * max_nodes) 0) }
-    ensures { JoinedRead n g file.now from least.now firsts.now joined.old joined.new sums.new result }
+    ensures { JoinedRead n (length firsts.now) file.now from least.now firsts.now joined.old joined.new sums.new result }
 {
     if are_few(file.len(), n) {
         sums::sum_groups(least, n, sums);
-        return read_superedges(file, from, g, true, firsts, joined, sums);
+        return read_superedges(file, from, true, firsts, joined, sums);
     }
-    let at = read_superedges(file, from, g, false, firsts, joined, sums);
+    let at = read_superedges(file, from, false, firsts, joined, sums);
     mirroring::mirror(joined, n);
     at
 }
 
 // Whether the end record stands at a place, where the counts and the bytes end too.
+#[tactic(auto, using(crate::specs::SuperedgeLaws::ends_none, crate::specs::SuperedgeLaws::ends_other, crate::specs::SuperedgeLaws::ends_spent, crate::specs::SuperedgeLaws::ends_unspent))]
 fn is_end(file: &[u8], at: usize, counts: Counts) -> bool
     ensures { result ≡ ends_at counts file.now at }
 {
-    let read = records::record_at(file, at);
-    let item = read.item;
-    let Record::End = item else {
+    let Some(read) = records::record_at(file, at) else {
         return false;
     };
-    if !counts.is_spent() {
+    let Record::End = read.item else {
         return false;
-    }
-    read.next == file.len()
-}
-
-// The graph that a file tells, by its groups in the lent arrays, or bytes that are no release.
-#[derive(Clone, Copy)]
-pub enum Decoded {
-    Graph { n: usize },
-    NoRelease,
+    };
+    counts.is_spent() && read.next == file.len()
 }
 
 // Whether a graph can have the head's numbers.
+#[tactic(auto, unfolding(crate::specs::Decoding::counts_fit))]
 fn head_fits(n: usize, m: usize, g: usize) -> bool
     ensures { result ≡ counts_fit n m g }
 {
-    if n > Graph::NODES {
-        return false;
-    }
-    if m > n {
-        return false;
-    }
-    g <= m
+    n <= Graph::NODES && m <= n && g <= m
 }
 
 // What follows the head: all groups, then all superedges, then the end.
@@ -325,67 +289,58 @@ fn read_body(
     n: usize,
     m: usize,
     g: usize,
-    least: &mut [u16],
-    kinds: &mut [u16],
-    classes: &mut [u16],
+    groups: &mut Groups,
     joined: &mut [u64],
-    sums: &mut [u32],
 ) -> bool
-    requires { (from ≡ 8) × (n ≤ max_nodes) × (g ≤ max_nodes) × Blank file.now least.old kinds.old classes.old joined.old × StripsFor n (length joined.old) × (sums.old ≡ replicate (2 * max_nodes) 0) }
-    ensures { BodyRead file.now n m g least.new kinds.new classes.new joined.new sums.new result }
+    requires { (from ≡ 8) × (n ≤ max_nodes) × (g ≤ max_nodes) × Blank file.now groups.old.least groups.old.kinds groups.old.classes joined.old × StripsFor n (length joined.old) × (groups.old.sums ≡ replicate (2 * max_nodes) 0) }
+    ensures { BodyRead file.now n m g groups.new.least groups.new.kinds groups.new.classes joined.new groups.new.sums result }
 {
-    let mut firsts = [0u16; Graph::NODES];
+    let mut room = [0u16; Graph::NODES];
+    let firsts = &mut room[..g];
     let counts = Counts {
         members: m,
         groups: g,
     };
-    let Groups::Whole { next, left } = read_groups(
-        file,
-        from,
-        n,
-        g,
-        counts,
-        least,
-        &mut firsts,
-        kinds,
-        classes,
-    ) else {
+    let Some(rest) = read_groups(file, from, n, counts, groups, firsts) else {
         return false;
     };
-    let at = read_joined(file, next, n, g, least, &firsts, joined, sums);
-    is_end(file, at, left)
+    let at = read_joined(
+        file,
+        rest.next,
+        n,
+        &groups.least,
+        firsts,
+        joined,
+        &mut groups.sums,
+    );
+    is_end(file, at, rest.left)
 }
 
-// The graph of a file whose head was just read, from what follows the head.
+// How many nodes the graph of a file has whose head was just read, from what follows the head; none if the bytes are no release.
 fn graph_at(
     file: &[u8],
     at: usize,
     head: Record,
-    least: &mut [u16],
-    kinds: &mut [u16],
-    classes: &mut [u16],
+    groups: &mut Groups,
     joined: &mut [u64],
-    sums: &mut [u32],
-) -> Decoded
-    requires { AfterHead file.now at head × (Blank file.now least.old kinds.old classes.old joined.old × (sums.old ≡ replicate (2 * max_nodes) 0)) }
-    ensures decodes { Decodes file.now least.new kinds.new classes.new joined.new result }
-    ensures sums_kept { SumsKept file.now least.new joined.new sums.new }
+) -> Option<usize>
+    requires { AfterHead file.now at head × (Blank file.now groups.old.least groups.old.kinds groups.old.classes joined.old × (groups.old.sums ≡ replicate (2 * max_nodes) 0)) }
+    ensures decodes { Decodes file.now groups.new.least groups.new.kinds groups.new.classes joined.new result }
+    ensures sums_kept { SumsKept file.now groups.new.least joined.new groups.new.sums }
 {
     let Record::Head { n, m, g } = head else {
-        return Decoded::NoRelease;
+        return None;
     };
-    let nodes = n as usize;
-    let visible = m as usize;
-    let groups = g as usize;
-    if !head_fits(nodes, visible, groups) {
-        return Decoded::NoRelease;
+    let nodes = usize::from(n);
+    let visible = usize::from(m);
+    let count = usize::from(g);
+    if !head_fits(nodes, visible, count) {
+        return None;
     }
-    if !read_body(
-        file, at, nodes, visible, groups, least, kinds, classes, joined, sums,
-    ) {
-        return Decoded::NoRelease;
+    if !read_body(file, at, nodes, visible, count, groups, joined) {
+        return None;
     }
-    Decoded::Graph { n: nodes }
+    Some(nodes)
 }
 
 // The lent file beside the next unread place.
@@ -404,7 +359,7 @@ fn start<'a>(file: &'a [u8], at: usize) -> Reader<'a>
 
 impl<'a> Reader<'a> {
     // The record at the reader's place.
-    fn record(self) -> records::Read
+    fn record(self) -> Option<records::Read>
         ensures { result ≡ record_at self.entry.file.now self.entry.at }
     {
         records::record_at(self.file, self.at)
@@ -419,30 +374,19 @@ impl<'a> Reader<'a> {
             at,
         }
     }
-}
 
-impl<'a> Reader<'a> {
-    // The graph of the file whose head was just read.
-    fn graph(
-        self,
-        head: Record,
-        least: &mut [u16],
-        kinds: &mut [u16],
-        classes: &mut [u16],
-        joined: &mut [u64],
-        sums: &mut [u32],
-    ) -> Decoded
-        requires { AfterHead self.file.now self.at head × (Blank self.file.now least.old kinds.old classes.old joined.old × (sums.old ≡ replicate (2 * max_nodes) 0)) }
-        ensures decodes { Decodes self.entry.file.now least.new kinds.new classes.new joined.new result }
-        ensures sums_kept { SumsKept self.entry.file.now least.new joined.new sums.new }
+    // How many nodes the graph of the file has whose head was just read; none if the bytes are no release.
+    fn graph(self, head: Record, groups: &mut Groups, joined: &mut [u64]) -> Option<usize>
+        requires { AfterHead self.file.now self.at head × (Blank self.file.now groups.old.least groups.old.kinds groups.old.classes joined.old × (groups.old.sums ≡ replicate (2 * max_nodes) 0)) }
+        ensures decodes { Decodes self.entry.file.now groups.new.least groups.new.kinds groups.new.classes joined.new result }
+        ensures sums_kept { SumsKept self.entry.file.now groups.new.least joined.new groups.new.sums }
     {
-        graph_at(
-            self.file, self.at, head, least, kinds, classes, joined, sums,
-        )
+        graph_at(self.file, self.at, head, groups, joined)
     }
 }
 
 // How many nodes the head of a file tells; 0 if the bytes are too few for a head.
+#[tactic(auto, unfolding(crate::specs::Decoding::nodes_in))]
 pub fn nodes_in(file: &[u8]) -> usize
     ensures { result ≡ nodes_in file.now }
 {
@@ -452,22 +396,13 @@ pub fn nodes_in(file: &[u8]) -> usize
     records::node_at(file, 2)
 }
 
-// A release file read into the lent arrays, in which no node has a group, a kind, a class, a bit or a sum before.
-pub fn decode(
-    file: &[u8],
-    least: &mut [u16],
-    kinds: &mut [u16],
-    classes: &mut [u16],
-    joined: &mut [u64],
-    sums: &mut [u32],
-) -> Decoded
-    requires { Blank file.now least.old kinds.old classes.old joined.old × (sums.old ≡ replicate (2 * max_nodes) 0) }
-    ensures decodes { Decodes file.now least.new kinds.new classes.new joined.new result }
-    ensures sums_kept { SumsKept file.now least.new joined.new sums.new }
+// A release file read into blank groups and rows without a bit: how many nodes its graph has, or none if the bytes are no release.
+pub fn decode(file: &[u8], groups: &mut Groups, joined: &mut [u64]) -> Option<usize>
+    requires { Blank file.now groups.old.least groups.old.kinds groups.old.classes joined.old × (groups.old.sums ≡ replicate (2 * max_nodes) 0) }
+    ensures decodes { Decodes file.now groups.new.least groups.new.kinds groups.new.classes joined.new result }
+    ensures sums_kept { SumsKept file.now groups.new.least joined.new groups.new.sums }
 {
     let reader = start(file, 0);
-    let read = reader.record();
-    reader
-        .moved(read.next)
-        .graph(read.item, least, kinds, classes, joined, sums)
+    let read = reader.record()?;
+    reader.moved(read.next).graph(read.item, groups, joined)
 }

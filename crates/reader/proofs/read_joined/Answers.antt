@@ -1,17 +1,11 @@
 -- `reader::read_joined` meets its contract.
 use mathlib.Core.Path.{◌∙◌, sym}
-use Rattle.reader.specs.MirrorLaws.{both_ways, one_way, sums_size}
+use Rattle.reader.specs.MirrorLaws.{both_ways, one_way}
 use Rattle.reader.specs.SummedLaws.{both_read}
 use Rattle.reader.proofs.read_joined.Goals as goal
 
-pub read_superedges-requires : goal.read_superedges-requires
-read_superedges-requires c = (c.requires.firsts_are_nodes.1, c.sum_groups.ensures.0.size)
-
 pub returns-then-are_few : goal.returns-then-are_few
 returns-then-are_few c = both_read _ _ _ _ _ _ _ _ _ _ _ c.requires.joined_value.0 c.requires.firsts_are_nodes.1 c.requires.firsts_are_nodes.2 c.sum_groups.ensures c.read_superedges.ensures
-
-pub read_superedges-at-requires : goal.read_superedges-at-requires
-read_superedges-at-requires c = (c.requires.firsts_are_nodes.1, sums_size _ c.requires.joined_value.2)
 
 pub mirror-requires : goal.mirror-requires
 mirror-requires c = (c.requires.firsts_are_nodes.0.small, one_way _ _ _ _ _ _ _ _ _ _ c.requires.joined_value.0 c.requires.joined_value.1 c.requires.firsts_are_nodes.2 c.read_superedges-at.ensures)

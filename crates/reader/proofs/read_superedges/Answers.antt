@@ -16,11 +16,5 @@ read_run-at-requires c =
 pub loop-i-preserved : goal.loop-i-preserved
 loop-i-preserved c = let small = c.requires.0.few in runs_step _ _ _ _ _ _ _ _ _ _ _ c.loop-i.invariant _ _ _ (omega arith) c.read_run-at.ensures
 
-pub shape_of-joined : goal.shape_of-joined
-shape_of-joined c = c.loop-i.invariant.drawn.size
-
-pub shape_of-sums : goal.shape_of-sums
-shape_of-sums c = c.loop-i.invariant.summed.size
-
 pub returns : goal.returns
 returns c = runs_end _ _ _ _ _ _ _ _ _ _ _ c.loop-i.invariant (omega arith)
