@@ -19,6 +19,7 @@ pub const CLIQUE: u16 = 2;
 pub const SMALL: usize = 64;
 
 // The groups of a graph: the least member of each node's group, the kind and class of each group at its least member, and sums by which groups are told apart.
+#[derive(Drop)]
 pub struct Groups {
     pub least: [u16; Graph::NODES],
     pub kinds: [u16; Graph::NODES],
