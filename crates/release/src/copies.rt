@@ -44,6 +44,7 @@ fn class_for(classes: &[u16], first: u16) -> u16
 }
 
 // Nodes of no group are marked as hidden, the others have their group's class.
+#[tactic(auto, using(rings::specs::LabelLaws::put_none, rings::specs::LabelLaws::put_all))]
 pub fn put_labels(least: &[u16], classes: &[u16], n: usize, nodes: &mut [u16])
     requires { (n ≤ max_nodes) × (length nodes.old ≡ node_numbers * n) × (n ≤ length least.now) × ((p : ℕ) → p < n → (get_or least.now p 0 ≡ no_node → ⊥) → get_or least.now p 0 < length classes.now) }
     ensures { LabelsPut (λ p. mark_for (get_or least.now p 0)) (λ p. class_for classes.now (get_or least.now p 0)) n nodes.old nodes.new }

@@ -43,6 +43,7 @@ fn summarise(
 }
 
 // The least members of the groups of the visible nodes.
+#[tactic(auto, using(crate::specs::ReleaseLaws::prefix_length, crate::specs::ReleaseLaws::truth_whole, std::proofs::lemmas::Grind::common_steps))]
 fn least_members(edges: &[u64], hidden: &[u16], classes: &[u16], n: usize) -> [u16; Graph::NODES]
     requires { Drawn n edges.now hidden.now classes.now }
     ensures { Truth (drawn n edges.now hidden.now classes.now) result classes.now edges.now }
@@ -79,6 +80,7 @@ pub fn release(
 }
 
 // What a call answers that is lent rows without a bit for the superedges between the groups of a file, few if its head tells few nodes.
+#[tactic(auto, using(reader::specs::DecodingLaws::blank_rows))]
 fn with_rows<R, F: FnMut(&mut [u64]) -> R>(file: &[u8], call: &mut F) -> R
     requires { (rows : _) → BlankRows file.now rows.now → F.pre call.old rows }
     ensures { (rows : _) × (after : _) × BlankRows file.now rows.now × F.step call.old rows result after call.new }
@@ -92,6 +94,7 @@ fn with_rows<R, F: FnMut(&mut [u64]) -> R>(file: &[u8], call: &mut F) -> R
 }
 
 // A release read back into tables, with rows for the superedges between its groups.
+#[tactic(auto, using(tables::specs::LentLaws::sized, crate::specs::ReadLaws::judged_sums, crate::specs::ReadLaws::read_none, crate::specs::ReadLaws::read_size))]
 fn read_with(
     n: usize,
     edges: &mut [u64],
