@@ -201,6 +201,7 @@ fn difference(x: usize, y: usize) -> i16
 
 // The edge between u and v as it is wanted, in the three tables: both nodes are taken out, edges and keys changed, and the
 // lesser is put back before the greater. How many groups more there are.
+// `wanted` is a number, as it is in the model's update `change 1 u v wanted`.
 pub fn update_edge(
     edges: &mut [u64],
     nodes: &mut [u16],
