@@ -58,6 +58,7 @@ fn store(nodes: &mut [u16], p: usize, k: usize, v: usize)
 }
 
 // b follows a.
+// The table and n stay apart: the calls lend both, so a struct of the two would be made anew in each.
 fn link(nodes: &mut [u16], n: usize, a: usize, b: usize)
     requires { (n ≤ max_nodes) × (length nodes.old ≡ node_numbers * n) × (a < n) × (b < n) }
     ensures { Linked a b nodes.old nodes.new }
