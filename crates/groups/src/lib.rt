@@ -58,6 +58,7 @@ fn store(nodes: &mut [u16], p: usize, k: usize, v: usize)
 }
 
 // b follows a.
+// The table and n stay apart: the calls lend both, so a struct of the two would be made anew in each.
 fn link(nodes: &mut [u16], n: usize, a: usize, b: usize)
     requires { (n ≤ max_nodes) × (length nodes.old ≡ node_numbers * n) × (a < n) × (b < n) }
     ensures { Linked a b nodes.old nodes.new }
@@ -201,6 +202,7 @@ fn difference(x: usize, y: usize) -> i16
 
 // The edge between u and v as it is wanted, in the three tables: both nodes are taken out, edges and keys changed, and the
 // lesser is put back before the greater. How many groups more there are.
+// `wanted` is a number, as it is in the model's update `change 1 u v wanted`.
 pub fn update_edge(
     edges: &mut [u64],
     nodes: &mut [u16],

@@ -22,7 +22,7 @@ unfoldable pub first_from : (ℕ → Bool) → ℕ → ℕ → ℕ
 first_from P q zero = q
 first_from P q (suc k) = cond (P q) q (first_from P (suc q) k)
 
--- x, the place of the first that passes of m, where one does
+-- the place x of the first of m that passes, or none where x is m
 unfoldable pub found : ℕ → ℕ → Option ℕ
 found m x = cond (ltb x m) (Some x) None
 

@@ -1,7 +1,7 @@
 -- Outer invariant: no group before `from` is the one. Inner invariant: the words before i agree.
 use Rattle.std.proofs.Common.{arith, below_more}
 use Rattle.search.specs.SearchLaws.{found_here, found_nowhere, tried-agrees, tried_differs, tried-not, tried_skipped}
-use Rattle.search.proofs.find_twin.Goals as goal
+use Rattle.search.proofs.Search.find_twin.Goals as goal
 
 pub groups-preserved-then-row-i : goal.groups-preserved-then-row-i
 groups-preserved-then-row-i c = (

@@ -3,7 +3,7 @@ use mathlib.Core.Path.{◌≡◌}
 use mathlib.Core.Bool.{false}
 use Prim.Native.Nat.{◌+◌, ◌≤◌}
 use Rattle.search.specs.Search.{Passed, keys_agree}
-use Rattle.search.proofs.block_agrees.Given as goal
+use Rattle.search.proofs.Search.block_agrees.Given as goal
 
 abbrev pub invariant-loop-q : goal.invariant-loop-q
-invariant-loop-q l = (l.from ≤ l.q) × (l.q ≤ l.from + 16) × (l.agree ≡ false → Passed (keys_agree l.keys l.u) l.from l.q)
+invariant-loop-q l = (l.from ≤ l.q) × (l.q ≤ l.from + 16) × (l.agree ≡ false → Passed (keys_agree l.self.keys.now l.self.u) l.from l.q)
