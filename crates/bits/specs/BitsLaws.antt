@@ -1,5 +1,5 @@
 -- What the list of a word's bits tells of the word.
-use Rattle.std.specs.Prelude.{◌≡◌, ℕ, ◌+◌, ◌-◌, ◌^◌, ◌<◌, ◌%◌, Bool, true, false, List, [], ◌∷◌, map, bit_and, ◌⊎◌, ◌==◌, refl}
+use Rattle.std.specs.Prelude.{◌≡◌, ℕ, ◌+◌, ◌-◌, ◌^◌, ◌<◌, true, false, List, [], ◌∷◌, map, bit_and, ◌⊎◌, ◌==◌, refl}
 use Rattle.std.proofs.Common.{◌∙◌, inl, inr, sym, arith, zero-add, eqb-true}
 use Rattle.std.proofs.Math.Nat.{mod-eq_of_lt}
 use Rattle.std.specs.Int.Count.{count_trailing_zeros}

@@ -26,6 +26,7 @@ use rows::Graph;
 
 // The sums for a word's sixteen fours of nodes, and those for its eights.
 const FOURS: usize = 256;
+
 const EIGHTS: usize = 2048;
 
 // x if v is odd, else 0.
@@ -40,7 +41,10 @@ fn chosen_of(v: usize, cubes: [u32; 4]) -> u32
     requires { (k : ℕ) → k < 4 → slice_index cubes k ≤ 134217728 }
     ensures { result ≡ v % 2 * slice_index cubes 0 + v / 2 % 2 * slice_index cubes 1 + v / 4 % 2 * slice_index cubes 2 + v / 8 % 2 * slice_index cubes 3 }
 {
-    if_odd(v, cubes[0]) + if_odd(v >> 1, cubes[1]) + if_odd(v >> 2, cubes[2]) + if_odd(v >> 3, cubes[3])
+    if_odd(v, cubes[0])
+        + if_odd(v >> 1, cubes[1])
+        + if_odd(v >> 2, cubes[2])
+        + if_odd(v >> 3, cubes[3])
 }
 
 // The cubes of four nodes of word w, the b-th four of them, for each choice among these.
@@ -49,7 +53,12 @@ fn fill_four(sums: &mut [u32; FOURS], w: usize, b: usize)
     ensures { FoursFilled w (16 * (b + 1)) sums.new }
 {
     let p = 4 * (16 * w + b);
-    let cubes = [rows::cube_of(p), rows::cube_of(p + 1), rows::cube_of(p + 2), rows::cube_of(p + 3)];
+    let cubes = [
+        rows::cube_of(p),
+        rows::cube_of(p + 1),
+        rows::cube_of(p + 2),
+        rows::cube_of(p + 3),
+    ];
     for v in 0..16 {
         sums[16 * b + v] = chosen_of(v, cubes);
     }

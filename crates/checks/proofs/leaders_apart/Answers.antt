@@ -1,9 +1,7 @@
 -- The invariant: the nodes before u pass, and the slots of the keys of leaders among them are taken.
-use Rattle.std.proofs.Common.{ℕ, sym, arith, below_none, below_more}
-use lib.ListN.{length-replicate}
+use Rattle.std.proofs.Common.{arith}
 use Rattle.checks.specs.Checks.{leaders_apart}
-use Rattle.checks.specs.SlotLaws.{seen_none}
-use Rattle.buffers.specs.AllLaws.{all_fail, all_pass_lem, failed, passed}
+use Rattle.buffers.specs.AllLaws.{all_fail, all_pass_lem, failed}
 use Rattle.std.proofs.Common.{ap, not}
 use Rattle.checks.proofs.leaders_apart.Goals as goal
 

@@ -1,5 +1,5 @@
 -- The invariant: the nodes before u pass, and the slots of the keys of leaders among them are taken.
-use Rattle.std.proofs.Common.{◌≡◌, ℕ, ◌-◌, ◌<◌, ◌≤◌, true}
+use Rattle.std.proofs.Common.{◌≡◌, ℕ, ◌<◌, true}
 use Rattle.checks.specs.Checks.{alone}
 use Rattle.checks.specs.Slots.{Seen}
 use Rattle.checks.proofs.leaders_apart.Given as goal

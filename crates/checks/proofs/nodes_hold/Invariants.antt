@@ -1,5 +1,5 @@
 -- The invariant: the nodes before p pass.
-use Rattle.std.proofs.Common.{◌≡◌, ℕ, ◌-◌, ◌<◌, ◌≤◌, true}
+use Rattle.std.proofs.Common.{◌≡◌, ℕ, ◌<◌, true}
 use Rattle.checks.specs.Checks.{node_holds}
 use Rattle.checks.proofs.nodes_hold.Given as goal
 

@@ -21,7 +21,7 @@ returns-then-not-is_mirrored c =
 pub cube_of-sum-requires : goal.cube_of-sum-requires
 cube_of-sum-requires c =
     let cut = cleared _ _ _ (omega arith) (omega arith) c.in-Some.ensures.steps in
-    walk_place c.loop-k.invariant cut (omega arith)
+    omega (arith, walk_place c.loop-k.invariant cut (omega arith))
 
 pub loop-k-preserved : goal.loop-k-preserved
 loop-k-preserved c =

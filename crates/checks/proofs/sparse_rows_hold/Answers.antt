@@ -1,7 +1,7 @@
 -- The invariant: the nodes before p pass.
-use Rattle.std.proofs.Common.{arith, below_none, below_more}
+use Rattle.std.proofs.Common.{arith}
 use Rattle.checks.specs.Checks.{rows_hold}
-use Rattle.buffers.specs.AllLaws.{all_fail, all_pass_lem, failed, passed}
+use Rattle.buffers.specs.AllLaws.{all_fail, all_pass_lem, failed}
 use Rattle.std.proofs.Common.{ap, not}
 use Rattle.checks.proofs.sparse_rows_hold.Goals as goal
 

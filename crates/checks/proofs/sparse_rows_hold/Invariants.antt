@@ -1,5 +1,5 @@
 -- The invariant: the nodes before p pass.
-use Rattle.std.proofs.Common.{◌≡◌, ℕ, ◌-◌, ◌<◌, ◌≤◌, true, ◌&&◌}
+use Rattle.std.proofs.Common.{◌≡◌, ℕ, ◌<◌, true, ◌&&◌}
 use Rattle.edges.specs.Edges.{row_holds}
 use Rattle.checks.specs.Checks.{keys_hold}
 use Rattle.checks.proofs.sparse_rows_hold.Given as goal

@@ -1,8 +1,8 @@
 -- The invariant: the nodes before p pass.
-use Rattle.std.proofs.Common.{arith, below_none, below_more}
+use Rattle.std.proofs.Common.{arith}
 use Rattle.checks.specs.Checks.{twins_hold}
 use Rattle.checks.specs.StepLaws.{twin_told}
-use Rattle.buffers.specs.AllLaws.{all_fail, all_pass_lem, failed, passed}
+use Rattle.buffers.specs.AllLaws.{all_fail, all_pass_lem, failed}
 use Rattle.std.proofs.Common.{ap, not}
 use Rattle.checks.proofs.twins_hold.Goals as goal
 

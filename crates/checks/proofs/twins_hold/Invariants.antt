@@ -1,5 +1,5 @@
 -- The invariant: the nodes before p pass.
-use Rattle.std.proofs.Common.{◌≡◌, ℕ, ◌-◌, ◌<◌, ◌≤◌, true}
+use Rattle.std.proofs.Common.{◌≡◌, ℕ, ◌<◌, true}
 use Rattle.model.specs.Tables.{node_number}
 use Rattle.checks.specs.Checks.{twin_of}
 use Rattle.checks.proofs.twins_hold.Given as goal

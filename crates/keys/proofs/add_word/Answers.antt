@@ -1,6 +1,5 @@
 -- The invariant: the totals of the nodes before p have word w.
-use Rattle.std.proofs.Common.{arith}
-use Rattle.keys.specs.LeaderLaws.{amid_all, amid_more, amid_none, stride_room}
+use Rattle.keys.specs.LeaderLaws.{amid_more}
 use Rattle.keys.proofs.add_word.Goals as goal
 
 pub loop-p-preserved : goal.loop-p-preserved

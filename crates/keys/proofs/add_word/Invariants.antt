@@ -1,5 +1,4 @@
 -- The invariant: the totals of the nodes before p have word w.
-use Rattle.std.proofs.Common.{◌-◌, ◌≤◌}
 use Rattle.keys.specs.LeaderLaws.{Amid}
 use Rattle.keys.proofs.add_word.Given as goal
 

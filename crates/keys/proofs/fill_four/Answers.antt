@@ -1,7 +1,7 @@
 -- The invariant: the entries before 16 * b + v are there.
 use Rattle.std.proofs.Common.{◌+◌, ◌*◌, arith}
 use Rattle.rows.specs.KeyLaws.{cube-le}
-use Rattle.keys.specs.FourLaws.{each_of_four, filled_start, fours_more}
+use Rattle.keys.specs.FourLaws.{each_of_four, fours_more}
 use Rattle.keys.proofs.fill_four.Goals as goal
 
 pub loop-v-preserved : goal.loop-v-preserved

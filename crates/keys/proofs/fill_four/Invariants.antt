@@ -1,5 +1,5 @@
 -- The invariant: the entries before 16 * b + v are there.
-use Rattle.std.proofs.Common.{◌+◌, ◌-◌, ◌*◌, ◌≤◌}
+use Rattle.std.proofs.Common.{◌+◌, ◌*◌}
 use Rattle.keys.specs.KeySums.{FoursFilled}
 use Rattle.keys.proofs.fill_four.Given as goal
 

@@ -1,5 +1,5 @@
 -- The invariant: the entries for the nodes before 4 * b are there.
-use Rattle.std.proofs.Common.{◌-◌, ◌*◌, ◌≤◌}
+use Rattle.std.proofs.Common.{◌*◌}
 use Rattle.keys.specs.KeySums.{FoursFilled}
 use Rattle.keys.proofs.fill_fours.Given as goal
 

@@ -1,5 +1,4 @@
 -- The invariant: the nodes before p lead.
-use Rattle.std.proofs.Common.{◌-◌, ◌≤◌}
 use Rattle.keys.specs.KeySums.{AllLead}
 use Rattle.keys.proofs.lead_all.Given as goal
 

@@ -1,8 +1,7 @@
 -- The invariant: the keys of the nodes below p are summed.
-use Rattle.std.proofs.Common.{sym, refl, arith}
-use Rattle.search.specs.SearchLaws.{within-length}
+use Rattle.std.proofs.Common.{arith}
 use Rattle.keys.specs.LeaderLaws.{total_of}
-use Rattle.keys.specs.KeySumLaws.{row_key_lem, summed_all, summed_more, summed_none}
+use Rattle.keys.specs.KeySumLaws.{row_key_lem, summed_all, summed_more}
 use Rattle.keys.proofs.sum_dense.Goals as goal
 
 pub loop-p-preserved : goal.loop-p-preserved

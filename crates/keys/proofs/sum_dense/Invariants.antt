@@ -1,5 +1,4 @@
 -- The invariant: the keys of the nodes below p are summed.
-use Rattle.std.proofs.Common.{◌-◌, ◌≤◌}
 use Rattle.model.specs.Tables.{graph_in}
 use Rattle.keys.specs.KeySums.{Summed}
 use Rattle.keys.proofs.sum_dense.Given as goal

@@ -1,7 +1,7 @@
 -- The invariant: the keys of the nodes below p are summed.
 use Rattle.std.proofs.Common.{arith}
-use Rattle.search.specs.SearchLaws.{within_inside, within-length}
-use Rattle.keys.specs.KeySumLaws.{summed_all, summed_more, summed_none}
+use Rattle.search.specs.SearchLaws.{within_inside}
+use Rattle.keys.specs.KeySumLaws.{summed_all, summed_more}
 use Rattle.keys.proofs.sum_each.Goals as goal
 
 pub sum_row-requires : goal.sum_row-requires

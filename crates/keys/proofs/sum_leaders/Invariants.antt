@@ -1,6 +1,5 @@
 -- The invariant: the words before w are summed.
-use Rattle.std.proofs.Common.{◌≡◌, ◌≤◌, length}
-use Rattle.keys.specs.KeySums.{LeadersSummed, words_for}
+use Rattle.keys.specs.KeySums.{LeadersSummed}
 use Rattle.keys.proofs.sum_leaders.Given as goal
 
 abbrev pub invariant-loop-w : goal.invariant-loop-w

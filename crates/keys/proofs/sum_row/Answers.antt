@@ -15,7 +15,7 @@ overflow_add-w c =
 pub cube_of-sum-requires : goal.cube_of-sum-requires
 cube_of-sum-requires c =
     let cut = cleared _ _ _ (omega arith) (omega arith) c.in-Some.ensures.steps in
-    adding_place c.loop-k.invariant cut (omega arith)
+    omega (arith, adding_place c.loop-k.invariant cut (omega arith))
 
 pub loop-k-preserved : goal.loop-k-preserved
 loop-k-preserved c =

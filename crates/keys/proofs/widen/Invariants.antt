@@ -1,5 +1,5 @@
 -- The invariant: the entries before 256 * i are there.
-use Rattle.std.proofs.Common.{◌-◌, ◌*◌, ◌≤◌}
+use Rattle.std.proofs.Common.{◌*◌}
 use Rattle.keys.specs.KeySums.{Widened}
 use Rattle.keys.proofs.widen.Given as goal
 

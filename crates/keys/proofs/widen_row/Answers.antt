@@ -1,6 +1,6 @@
 -- The invariant: the entries before 256 * i + 16 * h + l are there.
 use Rattle.std.proofs.Common.{◌+◌, ◌*◌, arith}
-use Rattle.keys.specs.FourLaws.{four_le, widened_more, widened_start}
+use Rattle.keys.specs.FourLaws.{four_le, widened_more}
 use Rattle.keys.proofs.widen_row.Goals as goal
 
 pub overflow_add-sums-in-loop-l : goal.overflow_add-sums-in-loop-l

@@ -1,5 +1,5 @@
 -- The invariant: the entries before 256 * i + 16 * h + l are there.
-use Rattle.std.proofs.Common.{◌+◌, ◌-◌, ◌*◌, ◌≤◌}
+use Rattle.std.proofs.Common.{◌+◌, ◌*◌}
 use Rattle.keys.specs.KeySums.{Widened}
 use Rattle.keys.proofs.widen_row.Given as goal
 

@@ -1,6 +1,6 @@
 -- The invariant: the sum of the bits before 8 * i, by the table of any word.
 use Rattle.std.proofs.Common.{refl}
-use Rattle.keys.specs.FourLaws.{word_done, word_more, words_none}
+use Rattle.keys.specs.FourLaws.{word_more, words_none}
 use Rattle.keys.proofs.word_sum.Goals as goal
 
 pub loop-i-init : goal.loop-i-init

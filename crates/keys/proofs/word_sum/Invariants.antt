@@ -1,5 +1,5 @@
 -- The invariant: the sum of the bits before 8 * i, by the table of any word.
-use Rattle.std.proofs.Common.{◌≡◌, ℕ, ◌-◌, ◌*◌, ◌%◌, ◌^◌, ◌≤◌}
+use Rattle.std.proofs.Common.{◌≡◌, ℕ, ◌*◌, ◌%◌, ◌^◌}
 use Rattle.keys.specs.KeySums.{Widened, word_cubes}
 use Rattle.keys.proofs.word_sum.Given as goal
 

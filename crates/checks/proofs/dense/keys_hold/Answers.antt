@@ -1,5 +1,5 @@
 -- The invariant: the keys of the nodes before p pass.
-use Rattle.std.proofs.Common.{sym, refl, arith, below_none, below_more}
+use Rattle.std.proofs.Common.{arith, below_more}
 use Rattle.buffers.specs.AllLaws.{failed, passed}
 use Rattle.checks.specs.DenseLaws.{key_fails, key_told, keys_pass}
 use Rattle.std.proofs.Common.{ap, not}

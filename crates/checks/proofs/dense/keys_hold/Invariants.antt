@@ -1,5 +1,4 @@
 -- The invariant: the keys of the nodes before p pass.
-use Rattle.std.proofs.Common.{◌-◌, ◌≤◌}
 use Rattle.checks.specs.Checks.{KeysBelow}
 use Rattle.checks.proofs.dense.keys_hold.Given as goal
 
