@@ -1,5 +1,5 @@
 -- What is found of a row and of a node: empty, bare, hidden, isolated.
-use Rattle.std.specs.Prelude.{◌≡◌, Bool, true, false, List, ℕ, ◌+◌, ◌*◌, ◌-◌, ◌^◌, eqb, ltb, drop, get_or, take}
+use Rattle.std.specs.Prelude.{◌≡◌, Bool, true, List, ℕ, ◌+◌, ◌*◌, ◌-◌, ◌^◌, eqb, ltb, drop, get_or, take}
 use Rattle.std.proofs.Common.{sym, ap, ◌∙◌, eq-eqb, ne_eqb}
 use Rattle.model.specs.Lists.{all}
 use Rattle.buffers.specs.UnionLaws.{is_none}
@@ -16,10 +16,6 @@ empty_united edges p u h = is_none u ∙ h 0 ∙ ap (λ (s : List ℕ). all s (�
 pub hidden_here : (first : List ℕ) (p : ℕ) → get_or first p 0 ≡ 65535 → is_hidden first p ≡ true
 unfolding is_hidden
 hidden_here first p h = eq-eqb (get_or first p 0) 65535 h
-
-pub hidden_not : (first : List ℕ) (p : ℕ) → (get_or first p 0 ≡ 65535 → ⊥) → is_hidden first p ≡ false
-unfolding is_hidden
-hidden_not first p h = ne_eqb (get_or first p 0) 65535 h
 
 -- a class that is not 0, and a row that is looked at
 module _ (edges classes : List ℕ) (p : ℕ) where

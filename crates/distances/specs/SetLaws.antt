@@ -83,9 +83,6 @@ pub record WordsOf (P : ℕ → Bool) (w : ℕ) (row : List ℕ) : Type 0 where
   pub size : length row ≡ 8
   pub bits : (q : ℕ) → q < 64 * w → edge_bit row 0 q ≡ P q
 
-pub set_begun : (P : ℕ → Bool) (row : List ℕ) → length row ≡ 8 → WordsOf P 0 row
-set_begun P row e = record { size = e; bits = λ q l. absurd (omega arith) }
-
 words_more : {P : ℕ → Bool} {w : ℕ} {row : List ℕ} (x : ℕ) → w < 8 → ((q : ℕ) → q / 64 ≡ w → bit_at x (q % 64) ≡ P q) → WordsOf P w row → WordsOf P (w + 1) (set row w x)
 words_more {P} {w} {row} x l e h = record { size = length-set row w x ∙ h.size; bits = λ q m. one q m (decide (eqb (q / 64) w)) }
   where
@@ -96,9 +93,6 @@ words_more {P} {w} {row} x l e h = record { size = length-set row w x ∙ h.size
     one q m (inr i) =
         let d = eqb-false (q / 64) w i in
         row_word_lem (set row w x) q (q / 64) refl ∙ ap (λ (y : ℕ). bit_at y (q % 64)) (get_or-set_other row w (q / 64) x 0 d) ∙ sym (row_word_lem row q (q / 64) refl) ∙ h.bits q (omega (arith, d))
-
-pub set-whole : {P : ℕ → Bool} {w : ℕ} {row : List ℕ} → 8 ≤ w → WordsOf P w row → SetOf P row
-set-whole l h = record { size = h.size; bits = λ q m. h.bits q (omega arith) }
 
 -- a word without the bits of another
 less_bit : (s o : Bool) → xor (s || o) o ≡ (s && not o)

@@ -43,7 +43,7 @@ fn reach(joined: &[u64], set: &[u64]) -> [u64; Graph::ROW_WORDS]
 }
 
 // A set without the nodes of another.
-// The words are counted: `zip` over slices of unknown length takes twice the time.
+// The words are counted: `zip` over slices of unknown length is slower.
 fn without(set: &[u64], other: &[u64]) -> [u64; Graph::ROW_WORDS]
     requires { (length set.now ≡ row_words) × (length other.now ≡ row_words) }
     ensures { SetOf (λ q. edge_bit set.now 0 q && not (edge_bit other.now 0 q)) result }
@@ -56,7 +56,7 @@ fn without(set: &[u64], other: &[u64]) -> [u64; Graph::ROW_WORDS]
 }
 
 // Whether two sets have a node in common. A set meets itself unless it is empty.
-// The words are counted: `zip` over slices of unknown length takes twice the time.
+// The words are counted: `zip` over slices of unknown length is slower.
 fn meet(set: &[u64], other: &[u64]) -> bool
     requires { (length set.now ≡ row_words) × (length other.now ≡ row_words) }
     ensures { result ≡ have_common set.now other.now }

@@ -1,7 +1,7 @@
 -- Laws of chains: what a walk over one finds, and a leader put in.
-use Rattle.std.specs.Prelude.{◌≡◌, ℕ, suc, ◌+◌, ◌-◌, ◌*◌, ◌^◌, ◌<◌, ◌≤◌, Bool, true, false, cond, ◌&&◌, ◌⊎◌, List, length, take, drop, replicate, ◌==◌, ◌≢◌, nat_lt, slice_index, slice_index_or, slice_set, None, Some}
+use Rattle.std.specs.Prelude.{◌≡◌, ℕ, suc, ◌+◌, ◌-◌, ◌*◌, ◌^◌, ◌<◌, ◌≤◌, Bool, true, false, cond, ◌&&◌, ◌⊎◌, List, length, take, drop, replicate, ◌==◌, ◌≢◌, nat_lt, slice_index, slice_index_or, None, Some}
 use Rattle.std.proofs.Math.Path.{refl, sym, ap, ap₂}
-use Rattle.std.proofs.Common.{◌∙◌, inl, inr, arith, length-set, pow_pos, get_or-set_other, get_or-set_same, eqb-true, eq-eqb, ltb-true, ltb-false, ne_eqb}
+use Rattle.std.proofs.Common.{◌∙◌, inl, inr, arith, pow_pos, eqb-true, eq-eqb, ltb-true, ltb-false, ne_eqb}
 use Rattle.std.proofs.Math.Bool.{and-false, xor}
 use Rattle.std.specs.Int.Bits.{bit_xor, xor_lt}
 use Rattle.std.proofs.lemmas.Bool.{eqb-false}
@@ -15,7 +15,7 @@ use Rattle.search.specs.TwinRowLaws.{own_bit_lem, own_bit-lt, own_bits_lem, word
 use Rattle.search.specs.SearchLaws.{meets-all, meets_differ, meets_words, row-length, row_part_lem}
 use Rattle.compressed.specs.Compressed.{alike}
 use Rattle.grouping.specs.declared.Leaders.{Leaders}
-use Rattle.grouping.specs.Chains.{Chains, Entered, Links, Met, SlotsTell, class_alike, classed_slot, rotated, row_slot, row_word, slot_for, slot_in_class, unrotated}
+use Rattle.grouping.specs.Chains.{Chains, Links, Met, SlotsTell, class_alike, classed_slot, rotated, row_slot, row_word, slot_for, slot_in_class, unrotated}
 use Rattle.grouping.specs.HashLaws.{hash_same}
 
 -- rows that agree have one slot
@@ -182,81 +182,3 @@ chains_keep {slot} {leads} {u} {t} k f = record {
         step : (q < u) ⊎ (q ≡ u) → q < u
         step (inl y) = y
         step (inr y) = differ hl (ap leads y ∙ f)
-
--- u leads, and is put in
-module _ {u s : ℕ} {t : Leaders} (l : Links u t) (hu : u < 512) (hs : s < 1024) where
-  abbrev two : Leaders
-  two = record { last = slice_set t.last s (u + 1); earlier = slice_set t.earlier u (slice_index t.last s) }
-
-  slot-here : slice_index_or two.last s 0 ≡ u + 1
-  slot-here = get_or-set_same t.last s (u + 1) 0 (omega (arith, l.last_size))
-
-  slot-off : (i : ℕ) → (i ≢ s) → slice_index two.last i ≡ slice_index t.last i
-  slot-off i d = get_or-set_other t.last s i (u + 1) 0 d
-
-  next_here : slice_index_or two.earlier u 0 ≡ slice_index t.last s
-  next_here = get_or-set_same t.earlier u (slice_index t.last s) 0 (omega (arith, l.earlier_size))
-
-  next_off : (c : ℕ) → (c ≢ u) → slice_index two.earlier c ≡ slice_index t.earlier c
-  next_off c d = get_or-set_other t.earlier u c (slice_index t.last s) 0 d
-
-  pub links_more : Links (u + 1) (record { last = slice_set t.last s (u + 1); earlier = slice_set t.earlier u (slice_index t.last s) })
-  links_more = record {
-    last_size = length-set t.last s (u + 1) ∙ l.last_size;
-    earlier_size = length-set t.earlier u (slice_index t.last s) ∙ l.earlier_size;
-    below = λ i h. slot-low i h (decide (i == s));
-    falls = λ c h. next_low c h (decide (c == u));
-  }
-    where
-      slot-low : (i : ℕ) → i < 1024 → ((i == s) ≡ true) ⊎ ((i == s) ≡ false) → slice_index two.last i ≤ u + 1
-      slot-low i h (inl y) = rw (eqb-true i s y) (omega (arith, slot-here))
-      slot-low i h (inr y) = omega (arith, slot-off i (eqb-false i s y), l.below i h)
-
-      next_low : (c : ℕ) → c < 512 → ((c == u) ≡ true) ⊎ ((c == u) ≡ false) → slice_index two.earlier c ≤ c
-      next_low c h (inl y) = rw (eqb-true c u y) (omega (arith, next_here, l.below s hs))
-      next_low c h (inr y) = omega (arith, next_off c (eqb-false c u y), l.falls c h)
-
-  pub chains_more : {slot : ℕ → ℕ} {leads : ℕ → Bool} → Chains slot leads u t → ((q : ℕ) → slot q < 1024) → slot u ≡ s → leads u ≡ true → Chains slot leads (u + 1) (record { last = slice_set t.last s (u + 1); earlier = slice_set t.earlier u (slice_index t.last s) })
-  chains_more {slot} {leads} k small es hl = record {
-    last = λ q h m. last q m (below q u h) (decide (slot q == s));
-    earlier = λ c q m h hc hq e. earlier c q m hc hq e (below c u h);
-    last_in = λ i c h e. last_in i c h e (decide (i == s));
-    earlier_in = λ c d h hc e. earlier_in c d hc e (below c u h);
-  }
-    where
-      last : (q : ℕ) → leads q ≡ true → (q < u) ⊎ (q ≡ u) → ((slot q == s) ≡ true) ⊎ ((slot q == s) ≡ false) → q < slice_index two.last (slot q)
-      last q m y (inl z) = rw (eqb-true (slot q) s z) (low y)
-        where
-          low : (q < u) ⊎ (q ≡ u) → q < slice_index two.last s
-          low (inl x) = omega (arith, slot-here)
-          low (inr x) = omega (arith, slot-here)
-      last q m (inl y) (inr z) = omega (arith, slot-off (slot q) (eqb-false (slot q) s z), k.last q y m)
-      last q m (inr y) (inr z) = absurd (eqb-false (slot q) s z (ap slot y ∙ es))
-
-      earlier : (c q : ℕ) → q < c → leads c ≡ true → leads q ≡ true → slot q ≡ slot c → (c < u) ⊎ (c ≡ u) → q < slice_index two.earlier c
-      earlier c q m hc hq e (inl y) = omega (arith, next_off c (omega arith), k.earlier c q m y hc hq e)
-      earlier c q m hc hq e (inr y) =
-          let z : slice_index_or t.last (slot q) 0 ≡ slice_index_or t.last s 0 = ap (λ (x : ℕ). slice_index t.last x) (e ∙ ap slot y ∙ es) in
-          rw y (omega (arith, next_here, k.last q (omega arith) hq))
-
-      last_in : (i c : ℕ) → i < 1024 → slice_index two.last i ≡ suc c → ((i == s) ≡ true) ⊎ ((i == s) ≡ false) → (leads c ≡ true) × (slot c ≡ i)
-      last_in i c h e (inl y) =
-          let si : i ≡ s = eqb-true i s y in
-          let z : slice_index_or two.last i 0 ≡ slice_index_or two.last s 0 = ap (λ (x : ℕ). slice_index two.last x) si in
-          let cu : c ≡ u = omega (arith, slot-here) in
-          (ap leads cu ∙ hl, ap slot cu ∙ es ∙ sym si)
-      last_in i c h e (inr y) = k.last_in i c h (sym (slot-off i (eqb-false i s y)) ∙ e)
-
-      earlier_in : (c d : ℕ) → leads c ≡ true → slice_index two.earlier c ≡ suc d → (c < u) ⊎ (c ≡ u) → (leads d ≡ true) × (slot d ≡ slot c)
-      earlier_in c d hc e (inl y) = k.earlier_in c d y hc (sym (next_off c (omega arith)) ∙ e)
-      earlier_in c d hc e (inr y) =
-          let z : slice_index_or two.earlier c 0 ≡ slice_index_or two.earlier u 0 = ap (λ (x : ℕ). slice_index two.earlier x) y in
-          let i = k.last_in s d hs (sym next_here ∙ sym z ∙ e) in
-          (i.0, i.1 ∙ sym es ∙ ap slot (sym y))
-
--- as the code does it
-pub entered : {u s l : ℕ} {t : Leaders} → Links u t → u < 512 → s < 1024 → l ≡ u → Entered u s l t (record { last = slice_set t.last s (u + 1); earlier = slice_set t.earlier u (slice_index t.last s) })
-entered {u} {s} {l} h hu hs e = record { links = links_more h hu hs; chains = λ slot leads small es el k. chains_more h hu hs k small es (el ∙ eq-eqb l u e) }
-
-pub not_entered : {u s l : ℕ} {t : Leaders} → Links u t → (l ≢ u) → Entered u s l t t
-not_entered {u} {s} {l} h d = record { links = links_keep h; chains = λ slot leads small es el k. chains_keep k (el ∙ ne_eqb l u d) }

@@ -11,19 +11,11 @@ use Rattle.buffers.specs.AllLaws.{all_fail, all_pass_lem, failed}
 use Rattle.rows.specs.Rows.{leads}
 use Rattle.compressed.specs.Compressed.{alike, apart, merges}
 use Rattle.grouping.specs.declared.Leaders.{Leaders}
-use Rattle.grouping.specs.Chains.{Chains, Entered, Links, Met, SlotsTell, class_alike}
+use Rattle.grouping.specs.Chains.{Chains, Links, Met, SlotsTell, class_alike}
 use Rattle.grouping.specs.ChainLaws.{chains_keep, chains_none, links_keep}
 use Rattle.grouping.specs.Parted.{New, Parted, apart_at, candidate, chained}
 
 -- one node sought in a chain
-pub new_passed : {twin : ℕ → Bool} {a : Bool} {u s : ℕ} {t : Leaders} → Links u t → not a ≡ true → New twin a u s t t true
-new_passed {twin} {a} l n = record {
-  hit = λ f. differ refl f;
-  miss = λ e t. differ t (not-true a n);
-  links = λ e. links_keep l;
-  chains = λ e slot leads small es el k. chains_keep k (el ∙ not-true a n);
-}
-
 pub new_hit : {twin : ℕ → Bool} {a : Bool} {u s : ℕ} {t : Leaders} → not a ≡ false → (x : Option ℕ) → ((slot : ℕ → ℕ) (leads : ℕ → Bool) → slot u ≡ s → Chains slot leads u t → Met slot leads twin u x) → is_some x ≡ true → New twin a u s t t false
 new_hit y None m e = differ e refl
 new_hit {a = a} y (Some q) m e = record {
@@ -31,15 +23,6 @@ new_hit {a = a} y (Some q) m e = record {
   miss = λ e. differ e refl;
   links = λ e. differ e refl;
   chains = λ e. differ e refl;
-}
-
-pub new_miss : {twin : ℕ → Bool} {a : Bool} {u s : ℕ} {t after : Leaders} → not a ≡ false → (x : Option ℕ) → ((slot : ℕ → ℕ) (leads : ℕ → Bool) → slot u ≡ s → Chains slot leads u t → Met slot leads twin u x) → is_some x ≡ false → Entered u s u t after → New twin a u s t after true
-new_miss y (Some q) m e h = differ refl e
-new_miss {a = a} {u = u} y None m e h = record {
-  hit = λ f. differ refl f;
-  miss = λ _ _ slot leads es k. (m slot leads es k).miss refl;
-  links = λ _. h.links;
-  chains = λ _ slot leads small es el k. h.chains slot leads small es (el ∙ not-false a y ∙ sym (eq-eqb u u refl)) k;
 }
 
 -- who could be one with u's group

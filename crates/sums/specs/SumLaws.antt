@@ -1,7 +1,7 @@
 -- The cubes of groups added up, and the key of a node from them, step by step.
 use Rattle.std.specs.Prelude.{◌≡◌, ℕ, suc, ◌+◌, ◌%◌, ◌^◌, ◌<◌, true, false, cond, ◌⊎◌, List, length, replicate, ◌==◌, ◌≢◌, nat_eq, slice_index, slice_index_or, slice_set}
 use Rattle.std.proofs.Math.Path.{refl, ap}
-use Rattle.std.proofs.Common.{sym, subst, ◌∙◌, inl, inr, arith, length-set, get_or-set_other, get_or-set_same, eq-eqb, eqb-true, lt-ltb, ne_eqb}
+use Rattle.std.proofs.Common.{sym, ◌∙◌, inl, inr, arith, length-set, get_or-set_other, get_or-set_same, eq-eqb, eqb-true, lt-ltb, ne_eqb}
 use Rattle.std.proofs.lemmas.List.{length-replicate, get_or-replicate}
 use Rattle.std.proofs.lemmas.Bool.{eqb-false}
 use Rattle.model.specs.Grouping.{cube}
@@ -52,9 +52,6 @@ cubed_start least e = rw e (record { size = length-replicate {A = ℕ} 1024 0; o
 
 pub joined_start : {sums : List ℕ} → sums ≡ replicate 1024 0 → NoneJoined sums
 joined_start e = rw e (record { near = λ l b. get_or-replicate {A = ℕ} 1024 l 0 0 (omega arith) })
-
-pub cubed_at : {m k : ℕ} {least sums : List ℕ} → Cubed m least sums → m ≡ k → Cubed k least sums
-cubed_at {least = least} {sums = sums} h e = subst (λ i. Cubed i least sums) e h
 
 -- what a first member is kept to
 pub led_first : {n p l : ℕ} {least : List ℕ} → FirstsAreNodes n least → p < n → (slice_index least p ≢ 65535) → l ≡ slice_index least p → l < 512

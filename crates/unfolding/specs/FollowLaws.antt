@@ -58,13 +58,7 @@ module _ (kind l p : ℕ) (below : l < p) {t t₁ : List ℕ} (r : RowCopied l p
       step a b h (inl s) (inr u) (inl v) = rw (s, u, v, lt-ltb l p below, eq-eqb kind 2 e, eqb-true a p s, copied_row r b h) (sym (xor_cond (edge_bit t l b) true))
       step a b h (inl s) (inr u) (inr v) = rw (s, u, v, lt-ltb l p below, eq-eqb kind 2 e, eqb-true a p s, copied_row r b h) (sym (xor_cond (edge_bit t l b) false))
 
-pub followed_none : (kind l p : ℕ) (t : List ℕ) → p ≤ l → Followed kind l p t t
-followed_none kind l p t h = record { size = refl; bits = λ a b i. rw (le-ltb l p h, and-false (eqb a p)) }
-
 -- all rows, one after the other
-pub following_start : (least kinds t : List ℕ) → Following least kinds 0 t t
-following_start least kinds t = record { size = refl; rows = λ a b h. absurd (omega arith); later = λ a b h i. refl }
-
 pub following_step : {n k : ℕ} {least kinds t now after : List ℕ} → FirstsLead n least → k < n → Following least kinds k t now → Followed (get_or kinds (get_or least k 0) 0) (get_or least k 0) k now after → Following least kinds (k + 1) t after
 unfolding leads
 following_step {n} {k} {least} {kinds} {t} {now} {after} led small f x = record {
@@ -90,9 +84,6 @@ following_step {n} {k} {least} {kinds} {t} {now} {after} led small f x = record 
     row a b h i (inr s) =
         let d : a ≡ k → ⊥ = eqb-false a k s in
         rw s (f.rows a b (omega arith) i)
-
-pub following_done : {n k : ℕ} {least kinds t now : List ℕ} → n ≤ k → k ≤ n → Following least kinds k t now → Following least kinds n t now
-following_done h i f = record { size = f.size; rows = λ a b j. f.rows a b (omega arith); later = λ a b j. f.later a b (omega arith) }
 
 -- in a clique a bit and the change of it: at the first member, at the other, at neither
 own_first : (k : Bool) → xor (k && false) (k && true) ≡ (k && true)
