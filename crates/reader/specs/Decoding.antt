@@ -13,6 +13,7 @@ use Rattle.records.specs.Records.{item_in, less_group, less_member, record_at, s
 use Rattle.drawing.specs.Drawing.{Added, Adding, pair_bits}
 use Rattle.mirroring.specs.Mirroring.{StripsFor}
 use Rattle.rows.specs.Rows.{leads, no_node}
+use Rattle.compressed.specs.declared.Groups.{Groups}
 use Rattle.compressed.specs.Compressed.{Told, class_of, first_at, first_member_of, kind_in, kind_marked, led_by, single}
 use Rattle.sums.specs.Joined.{JoinedSummed, SumsAdded, SumsAdding, pair_cubes}
 use Rattle.sums.specs.Sums.{Cubed}
@@ -282,6 +283,10 @@ pub record Blank (s least kinds classes joined : List ℕ) : Type 0 where
   pub groups : kinds ≡ replicate max_nodes single
   pub labels : classes ≡ replicate max_nodes 0
   pub rows : BlankRows s joined
+
+-- and no sum
+abbrev pub BlankGroups : List ℕ → Groups → List ℕ → Type 0
+BlankGroups s groups joined = Blank s groups.least groups.kinds groups.classes joined × (groups.sums ≡ replicate (2 * max_nodes) 0)
 
 -- the body of a file read: the arrays hold what it tells
 pub record BodyRead (s : List ℕ) (n m g : ℕ) (least kinds classes joined sums : List ℕ) (r : Bool) : Type 0 where

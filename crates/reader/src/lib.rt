@@ -10,10 +10,10 @@ ghost use Rattle.mirroring.specs.Mirroring.{StripsFor};
 ghost use Rattle.records.specs.Records.{record_at};
 ghost use Rattle.sums.specs.Joined.{SumsAdded};
 ghost use Rattle.sums.specs.Sums.{FirstsAreNodes};
-ghost use Rattle.reader.specs.Decoding.{AfterHead, Blank, BodyRead, Decodes, FirstsAscend, FirstsPlaced, GroupTaken, GroupsRead, JoinedRead, MembersRead, RunRead, SumsKept, SuperedgesRead, counts_fit, ends_at, is_few, least_count, nodes_in, numbers_at, pair_adds};
+ghost use Rattle.reader.specs.Decoding.{AfterHead, BlankGroups, BodyRead, Decodes, FirstsAscend, FirstsPlaced, GroupTaken, GroupsRead, JoinedRead, MembersRead, RunRead, SumsKept, SuperedgesRead, counts_fit, ends_at, is_few, least_count, nodes_in, numbers_at, pair_adds};
 
 use compressed::{CLIQUE, Groups, INDEPENDENT, SINGLE};
-use records::{Counts, Record};
+use records::{Counts, Read, Record};
 use rows::Graph;
 
 // The kind of a group by its mark and count.
@@ -163,6 +163,7 @@ fn read_groups(
 }
 
 // The superedge between p and q: one bit, or both and the cubes of each added to the other's sum.
+// A flag and no closure: `drawing::join` and the clause `added` take the flag too.
 #[tactic(auto, using(crate::specs::AddedLaws::few_adds, crate::specs::AddedLaws::many_add))]
 fn join(joined: &mut [u64], sums: &mut [u32], p: usize, q: usize, few: bool)
     requires { (p < max_nodes) × (q < max_nodes) × (row_words * p + row_words ≤ length joined.old) × (row_words * q + row_words ≤ length joined.old) × (length sums.old ≡ 2 * max_nodes) }
@@ -265,13 +266,16 @@ fn read_joined(
 fn is_end(file: &[u8], at: usize, counts: Counts) -> bool
     ensures { result ≡ ends_at counts file.now at }
 {
-    let Some(read) = records::record_at(file, at) else {
+    let Some(
+        Read {
+            next,
+            item: Record::End,
+        },
+    ) = records::record_at(file, at)
+    else {
         return false;
     };
-    let Record::End = read.item else {
-        return false;
-    };
-    counts.is_spent() && read.next == file.len()
+    counts.is_spent() && next == file.len()
 }
 
 // Whether a graph can have the head's numbers.
@@ -292,7 +296,7 @@ fn read_body(
     groups: &mut Groups,
     joined: &mut [u64],
 ) -> bool
-    requires { (from ≡ 8) × (n ≤ max_nodes) × (g ≤ max_nodes) × Blank file.now groups.old.least groups.old.kinds groups.old.classes joined.old × StripsFor n (length joined.old) × (groups.old.sums ≡ replicate (2 * max_nodes) 0) }
+    requires { (from ≡ 8) × (n ≤ max_nodes) × (g ≤ max_nodes) × BlankGroups file.now groups.old joined.old × StripsFor n (length joined.old) }
     ensures { BodyRead file.now n m g groups.new.least groups.new.kinds groups.new.classes joined.new groups.new.sums result }
 {
     let mut room = [0u16; Graph::NODES];
@@ -324,7 +328,7 @@ fn graph_at(
     groups: &mut Groups,
     joined: &mut [u64],
 ) -> Option<usize>
-    requires { AfterHead file.now at head × (Blank file.now groups.old.least groups.old.kinds groups.old.classes joined.old × (groups.old.sums ≡ replicate (2 * max_nodes) 0)) }
+    requires { AfterHead file.now at head × BlankGroups file.now groups.old joined.old }
     ensures decodes { Decodes file.now groups.new.least groups.new.kinds groups.new.classes joined.new result }
     ensures sums_kept { SumsKept file.now groups.new.least joined.new groups.new.sums }
 {
@@ -359,7 +363,7 @@ fn start<'a>(file: &'a [u8], at: usize) -> Reader<'a>
 
 impl<'a> Reader<'a> {
     // The record at the reader's place.
-    fn record(self) -> Option<records::Read>
+    fn record(self) -> Option<Read>
         ensures { result ≡ record_at self.entry.file.now self.entry.at }
     {
         records::record_at(self.file, self.at)
@@ -377,7 +381,7 @@ impl<'a> Reader<'a> {
 
     // How many nodes the graph of the file has whose head was just read; none if the bytes are no release.
     fn graph(self, head: Record, groups: &mut Groups, joined: &mut [u64]) -> Option<usize>
-        requires { AfterHead self.file.now self.at head × (Blank self.file.now groups.old.least groups.old.kinds groups.old.classes joined.old × (groups.old.sums ≡ replicate (2 * max_nodes) 0)) }
+        requires { AfterHead self.file.now self.at head × BlankGroups self.file.now groups.old joined.old }
         ensures decodes { Decodes self.entry.file.now groups.new.least groups.new.kinds groups.new.classes joined.new result }
         ensures sums_kept { SumsKept self.entry.file.now groups.new.least joined.new groups.new.sums }
     {
@@ -386,6 +390,7 @@ impl<'a> Reader<'a> {
 }
 
 // How many nodes the head of a file tells; 0 if the bytes are too few for a head.
+// A number and no option: `BlankRows` asks for rows for so many nodes, and for no bytes there need be none.
 #[tactic(auto, unfolding(crate::specs::Decoding::nodes_in))]
 pub fn nodes_in(file: &[u8]) -> usize
     ensures { result ≡ nodes_in file.now }
@@ -398,7 +403,7 @@ pub fn nodes_in(file: &[u8]) -> usize
 
 // A release file read into blank groups and rows without a bit: how many nodes its graph has, or none if the bytes are no release.
 pub fn decode(file: &[u8], groups: &mut Groups, joined: &mut [u64]) -> Option<usize>
-    requires { Blank file.now groups.old.least groups.old.kinds groups.old.classes joined.old × (groups.old.sums ≡ replicate (2 * max_nodes) 0) }
+    requires { BlankGroups file.now groups.old joined.old }
     ensures decodes { Decodes file.now groups.new.least groups.new.kinds groups.new.classes joined.new result }
     ensures sums_kept { SumsKept file.now groups.new.least joined.new groups.new.sums }
 {

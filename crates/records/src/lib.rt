@@ -195,7 +195,8 @@ pub fn superedge_from(file: &[u8], at: usize, i: usize) -> Option<Read>
     requires { i < u16_limit }
     ensures { result ≡ superedge_from i file.now at }
 {
-    if file.get(at..)?.len() < 6 {
+    // A test by `file.get(at..)` is slower: the loop over superedges then compares twice for each.
+    if file.len() < 6 || file.len() - 6 < at {
         return None;
     }
     if u32_at(file, at) != lead_of(i) {

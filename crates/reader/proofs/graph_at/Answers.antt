@@ -26,7 +26,7 @@ read_body-requires c =
     let is = numbers (goal.at.read_body-requires c).After-from-count in
     let e = sym c.if-not-head_fits.false ∙ c.head_fits.ensures in
     let small = sized_n _ _ _ e in
-    (after_head _ _ _ _ _ _ _ _ pre.0 pre.1 _ _ _ is, small, sized_g _ _ _ e, pre.1.0, head_room _ _ _ _ _ _ _ _ pre.0 pre.1 _ _ _ is small, pre.1.1)
+    (after_head _ _ _ _ _ _ _ _ pre.0 pre.1 _ _ _ is, small, sized_g _ _ _ e, pre.1, head_room _ _ _ _ _ _ _ _ pre.0 pre.1 _ _ _ is small)
 
 pub returns-then-not-read_body : goal.returns-then-not-read_body
 returns-then-not-read_body c =

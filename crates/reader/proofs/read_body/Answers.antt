@@ -9,7 +9,7 @@ pub returns-in_default : goal.returns-in_default
 returns-in_default c =
     let count : length c.read_groups.new.firsts ≡ c.args.g = search rules in
     let pre = c.requires in
-    body_broken _ _ _ _ _ _ _ _ _ _ _ _ _ _ pre.0 count pre.3 pre.4 c.read_groups.ensures.read (c.read_groups.ensures.sums ∙ pre.5) c.in_default.is
+    body_broken _ _ _ _ _ _ _ _ _ _ _ _ _ _ pre.0 count pre.3.0 pre.4 c.read_groups.ensures.read (c.read_groups.ensures.sums ∙ pre.3.1) c.in_default.is
 
 pub read_joined-at-requires : goal.read_joined-at-requires
 read_joined-at-requires c =
@@ -18,15 +18,15 @@ read_joined-at-requires c =
     let read = c.read_groups.ensures.read in
     record {
       firsts_are_nodes = (
-        body_nodes _ _ _ _ _ _ _ _ _ _ _ _ _ _ pre.0 count pre.3 pre.4 read _ c.in-Some.is pre.1,
-        body_placed _ _ _ _ _ _ _ _ _ _ _ _ _ _ pre.0 count pre.3 pre.4 read _ c.in-Some.is pre.1 pre.2,
-        body_ascend _ _ _ _ _ _ _ _ _ _ _ _ _ _ pre.0 count pre.3 pre.4 read _ c.in-Some.is,
+        body_nodes _ _ _ _ _ _ _ _ _ _ _ _ _ _ pre.0 count pre.3.0 pre.4 read _ c.in-Some.is pre.1,
+        body_placed _ _ _ _ _ _ _ _ _ _ _ _ _ _ pre.0 count pre.3.0 pre.4 read _ c.in-Some.is pre.1 pre.2,
+        body_ascend _ _ _ _ _ _ _ _ _ _ _ _ _ _ pre.0 count pre.3.0 pre.4 read _ c.in-Some.is,
       );
-      joined_value = (pre.3.rows.bits, pre.4, c.read_groups.ensures.sums ∙ pre.5);
+      joined_value = (pre.3.0.rows.bits, pre.4, c.read_groups.ensures.sums ∙ pre.3.1);
     }
 
 pub returns : goal.returns
 returns c =
     let count : length c.read_groups.new.firsts ≡ c.args.g = search rules in
     let pre = c.requires in
-    body_read _ _ _ _ _ _ _ _ _ _ _ _ _ _ pre.0 count pre.3 pre.4 c.read_groups.ensures.read _ c.in-Some.is _ _ _ _ c.read_joined-at.ensures c.is_end.ensures
+    body_read _ _ _ _ _ _ _ _ _ _ _ _ _ _ pre.0 count pre.3.0 pre.4 c.read_groups.ensures.read _ c.in-Some.is _ _ _ _ c.read_joined-at.ensures c.is_end.ensures

@@ -16,17 +16,6 @@ returns-then-j-last c = run_over _ _ _ _ _ _ _ _ _ _ _ _ c.loop-read.invariant _
 pub returns-then-j-firsts : goal.returns-then-j-firsts
 returns-then-j-firsts c = run_over _ _ _ _ _ _ _ _ _ _ _ _ c.loop-read.invariant _ c.in-Some.ensures _ _ c.in-Superedge.is (no_position _ _ _ _ _ (omega arith))
 
-pub join-requires : goal.join-requires
-join-requires c =
-    let e = c.wide-p.ensures in
-    let f = c.wide.ensures in
-    let pre = c.requires in
-    let a = pre.0.small _ pre.1 in
-    let b = pre.0.small _ c.if-j-firsts.false in
-    let left = c.loop-read.invariant in
-    let size = left.drawn.size in
-    (omega arith, omega arith, omega (arith, pre.0.rows _ pre.1), omega (arith, pre.0.rows _ c.if-j-firsts.false), left.summed.size ∙ pre.2)
-
 pub loop-read-smaller : goal.loop-read-smaller
 loop-read-smaller c =
     let n = superedge_next _ _ _ _ c.in-Some.ensures _ _ c.in-Superedge.is in

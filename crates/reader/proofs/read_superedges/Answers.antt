@@ -1,17 +1,10 @@
 -- `reader::read_superedges` meets its contract.
-use mathlib.Core.Path.{◌∙◌}
 use native.Mathlib.Omega.{arith}
 use Rattle.reader.specs.SuperedgeLaws.{runs_end, runs_start, runs_step}
 use Rattle.reader.proofs.read_superedges.Goals as goal
 
 pub loop-i-init : goal.loop-i-init
 loop-i-init c = runs_start _ _ _ _ _ _ _
-
-pub read_run-at-requires : goal.read_run-at-requires
-read_run-at-requires c =
-    let left = c.loop-i.invariant in
-    let pre = c.requires in
-    (rw left.drawn.size pre.0, c.loop-i-test.true, left.summed.size ∙ pre.1)
 
 pub loop-i-preserved : goal.loop-i-preserved
 loop-i-preserved c = let small = c.requires.0.few in runs_step _ _ _ _ _ _ _ _ _ _ _ c.loop-i.invariant _ _ _ (omega arith) c.read_run-at.ensures
