@@ -35,7 +35,7 @@ impl Name {
         ensures { MatchOption result (length bytes.now ≢ name_bytes) (Named bytes.now) }
     {
         let (first, rest) = bytes.split_first_chunk()?;
-        let second = rest.try_into().ok()?;
+        let second: [u8; 8] = rest.try_into().ok()?;
         Some(Name {
             first: u64::from_le_bytes(*first),
             second: u64::from_le_bytes(second),

@@ -13,6 +13,7 @@ use updating::{answer, apply};
 mod updating;
 
 // How many updates a batch has.
+#[tactic(auto, unfolding(model::specs::Updates::update_count))]
 pub fn count(batch: &[u16]) -> usize
     ensures { result ≡ update_count batch.now }
 {

@@ -105,6 +105,7 @@ impl Update {
     }
 
     // Refused by the tables: 24, 16. Whether the edge is there is looked at last.
+    #[tactic(auto, using(tables::specs::LentLaws::held_sized))]
     fn check(self, tables: &Tables<'_>) -> Result<(), Refusal>
         requires { Within tables.now.n self }
         ensures { code result ≡ refusal (graph_of tables.now.n (lent tables.now.edges.now tables.now.nodes.now tables.now.keys.now)) (change_of self) }

@@ -1,7 +1,5 @@
 -- `class` meets its contract.
 use mathlib.Core.Logic.{⊎_elim}
-use Rattle.std.proofs.Common.{ap, sym}
-use Rattle.groups.specs.Groups.{change}
 use Rattle.updates.specs.UpdateLaws.{class_more, class_u, class_wanted}
 use Rattle.updates.proofs.updating.class.Goals as goal
 
@@ -12,6 +10,3 @@ pub returns-then-class-ge-CLASSES : goal.returns-then-class-ge-CLASSES
 returns-then-class-ge-CLASSES c t =
     let l = c.if-u-n.false in
     ⊎_elim (λ x. class_more _ _ _ _ t.edges t.nodes t.keys l x) (λ x. class_wanted _ _ _ _ t.edges t.nodes t.keys l x.1) c.then-class-ge-CLASSES.either
-
-pub returns : goal.returns
-returns c = record { within = (c.if-u-n.false, c.if-class-ge-CLASSES.false); same = ap (change 3 c.args.u c.args.class) (sym c.if-wanted-ne0.false) }

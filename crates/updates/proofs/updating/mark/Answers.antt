@@ -1,7 +1,5 @@
 -- `mark` meets its contract.
 use mathlib.Core.Logic.{⊎_elim}
-use Rattle.std.proofs.Common.{ℕ, ap, sym}
-use Rattle.groups.specs.Groups.{change}
 use Rattle.updates.specs.UpdateLaws.{mark_more, mark_u, mark_v}
 use Rattle.updates.proofs.updating.mark.Goals as goal
 
@@ -12,6 +10,3 @@ pub returns-then-v-ne0 : goal.returns-then-v-ne0
 returns-then-v-ne0 c t =
     let l = c.if-u-n.false in
     ⊎_elim (λ x. mark_v _ _ _ _ t.edges t.nodes t.keys l x) (λ x. mark_more _ _ _ _ t.edges t.nodes t.keys l x.1) c.then-v-ne0.either
-
-pub returns : goal.returns
-returns c = record { within = (c.if-u-n.false, c.if-wanted-gt1.false); same = ap (λ (x : ℕ). change 2 c.args.u x c.args.wanted) (sym c.if-v-ne0.false) }
