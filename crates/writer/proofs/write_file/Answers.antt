@@ -3,7 +3,7 @@ use mathlib.Core.Path.{refl}
 use native.Mathlib.Omega.{arith}
 use Rattle.layout.specs.LinkLaws.{linked_ahead}
 use Rattle.layout.specs.WholeLaws.{nodes-le, room_end, room_groups, room_head, room_super, rows_of, wrote_file}
-use Rattle.layout.specs.WordLaws.{leading_of, rowed_of}
+use Rattle.layout.specs.WordLaws.{leading_of}
 use Rattle.writer.proofs.write_file.Goals as goal
 
 pub positions_of-position-requires : goal.positions_of-position-requires
