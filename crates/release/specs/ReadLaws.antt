@@ -1,5 +1,5 @@
 -- Reading a release back, and asking it, are the model's calls.
-use Rattle.std.specs.Prelude.{◌≡◌, Bool, false, cond, not, ◌&&◌, ◌||◌, List, [], ◌∷◌, ◌≢◌, ℕ, suc, zero, ◌*◌, ◌≤◌, ◌<◌, eqb, ltb, length}
+use Rattle.std.specs.Prelude.{◌≡◌, Bool, false, cond, not, ◌&&◌, ◌||◌, List, [], ◌∷◌, ◌≢◌, ℕ, suc, zero, ◌*◌, ◌≤◌, ◌<◌, eqb, ltb, length, Option, Some, None, Err, ok_or}
 use Rattle.std.proofs.Math.Path.{refl, sym, ap, fun_ext}
 use Rattle.std.proofs.Common.{subst, ◌∙◌}
 use Rattle.std.proofs.Math.Bool.{true, or-true}
@@ -17,8 +17,6 @@ use Rattle.model.specs.Distance.{distance, unreachable, walk}
 use Rattle.model.specs.Calls.{fill_refused, read_reasons, read_call, file_distance_reasons, file_distance_call, file_neighbours_reasons, file_neighbours_call}
 use Rattle.model.proofs.TestLaws.{and_fst, and_snd}
 use Rattle.model.proofs.RefusalLaws.{call_refused, first_none}
-use Rattle.reader.specs.declared.Decoded.{Decoded}
-use Rattle.reader.specs.declared.Decoded.TheVariants as answer
 use Rattle.rows.specs.Rows.{no_node}
 use Rattle.compressed.specs.Compressed.{placed, unfolded, unfolded_edge}
 use Rattle.compressed.specs.PlacedLaws.{placed-visible}
@@ -39,12 +37,18 @@ unfolding first_of
 no_first true z = absurd (omega arith)
 no_first false z = refl
 
-module _ {s first kinds classes joined sums : List ℕ} {r : Decoded} (j : Judged s first kinds classes joined sums r) where
-  passed : (m : ℕ) → r ≡ answer.Graph m → is_release s ≡ true
+module _ {s first kinds classes joined sums : List ℕ} {r : Option ℕ} (j : Judged s first kinds classes joined sums r) where
+  passed : (m : ℕ) → r ≡ Some m → is_release s ≡ true
   passed m z = not-false _ (first_none (not (is_release s)) 19 [] refl (sym j.asked ∙ ap asked_number z ∙ unfold asked_number in refl)).0
 
-  failed : r ≡ answer.NoRelease → is_release s ≡ false
+  failed : r ≡ None → is_release s ≡ false
   failed z = no_first (is_release s) (sym j.asked ∙ ap asked_number z ∙ unfold asked_number in refl)
+
+-- no number of nodes is told as the refusal that stands for it
+pub none_refused : {A E : Type 0} {told : Option A} {refusal instead : E} → told ≡ None → Err refusal ≡ ok_or told instead → refusal ≡ instead
+none_refused {A} {E} {told} {refusal} {instead} none e =
+    let f = rw none at e in
+    cc
 
 -- read
 module _ (n : ℕ) (t : Tables) (s : List ℕ) (f : Bool) (e : f ≡ not (wrong_size n (lengths t))) where
@@ -52,7 +56,7 @@ module _ (n : ℕ) (t : Tables) (s : List ℕ) (f : Bool) (e : f ≡ not (wrong_
   unfolding read_call read_reasons first_of
   read_size z = rw (not-false (wrong_size n (lengths t)) (sym e ∙ z))
 
-  module _ (fits : f ≡ true) {first kinds classes joined sums : List ℕ} {r : Decoded} (j : Judged s first kinds classes joined sums r) where
+  module _ (fits : f ≡ true) {first kinds classes joined sums : List ℕ} {r : Option ℕ} (j : Judged s first kinds classes joined sums r) where
     right : wrong_size n (lengths t) ≡ false
     right = not-true (wrong_size n (lengths t)) (sym e ∙ fits)
 
@@ -64,17 +68,17 @@ module _ (n : ℕ) (t : Tables) (s : List ℕ) (f : Bool) (e : f ≡ not (wrong_
         number : first_of (read_reasons n t s) ≡ first_of ((not (is_release s), 19) ∷ (not (eqb (decode s).node_count n), 20) ∷ [])
         number = unfold read_reasons first_of in rw right
 
-    pub read_none : r ≡ answer.NoRelease → filled 19 t ≡ read_call n t s
+    pub read_none : r ≡ None → filled 19 t ≡ read_call n t s
     read_none z = read-refused 19 (ap (read_number n) z ∙ unfold read_number in refl) (omega arith)
 
     -- the number of nodes that the file is for
-    count : (m : ℕ) → r ≡ answer.Graph m → (decode s).node_count ≡ m
+    count : (m : ℕ) → r ≡ Some m → (decode s).node_count ≡ m
     count m z = sym (ap (λ (g : Graph). g.node_count) (j.graph m z)) ∙ unfold unfolded in refl
 
-    pub read_other : (m : ℕ) → r ≡ answer.Graph m → m ≢ n → filled 20 t ≡ read_call n t s
+    pub read_other : (m : ℕ) → r ≡ Some m → m ≢ n → filled 20 t ≡ read_call n t s
     read_other m z d = read-refused 20 (ap (read_number n) z ∙ unfold read_number in rw (ne_eqb m n d)) (omega arith)
 
-    pub read_done : (m : ℕ) → r ≡ answer.Graph m → m ≡ n → {t₁ : Tables} → t₁ ≡ tables_of (held n first kinds classes joined) → filled 0 t₁ ≡ read_call n t s
+    pub read_done : (m : ℕ) → r ≡ Some m → m ≡ n → {t₁ : Tables} → t₁ ≡ tables_of (held n first kinds classes joined) → filled 0 t₁ ≡ read_call n t s
     unfolding read_call read_reasons first_of
     read_done m z d w = rw (right, passed j m z, eq-eqb (decode s).node_count n (count m z ∙ d)) (ap (filled 0) (w ∙ ap tables_of (ap (λ (k : ℕ). held k first kinds classes joined) (sym d) ∙ j.graph m z)))
 
@@ -110,11 +114,11 @@ distance_same n first kinds classes joined p q =
     ap (λ (f : ℕ → Bool). head_or unreachable (filter f (nodes (length v.nodes)))) (fun_ext (λ k. walk_same v.nodes v.edge v.class w.class k p q))
 
 -- a file shows the nodes in its groups
-shown : {s first kinds classes joined sums : List ℕ} {r : Decoded} → Judged s first kinds classes joined sums r → (n : ℕ) → r ≡ answer.Graph n → (p : ℕ) → is_visible (decode s) p ≡ placed n first p
+shown : {s first kinds classes joined sums : List ℕ} {r : Option ℕ} → Judged s first kinds classes joined sums r → (n : ℕ) → r ≡ Some n → (p : ℕ) → is_visible (decode s) p ≡ placed n first p
 shown {s} {first} {kinds} {classes} {joined} j n z p = ap (λ (g : Graph). is_visible g p) (sym (j.graph n z)) ∙ seen n first kinds classes joined p
 
 -- what stands in the arrays of a release: its graph, by rows and by first members
-module _ {s first kinds classes joined sums : List ℕ} {r : Decoded} (j : Judged s first kinds classes joined sums r) (n : ℕ) (z : r ≡ answer.Graph n) where
+module _ {s first kinds classes joined sums : List ℕ} {r : Option ℕ} (j : Judged s first kinds classes joined sums r) (n : ℕ) (z : r ≡ Some n) where
   told_proper : Proper (decode s)
   told_proper = subst Proper (j.graph n z) (j.exact n z).proper
 
@@ -136,12 +140,12 @@ module _ {s first kinds classes joined sums : List ℕ} {r : Decoded} (j : Judge
     ask_reached = row-reached (decode s) told_proper p row told-bits first 1 (λ q l. omega (arith, (j.exact n z).compressed.nodes, told_proper.small))
 
 -- neighbours asked of a file
-module _ (s : List ℕ) (p : ℕ) (out : List ℕ) {first kinds classes joined sums : List ℕ} {r : Decoded} (j : Judged s first kinds classes joined sums r) where
-  pub ask_none : r ≡ answer.NoRelease → listed 19 0 out ≡ file_neighbours_call s p out
+module _ (s : List ℕ) (p : ℕ) (out : List ℕ) {first kinds classes joined sums : List ℕ} {r : Option ℕ} (j : Judged s first kinds classes joined sums r) where
+  pub ask_none : r ≡ None → listed 19 0 out ≡ file_neighbours_call s p out
   unfolding file_neighbours_call file_neighbours_reasons first_of
   ask_none z = rw (failed j z)
 
-  module _ (n : ℕ) (z : r ≡ answer.Graph n) {b : Bool} (e : b ≡ placed n first p) where
+  module _ (n : ℕ) (z : r ≡ Some n) {b : Bool} (e : b ≡ placed n first p) where
     pub ask_hidden : b ≡ false → listed 14 0 out ≡ file_neighbours_call s p out
     unfolding file_neighbours_call file_neighbours_reasons first_of
     ask_hidden h = rw (passed j n z, shown j n z p ∙ sym e ∙ h)
@@ -157,12 +161,12 @@ module _ (s : List ℕ) (p : ℕ) (out : List ℕ) {first kinds classes joined s
         number = unfold file_neighbours_reasons first_of in rw (passed j n z, shown j n z p ∙ sym e ∙ h)
 
 -- a distance asked of a file
-module _ (s : List ℕ) (p q : ℕ) {first kinds classes joined sums : List ℕ} {r : Decoded} (j : Judged s first kinds classes joined sums r) where
-  pub measure_none : r ≡ answer.NoRelease → measured 19 0 ≡ file_distance_call s p q
+module _ (s : List ℕ) (p q : ℕ) {first kinds classes joined sums : List ℕ} {r : Option ℕ} (j : Judged s first kinds classes joined sums r) where
+  pub measure_none : r ≡ None → measured 19 0 ≡ file_distance_call s p q
   unfolding file_distance_call file_distance_reasons first_of
   measure_none z = rw (failed j z)
 
-  module _ (n : ℕ) (z : r ≡ answer.Graph n) where
+  module _ (n : ℕ) (z : r ≡ Some n) where
     -- either node may be the hidden one
     hidden : (a b : Bool) → is_visible (decode s) p ≡ a → is_visible (decode s) q ≡ b → (not a || not b) ≡ true → measured 14 0 ≡ file_distance_call s p q
     unfolding file_distance_call file_distance_reasons first_of
@@ -179,7 +183,7 @@ module _ (s : List ℕ) (p q : ℕ) {first kinds classes joined sums : List ℕ}
     measure_done a b e = rw (passed j n z, shown j n z p ∙ a, shown j n z q ∙ b) (ap (measured 0) (e ∙ distance_same n first kinds classes joined p q ∙ ap (λ (g : Graph). distance (visible g) p q) (j.graph n z)))
 
 -- what is filled
-module _ {s first kinds classes joined sums : List ℕ} {r : Decoded} (j : Judged s first kinds classes joined sums r) (m : ℕ) (e : r ≡ answer.Graph m) (n : ℕ) (d : m ≡ n) where
+module _ {s first kinds classes joined sums : List ℕ} {r : Option ℕ} (j : Judged s first kinds classes joined sums r) (m : ℕ) (e : r ≡ Some m) (n : ℕ) (d : m ≡ n) where
   pub judged_exact : Exact n first kinds classes joined
   judged_exact = subst (λ (k : ℕ). Exact k first kinds classes joined) d (j.exact m e)
 

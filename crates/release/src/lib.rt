@@ -17,8 +17,7 @@ ghost use Rattle.tables.specs.Lent.{filled};
 ghost use Rattle.release.specs.Release.{measured, told};
 
 use answers::Refusal;
-use compressed::{SINGLE, SMALL};
-use reader::Decoded;
+use compressed::{Groups, SMALL};
 use rows::Graph;
 use tables::Tables;
 use writer::Written;
@@ -109,28 +108,13 @@ fn read_with(
     if !tables::right_size(n, edges, nodes, keys) {
         return Err(Refusal::WrongSize);
     }
-    let mut least = [Graph::NONE; Graph::NODES];
-    let mut kinds = [SINGLE; Graph::NODES];
-    let mut classes = [0u16; Graph::NODES];
-    let mut sums = [0u32; 2 * Graph::NODES];
-    let judged = judging::judge(
-        file,
-        &mut least,
-        &mut kinds,
-        &mut classes,
-        joined,
-        &mut sums,
-    );
-    let Decoded::Graph { n: told } = judged else {
-        return Err(Refusal::NoRelease);
-    };
+    let mut groups = Groups::blank();
+    let told = judging::judge(file, &mut groups, joined).ok_or(Refusal::NoRelease)?;
     if told != n {
         return Err(Refusal::OtherSize);
     }
     let few = reader::are_few(file.len(), n);
-    reading::fill(
-        n, few, &mut least, &kinds, &classes, joined, &sums, edges, nodes, keys,
-    );
+    reading::fill(n, few, &mut groups, joined, edges, nodes, keys);
     Ok(())
 }
 
@@ -167,24 +151,11 @@ fn ask_with(file: &[u8], p: u16, out: &mut [u16], joined: &mut [u64]) -> Result<
     requires { BlankRows file.now joined.old }
     ensures { listed (code result) (value_or 0 result) out.new ≡ file_neighbours_call file.now p out.old }
 {
-    let mut least = [Graph::NONE; Graph::NODES];
-    let mut kinds = [SINGLE; Graph::NODES];
-    let mut classes = [0u16; Graph::NODES];
-    let mut sums = [0u32; 2 * Graph::NODES];
-    let judged = judging::judge(
-        file,
-        &mut least,
-        &mut kinds,
-        &mut classes,
-        joined,
-        &mut sums,
-    );
-    let Decoded::Graph { n } = judged else {
-        return Err(Refusal::NoRelease);
-    };
-    let node = find_node(&least, n, p)?;
-    let row = unfolding::neighbour_row(&least, &kinds, joined, n, node);
-    queries::list_row(&row, &least, 1, out)
+    let mut groups = Groups::blank();
+    let n = judging::judge(file, &mut groups, joined).ok_or(Refusal::NoRelease)?;
+    let node = find_node(&groups.least, n, p)?;
+    let row = unfolding::neighbour_row(&groups.least, &groups.kinds, joined, n, node);
+    queries::list_row(&row, &groups.least, 1, out)
 }
 
 // The neighbours of p, asked of a release, ascending, each followed by the least member of its group there, and their count.
@@ -200,24 +171,12 @@ fn measure_with(file: &[u8], p: u16, q: u16, joined: &mut [u64]) -> Result<u16, 
     requires { BlankRows file.now joined.old }
     ensures { measured (code result) (value_or 0 result) ≡ file_distance_call file.now p q }
 {
-    let mut least = [Graph::NONE; Graph::NODES];
-    let mut kinds = [SINGLE; Graph::NODES];
-    let mut classes = [0u16; Graph::NODES];
-    let mut sums = [0u32; 2 * Graph::NODES];
-    let judged = judging::judge(
-        file,
-        &mut least,
-        &mut kinds,
-        &mut classes,
-        joined,
-        &mut sums,
-    );
-    let Decoded::Graph { n } = judged else {
-        return Err(Refusal::NoRelease);
-    };
-    let from = find_node(&least, n, p)?;
-    let to = find_node(&least, n, q)?;
-    Ok(distances::distance(&least, &kinds, joined, n, from, to))
+    let mut groups = Groups::blank();
+    let n = judging::judge(file, &mut groups, joined).ok_or(Refusal::NoRelease)?;
+    let from = find_node(&groups.least, n, p)?;
+    let to = find_node(&groups.least, n, q)?;
+    let distance = distances::distance(&groups.least, &groups.kinds, joined, n, from, to);
+    Ok(distance)
 }
 
 // How many edges separate p and q, asked of a release; 65,535 if no chain of edges does.

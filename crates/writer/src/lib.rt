@@ -69,77 +69,72 @@ fn put_superedge(out: &mut [u8], at: usize, i: usize, j: usize) -> usize
     put_u16(out, b, j)
 }
 
-// The members of a group from `first` on, by the table of next members.
-fn write_members(out: &mut [u8], at: usize, next: &[u16], n: usize, first: usize) -> usize
-    requires ahead { Ahead n next.now }
-    requires first_in_bounds { at + length (u16_bytes (chain n next.now n first)) ≤ length out.old }
-    ensures { Wrote out.old at (u16_bytes (chain n next.now n first)) out.new result }
-{
-    let mut to = at;
-    let mut q = first;
-    while q < n {
-        to = put_u16(out, to, q);
-        q = rows::wide(next[q]);
-    }
-    to
-}
-
-// The first two members of a group tell whether it is a clique.
-fn is_clique(next: &[u16], n: usize, edges: &[u64], l: usize) -> bool
-    requires ahead { Ahead n next.now }
-    requires l_lt_n { (l < n) × (row_words * n ≤ length edges.now) }
-    ensures { result ≡ first_two (edge_bit edges.now) (chain n next.now n l) }
-{
-    let second = rows::wide(next[l]);
-    if second < n {
-        return rows::edge(edges, l, second);
-    }
-    false
-}
-
-// The group whose least member is l. Its count is known once the members stand.
-fn write_group(
-    out: &mut [u8],
-    at: usize,
-    next: &[u16],
+// The groups as they are written: each node's next member, the classes, and the rows of n nodes.
+#[derive(Clone, Copy)]
+struct Groups<'a> {
     n: usize,
-    classes: &[u16],
-    edges: &[u64],
-    l: usize,
-) -> usize
-    requires ahead { Ahead n next.now }
-    requires l_lt_n { (l < n) × (row_words * n ≤ length edges.now) × (n ≤ length classes.now) }
-    requires l_in_bounds { at + length (group_bytes (edge_bit edges.now) classes.now (chain n next.now n l)) ≤ length out.old }
-    ensures { Wrote out.old at (group_bytes (edge_bit edges.now) classes.now (chain n next.now n l)) out.new result }
-{
-    let to = write_members(out, at + GROUP_HEAD, next, n, l);
-    let clique = is_clique(next, n, edges, l);
-    let a = put_group_mark(out, at, clique);
-    let b = put_u16(out, a, (to - at - GROUP_HEAD) / 2);
-    put_u16(out, b, rows::wide(classes[l]));
-    to
+    next: &'a [u16],
+    classes: &'a [u16],
+    edges: &'a [u64],
+    ghost ahead: { Ahead n next.now },
+    ghost rows: { row_words * n ≤ length edges.now },
+    ghost classed: { n ≤ length classes.now },
 }
 
-// The groups, by least member.
-fn write_groups(
-    out: &mut [u8],
-    at: usize,
-    next: &[u16],
-    n: usize,
-    classes: &[u16],
-    edges: &[u64],
-    leaders: &[u16],
-) -> usize
-    requires ahead { Ahead n next.now }
-    requires rows { Rows n edges.now leaders.now × (n ≤ length classes.now) }
-    requires leaders_in_bounds { at + length (groups_bytes (edge_bit edges.now) classes.now (chain n next.now n) leaders.now) ≤ length out.old }
-    ensures { Wrote out.old at (groups_bytes (edge_bit edges.now) classes.now (chain n next.now n) leaders.now) out.new result }
-{
-    let mut to = at;
-    for l in leaders {
-        to = write_group(out, to, next, n, classes, edges, rows::wide(*l));
+impl<'a> Groups<'a> {
+    // The members of a group from `first` on.
+    fn write_members(self, out: &mut [u8], at: usize, first: usize) -> usize
+        requires { at + length (u16_bytes (chain self.n self.next.now self.n first)) ≤ length out.old }
+        ensures { Wrote out.old at (u16_bytes (chain self.entry.n self.entry.next.now self.entry.n first)) out.new result }
+    {
+        let mut to = at;
+        let mut q = first;
+        while q < self.n {
+            to = put_u16(out, to, q);
+            q = rows::wide(self.next[q]);
+        }
+        to
     }
-    to
+
+    // The first two members of a group tell whether it is a clique.
+    fn is_clique(self, l: usize) -> bool
+        requires { l < self.n }
+        ensures { result ≡ first_two (edge_bit self.entry.edges.now) (chain self.entry.n self.entry.next.now self.entry.n l) }
+    {
+        let second = rows::wide(self.next[l]);
+        if second < self.n {
+            return rows::edge(self.edges, l, second);
+        }
+        false
+    }
+
+    // The group whose least member is l. Its count is known once the members stand.
+    fn write_group(self, out: &mut [u8], at: usize, l: usize) -> usize
+        requires l_lt_n { l < self.n }
+        requires l_in_bounds { at + length (group_bytes (edge_bit self.edges.now) self.classes.now (chain self.n self.next.now self.n l)) ≤ length out.old }
+        ensures { Wrote out.old at (group_bytes (edge_bit self.entry.edges.now) self.entry.classes.now (chain self.entry.n self.entry.next.now self.entry.n l)) out.new result }
+    {
+        let to = self.write_members(out, at + GROUP_HEAD, l);
+        let clique = self.is_clique(l);
+        let a = put_group_mark(out, at, clique);
+        let b = put_u16(out, a, (to - at - GROUP_HEAD) / 2);
+        let classes = self.classes;
+        put_u16(out, b, rows::wide(classes[l]));
+        to
+    }
+
+    // The groups, by least member.
+    fn write(self, out: &mut [u8], at: usize, leaders: &[u16]) -> usize
+        requires rows { Rows self.n self.edges.now leaders.now }
+        requires leaders_in_bounds { at + length (groups_bytes (edge_bit self.edges.now) self.classes.now (chain self.n self.next.now self.n) leaders.now) ≤ length out.old }
+        ensures { Wrote out.old at (groups_bytes (edge_bit self.entry.edges.now) self.entry.classes.now (chain self.entry.n self.entry.next.now self.entry.n) leaders.now) out.new result }
+    {
+        let mut to = at;
+        for l in leaders {
+            to = self.write_group(out, to, rows::wide(*l));
+        }
+        to
+    }
 }
 
 // Of the word that holds node q's bit, the nodes from q on that are in the set and have an edge to p.
@@ -163,54 +158,6 @@ fn write_word(out: &mut [u8], at: usize, position: &[u16], i: usize, b: usize, x
         let z = u64::trailing_zeros(rest) as usize;
         to = put_superedge(out, to, i, rows::wide(position[b + z]));
         rest = rest & (rest - 1);
-    }
-    to
-}
-
-// The superedges of the i-th group to later groups, word by word of its leader's row.
-fn write_superedges_of(
-    out: &mut [u8],
-    at: usize,
-    edges: &[u64],
-    leaders: &[u16],
-    set: &[u64; Graph::ROW_WORDS],
-    position: &[u16],
-    i: usize,
-) -> usize
-    requires rowed { Rowed edges.now leaders.now }
-    requires leader_set { LeaderSet leaders.now set.now × LeaderPlaces leaders.now position.now }
-    requires i_in_bounds { i < length leaders.now }
-    requires i_in_bounds_2 { at + length (superedges_to i (later (edge_bit edges.now) leaders.now i)) ≤ length out.old }
-    ensures { Wrote out.old at (superedges_to i (later (edge_bit edges.now) leaders.now i)) out.new result }
-{
-    let p = rows::wide(leaders[i]);
-    let mut to = at;
-    let mut q = p + 1;
-    while q < Graph::NODES {
-        let w = rows::word_of(q);
-        let x = later_word(edges, set, p, q);
-        to = write_word(out, to, position, i, 64 * w, x);
-        q = 64 * w + 64;
-    }
-    to
-}
-
-fn write_superedges(
-    out: &mut [u8],
-    at: usize,
-    edges: &[u64],
-    leaders: &[u16],
-    set: &[u64; Graph::ROW_WORDS],
-    position: &[u16],
-) -> usize
-    requires rowed { Rowed edges.now leaders.now }
-    requires leader_set { LeaderSet leaders.now set.now × LeaderPlaces leaders.now position.now }
-    requires leaders_in_bounds { at + length (superedge_bytes (edge_bit edges.now) leaders.now) ≤ length out.old }
-    ensures { Wrote out.old at (superedge_bytes (edge_bit edges.now) leaders.now) out.new result }
-{
-    let mut to = at;
-    for i in 0..leaders.len() {
-        to = write_superedges_of(out, to, edges, leaders, set, position, i);
     }
     to
 }
@@ -239,37 +186,72 @@ fn count_words(edges: &[u64], set: &[u64; Graph::ROW_WORDS], p: usize, from: usi
     count
 }
 
-// The superedges of the i-th group to later groups.
-fn count_superedges_of(
-    edges: &[u64],
-    leaders: &[u16],
-    set: &[u64; Graph::ROW_WORDS],
-    i: usize,
-) -> usize
-    requires rowed { Rowed edges.now leaders.now }
-    requires leader_set { LeaderSet leaders.now set.now }
-    requires i_in_bounds { i < length leaders.now }
-    ensures { result ≡ length (later (edge_bit edges.now) leaders.now i) }
-{
-    let p = rows::wide(leaders[i]);
-    if p == LAST {
-        return 0;
-    }
-    let first = add_ones(0, later_word(edges, set, p, p + 1));
-    first + count_words(edges, set, p, rows::word_of(p + 1) + 1)
+// The leaders of the groups, ascending, in a list and as a set of bits, and the rows that tell the superedges between them.
+#[derive(Clone, Copy)]
+struct Leaders<'a> {
+    list: &'a [u16],
+    set: &'a [u64; Graph::ROW_WORDS],
+    edges: &'a [u64],
+    ghost rowed: { Rowed edges.now list.now },
+    ghost marked: { LeaderSet list.now set.now },
 }
 
-// All superedges.
-fn count_superedges(edges: &[u64], leaders: &[u16], set: &[u64; Graph::ROW_WORDS]) -> usize
-    requires rowed { Rowed edges.now leaders.now }
-    requires leader_set { LeaderSet leaders.now set.now }
-    ensures { (result ≡ superedge_total (edge_bit edges.now) leaders.now) × (result ≤ max_nodes * max_nodes) }
-{
-    let mut count: usize = 0;
-    for i in 0..leaders.len() {
-        count += count_superedges_of(edges, leaders, set, i);
+impl<'a> Leaders<'a> {
+    // The superedges of the i-th group to later groups.
+    fn count_later(self, i: usize) -> usize
+        requires { i < length self.list.now }
+        ensures { result ≡ length (later (edge_bit self.entry.edges.now) self.entry.list.now i) }
+    {
+        let p = rows::wide(self.list[i]);
+        if p == LAST {
+            return 0;
+        }
+        let first = add_ones(0, later_word(self.edges, self.set, p, p + 1));
+        first + count_words(self.edges, self.set, p, rows::word_of(p + 1) + 1)
     }
-    count
+
+    // All superedges.
+    fn count_superedges(self) -> usize
+        ensures { (result ≡ superedge_total (edge_bit self.entry.edges.now) self.entry.list.now) × (result ≤ max_nodes * max_nodes) }
+    {
+        let mut count: usize = 0;
+        for i in 0..self.list.len() {
+            count += self.count_later(i);
+        }
+        count
+    }
+
+    // The superedges of the i-th group to later groups, word by word of its leader's row.
+    fn write_later(self, out: &mut [u8], at: usize, position: &[u16], i: usize) -> usize
+        requires places { LeaderPlaces self.list.now position.now }
+        requires i_in_bounds { i < length self.list.now }
+        requires i_in_bounds_2 { at + length (superedges_to i (later (edge_bit self.edges.now) self.list.now i)) ≤ length out.old }
+        ensures { Wrote out.old at (superedges_to i (later (edge_bit self.entry.edges.now) self.entry.list.now i)) out.new result }
+    {
+        let p = rows::wide(self.list[i]);
+        let mut to = at;
+        let mut q = p + 1;
+        while q < Graph::NODES {
+            let w = rows::word_of(q);
+            let x = later_word(self.edges, self.set, p, q);
+            to = write_word(out, to, position, i, 64 * w, x);
+            q = 64 * w + 64;
+        }
+        to
+    }
+
+    // All superedges, by first, then second position.
+    fn write_superedges(self, out: &mut [u8], at: usize, position: &[u16]) -> usize
+        requires places { LeaderPlaces self.list.now position.now }
+        requires leaders_in_bounds { at + length (superedge_bytes (edge_bit self.edges.now) self.list.now) ≤ length out.old }
+        ensures { Wrote out.old at (superedge_bytes (edge_bit self.entry.edges.now) self.entry.list.now) out.new result }
+    {
+        let mut to = at;
+        for i in 0..self.list.len() {
+            to = self.write_later(out, to, position, i);
+        }
+        to
+    }
 }
 
 // The visible nodes.
@@ -351,23 +333,27 @@ fn write_file(
     m: usize,
     least: &[u16],
     classes: &[u16],
-    edges: &[u64],
-    leaders: &[u16],
-    set: &[u64; Graph::ROW_WORDS],
+    leaders: Leaders<'_>,
     out: &mut [u8],
 ) -> usize
-    requires partition { Partition n least.now edges.now × (n ≤ length classes.now) }
-    requires leaders_value { (leaders.now ≡ leaders_of n least.now) × LeaderSet leaders.now set.now }
+    requires partition { Partition n least.now leaders.edges.now × (n ≤ length classes.now) }
+    requires leaders_value { leaders.list.now ≡ leaders_of n least.now }
     requires m_value { m ≡ file_nodes n least.now }
-    requires edges_in_bounds { length (file_of n least.now classes.now edges.now) ≤ length out.old }
-    ensures { Wrote out.old 0 (file_of n least.now classes.now edges.now) out.new result }
+    requires edges_in_bounds { length (file_of n least.now classes.now leaders.edges.now) ≤ length out.old }
+    ensures { Wrote out.old 0 (file_of n least.now classes.now leaders.entry.edges.now) out.new result }
 {
     let mut next = [Graph::NONE; Graph::NODES];
     link(least, n, &mut next);
-    let position = positions_of(leaders);
-    let a = write_head(out, 0, n, m, leaders.len());
-    let b = write_groups(out, a, &next, n, classes, edges, leaders);
-    let c = write_superedges(out, b, edges, leaders, set, &position);
+    let position = positions_of(leaders.list);
+    let groups = Groups {
+        n,
+        next: &next,
+        classes,
+        edges: leaders.edges,
+    };
+    let a = write_head(out, 0, n, m, leaders.list.len());
+    let b = groups.write(out, a, leaders.list);
+    let c = leaders.write_superedges(out, b, &position);
     put_two(out, c, b"EN")
 }
 
@@ -389,7 +375,12 @@ fn measure(n: usize, least: &[u16], edges: &[u64], leaders: &mut [u16]) -> Sizes
     let g = collect_leaders(least, n, leaders);
     let set = leader_set(least, n);
     let m = count_visible(least, n);
-    let s = count_superedges(edges, &leaders[..g], &set);
+    let told = Leaders {
+        list: &leaders[..g],
+        set: &set,
+        edges,
+    };
+    let s = told.count_superedges();
     Sizes {
         nodes: m,
         groups: g,
@@ -424,13 +415,15 @@ pub fn write(
     if out.len() < measured.bytes {
         return Err(Refusal::ShortBuffer);
     }
-    let m = measured.nodes;
-    let g = measured.groups;
-    let set = measured.set;
-    write_file(n, m, least, classes, edges, &leaders[..g], &set, out);
+    let told = Leaders {
+        list: &leaders[..measured.groups],
+        set: &measured.set,
+        edges,
+    };
+    write_file(n, measured.nodes, least, classes, told, out);
     Ok(Written {
-        nodes: m as u16,
-        groups: g as u16,
+        nodes: measured.nodes as u16,
+        groups: measured.groups as u16,
         superedges: measured.superedges as u32,
         bytes: measured.bytes as u32,
     })

@@ -1,5 +1,5 @@
 -- What is left to count are the marked nodes from word w on.
-use Prim.Native.Nat.{◌*◌, ◌-◌, ◌≤◌}
+use Prim.Native.Nat.{◌*◌}
 use lib.ListN.{length}
 use Rattle.buffers.specs.Scan.{Counting, scan}
 use Rattle.layout.specs.Words.{marked_edge}

@@ -4,14 +4,14 @@ use Rattle.layout.specs.WholeLaws.{leaders_fit, leaders_room, leaders-taken, len
 use Rattle.layout.specs.WordLaws.{marked_as, rowed_of}
 use Rattle.writer.proofs.measure.Goals as goal
 
-pub slice_bounds-count_superedges-end : goal.slice_bounds-count_superedges-end
-slice_bounds-count_superedges-end c = leaders_room _ _ (omega (arith, c.requires.0.small, c.requires.1)) c.collect_leaders-g.ensures
+pub slice_bounds-told-end : goal.slice_bounds-told-end
+slice_bounds-told-end c = leaders_room _ _ (omega (arith, c.requires.0.small, c.requires.1)) c.collect_leaders-g.ensures
 
-pub slice_bounds-count_superedges-end-2 : goal.slice_bounds-count_superedges-end-2
-slice_bounds-count_superedges-end-2 c = taken-length _ _ (omega (arith, c.requires.0.small, c.requires.1)) c.collect_leaders-g.ensures
+pub slice_bounds-told-end-2 : goal.slice_bounds-told-end-2
+slice_bounds-told-end-2 c = taken-length _ _ (omega (arith, c.requires.0.small, c.requires.1)) c.collect_leaders-g.ensures
 
-pub count_superedges-s-requires : goal.count_superedges-s-requires
-count_superedges-s-requires c = let taken = leaders-taken _ _ (omega (arith, c.requires.0.small, c.requires.1)) c.collect_leaders-g.ensures in record { rowed = rowed_of (rows_of c.requires.0 taken); leader_set = marked_as c.leader_set-set.ensures taken }
+pub invariant_of-told : goal.invariant_of-told
+invariant_of-told c = let taken = leaders-taken _ _ (omega (arith, c.requires.0.small, c.requires.1)) c.collect_leaders-g.ensures in record { rowed = rowed_of (rows_of c.requires.0 taken); marked = marked_as c.leader_set-set.ensures taken }
 
 pub overflow_mul-result : goal.overflow_mul-result
 overflow_mul-result c = let f = leaders_fit _ _ c.collect_leaders-g.ensures in let v = nodes-le _ _ (visible_fit _ _ c.count_visible-m.ensures) in omega (arith, f.1, c.requires.0.small, c.count_superedges-s.ensures.1)

@@ -1,6 +1,4 @@
 -- Leaders ascend, so a store leaves the positions of those before.
-use Prim.Native.Nat.{◌≤◌}
-use lib.ListN.{length}
 use Rattle.layout.specs.WordLaws.{Placing}
 use Rattle.writer.proofs.positions_of.Given as goal
 

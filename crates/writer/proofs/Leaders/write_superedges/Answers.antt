@@ -3,17 +3,17 @@ use Rattle.layout.specs.File.{superedge_bytes}
 use Rattle.layout.specs.FileLaws.{flat_more, flat_room}
 use Rattle.buffers.specs.ScanLaws.{flat_end}
 use Rattle.buffers.specs.WroteLaws.{left_done, left_start}
-use Rattle.writer.proofs.write_superedges.Goals as goal
+use Rattle.writer.proofs.Leaders.write_superedges.Goals as goal
 
 pub loop-i-init : goal.loop-i-init
 unfolding superedge_bytes
 loop-i-init c = left_start _ _ _
 
-pub write_superedges_of-to-requires : goal.write_superedges_of-to-requires
-write_superedges_of-to-requires c = record { rowed = c.requires.rowed; leader_set = c.requires.leader_set; i_in_bounds = c.loop-i-test.true; i_in_bounds_2 = flat_room _ _ _ c.loop-i.invariant c.requires.leaders_in_bounds c.loop-i-test.true }
+pub write_later-to-requires : goal.write_later-to-requires
+write_later-to-requires c = record { places = c.requires.places; i_in_bounds = c.loop-i-test.true; i_in_bounds_2 = flat_room _ _ _ c.loop-i.invariant c.requires.leaders_in_bounds c.loop-i-test.true }
 
 pub loop-i-preserved : goal.loop-i-preserved
-loop-i-preserved c = flat_more _ _ _ c.loop-i.invariant c.loop-i-test.true c.write_superedges_of-to.ensures
+loop-i-preserved c = flat_more _ _ _ c.loop-i.invariant c.loop-i-test.true c.write_later-to.ensures
 
 pub shape_of-out : goal.shape_of-out
 shape_of-out c = c.loop-i.invariant.size
