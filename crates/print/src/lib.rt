@@ -21,12 +21,9 @@ fn put_text(out: &mut [u8], at: usize, text: &[u8]) -> usize
     requires { at + length text.now ≤ length out.old }
     ensures { Wrote out.old at text.now out.new result }
 {
-    let mut i = 0;
-    while i < text.len() {
-        out[at + i] = text[i];
-        i += 1;
-    }
-    at + i
+    let end = at + text.len();
+    out[at..end].copy_from_slice(text);
+    end
 }
 
 // A number in decimal: its leading digits, then its last.
@@ -43,26 +40,17 @@ fn put_decimal(out: &mut [u8], at: usize, x: usize) -> usize
     last + 1
 }
 
-// How far a number is from 0.
-fn magnitude(x: i16) -> usize
-    ensures { result ≡ nat_abs x }
-{
-    if x < 0 {
-        return (0 - x as i32) as usize;
-    }
-    x as usize
-}
-
 // A signed number: a minus sign where it is below 0, then how far it is from 0.
 fn put_signed(out: &mut [u8], at: usize, x: i16) -> usize
     requires { at + length (signed x) ≤ length out.old }
     ensures { Wrote out.old at (signed x) out.new result }
 {
+    let size = usize::from(x.unsigned_abs());
     if x < 0 {
         let digits = put_text(out, at, b"-");
-        return put_decimal(out, digits, magnitude(x));
+        return put_decimal(out, digits, size);
     }
-    put_decimal(out, at, magnitude(x))
+    put_decimal(out, at, size)
 }
 
 // A label and a number in decimal.
@@ -108,10 +96,8 @@ fn change_lines(out: &mut [u8], at: usize, answers: &[i16]) -> usize
     ensures { Wrote out.old at (change_lines 1 answers.now) out.new result }
 {
     let mut to = at;
-    let mut i = 0;
-    while i < answers.len() {
-        to = change_line(out, to, i + 1, answers[i]);
-        i += 1;
+    for (i, answer) in answers.iter().enumerate() {
+        to = change_line(out, to, i + 1, *answer);
     }
     to
 }
@@ -127,21 +113,11 @@ fn open_line(out: &mut [u8], at: usize, m: usize, g: usize, s: usize) -> usize
     put_text(out, end, b"\n")
 }
 
-// A byte as a number.
-fn wide(x: u8) -> usize
-    ensures { (result ≡ x) × (result < 256) }
-{
-    x as usize
-}
-
 // The byte at i; 0 past the end.
 fn byte_at(file: &[u8], i: usize) -> u8
     ensures { result ≡ get_or file.now i 0 }
 {
-    if i < file.len() {
-        return file[i];
-    }
-    0
+    file.get(i).copied().unwrap_or(0)
 }
 
 // The number of 16 bits at i, low byte first.
@@ -149,7 +125,7 @@ fn number_at(file: &[u8], i: usize) -> usize
     requires { i + 1 < 18446744073709551616 }
     ensures { (result ≡ u16_at file.now i) × (result < 65536) }
 {
-    wide(byte_at(file, i)) + 256 * wide(byte_at(file, i + 1))
+    usize::from(u16::from_le_bytes([byte_at(file, i), byte_at(file, i + 1)]))
 }
 
 // The place after the group record at p.
@@ -166,10 +142,8 @@ fn groups_end(file: &[u8], from: usize, k: usize) -> usize
     ensures { (drop result file.now ≡ after_groups k (drop from file.now)) × (result < 17179869184) }
 {
     let mut p = from;
-    let mut left = k;
-    while 0 < left {
+    for _ in 0..k {
         p = next_group(file, p);
-        left -= 1;
     }
     p
 }
@@ -179,10 +153,7 @@ fn is_superedge(file: &[u8], p: usize) -> bool
     ensures { result ≡ is_mark (drop p file.now) 0x53 0x45 }
 {
     let mark = b"SE";
-    if byte_at(file, p) != mark[0] {
-        return false;
-    }
-    byte_at(file, p + 1) == mark[1]
+    byte_at(file, p) == mark[0] && byte_at(file, p + 1) == mark[1]
 }
 
 // How many superedge records stand from the place `from` on.
@@ -206,12 +177,8 @@ fn put_members(out: &mut [u8], at: usize, file: &[u8], from: usize, k: usize) ->
     ensures { Wrote out.old at (member_texts k (drop from file.now)) out.new result }
 {
     let mut to = at;
-    let mut p = from;
-    let mut left = k;
-    while 0 < left {
-        to = put_spaced(out, to, number_at(file, p));
-        p += 2;
-        left -= 1;
+    for i in 0..k {
+        to = put_spaced(out, to, number_at(file, from + 2 * i));
     }
     to
 }
@@ -235,11 +202,9 @@ fn group_lines(out: &mut [u8], at: usize, file: &[u8], from: usize, k: usize) ->
 {
     let mut to = at;
     let mut p = from;
-    let mut left = k;
-    while 0 < left {
+    for _ in 0..k {
         to = group_line(out, to, file, p);
         p = next_group(file, p);
-        left -= 1;
     }
     to
 }
