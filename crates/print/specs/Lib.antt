@@ -7,3 +7,4 @@ pub mod ChangeLaws
 pub mod WalkLaws
 pub mod ReleaseTextLaws
 pub mod LengthLaws
+pub mod Printed

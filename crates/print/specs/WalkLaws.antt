@@ -10,9 +10,9 @@ use Rattle.buffers.specs.Wrote.{Left, Wrote}
 use Rattle.buffers.specs.WroteLaws.{left_done, left_room, left_start, left_step}
 use Rattle.print.specs.Lines.{file_text, group_text, group_texts, member_texts, next_group, superedge_part, superedge_texts, superedges_in}
 
-pub number_is : (s : List ℕ) (i a b : ℕ) → a ≡ get_or s i 0 → b ≡ get_or s (i + 1) 0 → a + 256 * b ≡ u16_at s i
+pub number_is : (s : List ℕ) (i a b : ℕ) → a ≡ get_or s i 0 → b ≡ get_or s (i + 1) 0 → a + b * 256 ≡ u16_at s i
 unfolding u16_at
-number_is s i a b x y = rw (x, y, add-one i)
+number_is s i a b x y = rw (x, y, add-one i) (omega arith)
 
 u16_at-drop : (n i : ℕ) (s : List ℕ) → u16_at (drop n s) i ≡ u16_at s (n + i)
 unfolding u16_at
@@ -31,6 +31,12 @@ members_next (suc j) p s h =
     let e : suc j - 1 ≡ j = omega arith in
     rw (e, ← drop-drop 2 p s, ← u16_at_front p s)
 
+members_at : (k i p : ℕ) (s : List ℕ) → i < k → member_texts (k - i) (drop (p + 2 * i) s) ≡ spaced (u16_at s (p + 2 * i)) ++ member_texts (k - (i + 1)) (drop (p + 2 * (i + 1)) s)
+members_at k i p s h =
+    let a : k - i - 1 ≡ k - (i + 1) = omega arith in
+    let b : p + 2 * i + 2 ≡ p + 2 * (i + 1) = omega arith in
+    rw (← a, ← b) (members_next (k - i) (p + 2 * i) s (omega arith))
+
 after_group : (p : ℕ) (s : List ℕ) → drop (2 * u16_at (drop p s) 2) (drop 6 (drop p s)) ≡ drop (next_group s p) s
 unfolding next_group
 after_group p s = rw (u16_at-drop p 2 s) (ap (drop (2 * u16_at s (p + 2))) (drop-drop 6 p s) ∙ drop-drop (2 * u16_at s (p + 2)) (p + 6) s)
@@ -40,40 +46,46 @@ unfolding group_texts
 groups_next zero p s h = absurd (omega arith)
 groups_next (suc j) p s h = let e : suc j - 1 ≡ j = omega arith in rw (e, ← after_group p s)
 
-pub after_next : (k p : ℕ) (s : List ℕ) → 0 < k → after_groups k (drop p s) ≡ after_groups (k - 1) (drop (next_group s p) s)
+groups_at : (k i p : ℕ) (s : List ℕ) → i < k → group_texts (k - i) (drop p s) ≡ group_text (drop p s) ++ group_texts (k - (i + 1)) (drop (next_group s p) s)
+groups_at k i p s h = let e : k - i - 1 ≡ k - (i + 1) = omega arith in rw (← e) (groups_next (k - i) p s (omega arith))
+
+after_next : (k p : ℕ) (s : List ℕ) → 0 < k → after_groups k (drop p s) ≡ after_groups (k - 1) (drop (next_group s p) s)
 unfolding after_groups
 after_next zero p s h = absurd (omega arith)
 after_next (suc j) p s h = let e : suc j - 1 ≡ j = omega arith in rw (e, ← after_group p s)
 
-pub after_end : {s x : List ℕ} (k : ℕ) → k ≤ 0 → after_groups k s ≡ x → s ≡ x
+pub after_step : {x : List ℕ} (k i p q : ℕ) (s : List ℕ) → i < k → q ≡ next_group s p → after_groups (k - i) (drop p s) ≡ x → after_groups (k - (i + 1)) (drop q s) ≡ x
+after_step k i p q s h e f = let z : k - i - 1 ≡ k - (i + 1) = omega arith in rw (e, ← z) (sym (after_next (k - i) p s (omega arith)) ∙ f)
+
+pub after_end : {s x : List ℕ} (k i : ℕ) → k ≤ i → after_groups (k - i) s ≡ x → s ≡ x
 unfolding after_groups
-after_end k h e = let z : k ≡ 0 = omega arith in rw z at e
+after_end k i h e = let z : k - i ≡ 0 = omega arith in rw z at e
 
 -- members
-pub member_room : {s₀ : List ℕ} {at₀ : ℕ} {all s : List ℕ} {at : ℕ} (k p x : ℕ) (file : List ℕ) → 0 < k → x ≡ u16_at file p
-    → Left s₀ at₀ all s at (member_texts k (drop p file)) → at₀ + length all ≤ length s₀ → at + length (spaced x) ≤ length s
-member_room k p x file h e l r = rw e (left_room l r (spaced (u16_at file p)) (member_texts (k - 1) (drop (p + 2) file)) (members_next k p file h))
+pub member_room : {s₀ : List ℕ} {at₀ : ℕ} {all s : List ℕ} {at : ℕ} (k i p x : ℕ) (file : List ℕ) → i < k → x ≡ u16_at file (p + 2 * i)
+    → Left s₀ at₀ all s at (member_texts (k - i) (drop (p + 2 * i) file)) → at₀ + length all ≤ length s₀ → at + length (spaced x) ≤ length s
+member_room k i p x file h e l r = rw e (left_room l r (spaced (u16_at file (p + 2 * i))) (member_texts (k - (i + 1)) (drop (p + 2 * (i + 1)) file)) (members_at k i p file h))
 
-pub member_step : {s₀ : List ℕ} {at₀ : ℕ} {all s : List ℕ} {at : ℕ} {t : List ℕ} {next : ℕ} (k p x : ℕ) (file : List ℕ) → 0 < k → x ≡ u16_at file p
-    → Left s₀ at₀ all s at (member_texts k (drop p file)) → Wrote s at (spaced x) t next → Left s₀ at₀ all t next (member_texts (k - 1) (drop (p + 2) file))
-member_step k p x file h e l w = left_step l w (rw e (members_next k p file h))
+pub member_step : {s₀ : List ℕ} {at₀ : ℕ} {all s : List ℕ} {at : ℕ} {t : List ℕ} {next : ℕ} (k i p x : ℕ) (file : List ℕ) → i < k → x ≡ u16_at file (p + 2 * i)
+    → Left s₀ at₀ all s at (member_texts (k - i) (drop (p + 2 * i) file)) → Wrote s at (spaced x) t next → Left s₀ at₀ all t next (member_texts (k - (i + 1)) (drop (p + 2 * (i + 1)) file))
+member_step k i p x file h e l w = left_step l w (rw e (members_at k i p file h))
 
-pub member_done : {s₀ : List ℕ} {at₀ : ℕ} {all s : List ℕ} {at : ℕ} (x : List ℕ) (k : ℕ) → k ≤ 0 → Left s₀ at₀ all s at (member_texts k x) → Wrote s₀ at₀ all s at
+pub member_done : {s₀ : List ℕ} {at₀ : ℕ} {all s : List ℕ} {at : ℕ} (x : List ℕ) (k i : ℕ) → k ≤ i → Left s₀ at₀ all s at (member_texts (k - i) x) → Wrote s₀ at₀ all s at
 unfolding member_texts u16s concat
-member_done x k h l = let z : k ≡ 0 = omega arith in left_done l (rw z)
+member_done x k i h l = let z : k - i ≡ 0 = omega arith in left_done l (rw z)
 
 -- groups
-pub group_room : {s₀ : List ℕ} {at₀ : ℕ} {all s : List ℕ} {at : ℕ} (k p : ℕ) (file : List ℕ) → 0 < k
-    → Left s₀ at₀ all s at (group_texts k (drop p file)) → at₀ + length all ≤ length s₀ → at + length (group_text (drop p file)) ≤ length s
-group_room k p file h l r = left_room l r (group_text (drop p file)) (group_texts (k - 1) (drop (next_group file p) file)) (groups_next k p file h)
+pub group_room : {s₀ : List ℕ} {at₀ : ℕ} {all s : List ℕ} {at : ℕ} (k i p : ℕ) (file : List ℕ) → i < k
+    → Left s₀ at₀ all s at (group_texts (k - i) (drop p file)) → at₀ + length all ≤ length s₀ → at + length (group_text (drop p file)) ≤ length s
+group_room k i p file h l r = left_room l r (group_text (drop p file)) (group_texts (k - (i + 1)) (drop (next_group file p) file)) (groups_at k i p file h)
 
-pub group_step : {s₀ : List ℕ} {at₀ : ℕ} {all s : List ℕ} {at : ℕ} {t : List ℕ} {next : ℕ} (k p q : ℕ) (file : List ℕ) → 0 < k → q ≡ next_group file p
-    → Left s₀ at₀ all s at (group_texts k (drop p file)) → Wrote s at (group_text (drop p file)) t next → Left s₀ at₀ all t next (group_texts (k - 1) (drop q file))
-group_step k p q file h e l w = rw e (left_step l w (groups_next k p file h))
+pub group_step : {s₀ : List ℕ} {at₀ : ℕ} {all s : List ℕ} {at : ℕ} {t : List ℕ} {next : ℕ} (k i p q : ℕ) (file : List ℕ) → i < k → q ≡ next_group file p
+    → Left s₀ at₀ all s at (group_texts (k - i) (drop p file)) → Wrote s at (group_text (drop p file)) t next → Left s₀ at₀ all t next (group_texts (k - (i + 1)) (drop q file))
+group_step k i p q file h e l w = rw e (left_step l w (groups_at k i p file h))
 
-pub group_done : {s₀ : List ℕ} {at₀ : ℕ} {all s : List ℕ} {at : ℕ} (x : List ℕ) (k : ℕ) → k ≤ 0 → Left s₀ at₀ all s at (group_texts k x) → Wrote s₀ at₀ all s at
+pub group_done : {s₀ : List ℕ} {at₀ : ℕ} {all s : List ℕ} {at : ℕ} (x : List ℕ) (k i : ℕ) → k ≤ i → Left s₀ at₀ all s at (group_texts (k - i) x) → Wrote s₀ at₀ all s at
 unfolding group_texts
-group_done x k h l = let z : k ≡ 0 = omega arith in left_done l (rw z)
+group_done x k i h l = let z : k - i ≡ 0 = omega arith in left_done l (rw z)
 
 -- a superedge's mark at p: its first byte tells that p is inside the file
 pub letter_below : (file : List ℕ) (p : ℕ) → get_or file p 0 ≡ 0x53 → p < length file

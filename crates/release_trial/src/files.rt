@@ -2,7 +2,6 @@
 use std::fs;
 use std::io::{self, Read};
 use std::rt::Files;
-use trial::say;
 use trial::script::{small_byte, within};
 
 // Opens the file of that name, which is text.
@@ -21,39 +20,35 @@ fn fetch<R: Read + Drop>(opened: io::Result<R>, file: &mut [u8]) -> usize {
     }
 }
 
-// The file of that name; none, if there is no such file.
-fn load_named(rt: &(impl Files + Print), name: &[u8], file: &mut [u8]) -> io::Result<usize> {
-    let n = fetch(open(rt, name), file);
-    say::word(rt, b"file ")?;
-    say::word(rt, name)?;
-    say::field(rt, b" bytes", n as u64)?;
-    say::feed(rt)?;
-    Ok(n)
-}
-
-// The file that a line names after "file ".
+// The file that a line names after "file ", and a line that says so; none, if there is no such file.
 pub fn load(rt: &(impl Files + Print), line: &[u8], file: &mut [u8]) -> io::Result<usize> {
     if line.len() < 7 {
         return Ok(0);
     }
     let end = line.len() - 1;
-    load_named(rt, &line[5..end], file)
+    let name = &line[5..end];
+    let n = fetch(open(rt, name), file);
+    print!(rt; "file ")?;
+    rt.write_all(name)?;
+    println!(rt; " bytes {n}")?;
+    Ok(n)
 }
 
 // A byte after the last.
 pub fn add(file: &mut [u8], length: usize, x: u64) -> usize {
-    if length >= file.len() {
-        return length;
+    match file.get_mut(length) {
+        Some(byte) => {
+            *byte = small_byte(x);
+            length + 1
+        }
+        None => length,
     }
-    file[length] = small_byte(x);
-    length + 1
 }
 
 // Another byte at place i.
 pub fn put(file: &mut [u8], length: usize, i: u64, x: u64) -> usize {
-    let at = within(i, length);
-    if at < file.len() {
-        file[at] = small_byte(x);
+    if let Some(byte) = file.get_mut(within(i, length)) {
+        *byte = small_byte(x);
     }
     length
 }

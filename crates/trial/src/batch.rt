@@ -1,98 +1,77 @@
-// Updates put at the end of the batch; each function gives back how many numbers the batch has then.
+// Updates put at the end of the batch.
 use crate::draws;
 use crate::script::{Line, small};
 
-// One number, if there is room.
-fn push(batch: &mut [u16], count: usize, x: u64) -> usize {
-    match batch.get_mut(count) {
-        Some(number) => {
+// The numbers that the batch has room for, and how many it has.
+#[derive(Drop)]
+struct Batch<'a> {
+    numbers: &'a mut [u16],
+    count: usize,
+}
+
+impl Batch<'_> {
+    // One number, if there is room.
+    fn push(&mut self, x: u64) {
+        let i = self.count;
+        if let Some(number) = self.numbers.get_mut(i) {
             *number = small(x);
-            count + 1
+            self.count = i + 1;
         }
-        None => count,
     }
-}
 
-fn push_update(batch: &mut [u16], count: usize, kind: u64, u: u64, v: u64, wanted: u64) -> usize {
-    let one = push(batch, count, kind);
-    let two = push(batch, one, u);
-    let three = push(batch, two, v);
-    push(batch, three, wanted)
-}
-
-// The same update, so many times.
-fn push_many(
-    batch: &mut [u16],
-    count: usize,
-    times: u64,
-    kind: u64,
-    u: u64,
-    v: u64,
-    wanted: u64,
-) -> usize {
-    let mut c = count;
-    for _ in 0..times {
-        c = push_update(batch, c, kind, u, v, wanted);
+    fn push_update(&mut self, kind: u64, u: u64, v: u64, wanted: u64) {
+        self.push(kind);
+        self.push(u);
+        self.push(v);
+        self.push(wanted);
     }
-    c
-}
 
-// The edge of u and v, if u is the lesser.
-fn push_pair(batch: &mut [u16], count: usize, wanted: u64, u: u64, v: u64) -> usize {
-    if u < v {
-        return push_update(batch, count, 1, u, v, wanted);
+    // The same update, so many times.
+    fn push_many(&mut self, times: u64, kind: u64, u: u64, v: u64, wanted: u64) {
+        for _ in 0..times {
+            self.push_update(kind, u, v, wanted);
+        }
     }
-    count
-}
 
-// u with each greater node from a up to b.
-fn push_row(batch: &mut [u16], count: usize, wanted: u64, u: u64, a: u64, b: u64) -> usize {
-    let mut c = count;
-    for v in a..b {
-        c = push_pair(batch, c, wanted, u, v);
+    // The edge of u and each greater node from a up to b.
+    fn push_row(&mut self, wanted: u64, u: u64, a: u64, b: u64) {
+        for v in a..b {
+            if u < v {
+                self.push_update(1, u, v, wanted);
+            }
+        }
     }
-    c
-}
 
-// Each pair, lesser node first, of one from a up to b and one from c up to d.
-fn push_block(
-    batch: &mut [u16],
-    count: usize,
-    wanted: u64,
-    a: u64,
-    b: u64,
-    c: u64,
-    d: u64,
-) -> usize {
-    let mut k = count;
-    for u in a..b {
-        k = push_row(batch, k, wanted, u, c, d);
+    // The edge of each pair, lesser node first, of one from a up to b and one from c up to d.
+    fn push_block(&mut self, wanted: u64, a: u64, b: u64, c: u64, d: u64) {
+        for u in a..b {
+            self.push_row(wanted, u, c, d);
+        }
     }
-    k
-}
 
-// Updates drawn from a seed, of nodes below `span`.
-fn push_random(batch: &mut [u16], count: usize, seed: u64, times: u64, span: u64) -> usize {
-    let mut c = count;
-    let mut x = seed;
-    for _ in 0..times {
-        let d = draws::update(x, span);
-        x = d.next;
-        c = push_update(batch, c, d.kind, d.u, d.v, d.wanted);
+    // Updates drawn from a seed, of nodes below `span`.
+    fn push_random(&mut self, seed: u64, times: u64, span: u64) {
+        let mut x = seed;
+        for _ in 0..times {
+            let d = draws::update(x, span);
+            x = d.next;
+            self.push_update(d.kind, d.u, d.v, d.wanted);
+        }
     }
-    c
 }
 
 // Lines that change the batch, and apply, which empties it: how many numbers it has then.
-pub fn execute(line: &Line, batch: &mut [u16], count: usize) -> usize {
+pub fn execute(line: &Line, numbers: &mut [u16], count: usize) -> usize {
+    let mut batch = Batch { numbers, count };
     let [_, a, b, c, d, e] = line.numbers;
     match line.command {
-        b'u' => push_update(batch, count, a, b, c, d),
-        b'e' => push(batch, count, a),
-        b'm' => push_many(batch, count, a, b, c, d, e),
-        b'b' => push_block(batch, count, a, b, c, d, e),
-        b'r' => push_random(batch, count, a, b, c),
-        b'a' => 0,
-        _ => count,
+        b'u' => batch.push_update(a, b, c, d),
+        b'e' => batch.push(a),
+        b'm' => batch.push_many(a, b, c, d, e),
+        b'b' => batch.push_block(a, b, c, d, e),
+        b'r' => batch.push_random(a, b, c),
+        b'a' => batch.count = 0,
+        _ => {}
     }
+    batch.count
 }

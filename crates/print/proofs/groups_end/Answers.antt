@@ -1,14 +1,14 @@
 -- `print::groups_end` meets its contract.
-use mathlib.Core.Path.{refl, sym, ◌∙◌}
 use native.Mathlib.Omega.{arith}
-use Rattle.print.specs.WalkLaws.{after_end, after_next}
+use Rattle.print.specs.WalkLaws.{after_end, after_step}
 use Rattle.print.proofs.groups_end.Goals as goal
+use Rattle.std.proofs.Common.{◌≡◌, ◌-◌}
 
-pub loop-left-init : goal.loop-left-init
-loop-left-init c = (omega arith, refl)
+pub loop-init : goal.loop-init
+loop-init c = let z : c.args.k - 0 ≡ c.args.k = omega arith in (omega arith, rw z)
 
-pub loop-left-preserved : goal.loop-left-preserved
-loop-left-preserved c = (omega arith, rw c.next_group-p.ensures.0 (sym (after_next _ _ _ c.loop-left-test.true) ∙ c.loop-left.invariant.1))
+pub loop-preserved : goal.loop-preserved
+loop-preserved c = (omega arith, after_step _ _ _ _ _ c.loop-test.true c.next_group-p.ensures.0 c.loop.invariant.1)
 
 pub returns : goal.returns
-returns c = (after_end _ c.loop-left-test.false c.loop-left.invariant.1, omega arith)
+returns c = (after_end _ _ c.loop-test.false c.loop.invariant.1, omega arith)

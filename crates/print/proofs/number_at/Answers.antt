@@ -5,4 +5,4 @@ use Rattle.print.specs.WalkLaws.{number_is}
 use Rattle.print.proofs.number_at.Goals as goal
 
 pub returns : goal.returns
-returns c = (number_is c.args.file.now _ _ _ (c.wide.ensures.0 ∙ c.byte_at.ensures) (c.wide-2.ensures.0 ∙ c.byte_at-2.ensures), omega arith)
+returns c = (c.from.ensures ∙ c.from_le_bytes.ensures ∙ number_is c.args.file.now _ _ _ c.byte_at.ensures c.byte_at-2.ensures, omega arith)
