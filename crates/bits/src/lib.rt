@@ -5,6 +5,9 @@ ghost use Rattle.std.specs.Prelude.{◌≡◌, ◌^◌, ◌<◌};
 ghost use Rattle.std.specs.Iterator.{YieldsFirst, item_count};
 ghost use Rattle.buffers.specs.WordBits.{bits_of};
 
+// How many bits a word has.
+pub const WORD_BITS: usize = 64;
+
 // The places of the bits of a word, ascending.
 #[derive(Drop)]
 pub struct Bits {

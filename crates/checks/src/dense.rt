@@ -29,7 +29,8 @@ fn keys_hold(edges: Edges, nodes: &[u16], keys: &[u32]) -> bool
     requires edges_value { (symmetric edges.words.now ≡ true) × (loopless edges.n edges.words.now ≡ true) × (twins_hold edges.n edges.words.now nodes.now ≡ true) }
     ensures { result ≡ rows_hold edges.entry.n edges.entry.words.now keys.now }
 {
-    let sums = keys::sum_leaders(edges, nodes, Graph::NODE_NUMBERS);
+    let mut sums = [0u32; Graph::NODES];
+    keys::sum_leaders(edges, nodes, Graph::NODE_NUMBERS, &mut sums);
     for p in 0..edges.n {
         if !super::keys_agree(keys, p, open_key(edges, nodes, keys, &sums, p)) {
             return false;

@@ -23,7 +23,7 @@ ghost use Rattle.checks.specs.Checks.{
 
 mod dense;
 
-use bits::Bits;
+use bits::{Bits, WORD_BITS};
 use groups::{CLASS, LEAST, MARK, NEXT, PREVIOUS, number};
 use lent::Edges;
 use rows::Graph;
@@ -50,7 +50,7 @@ fn row_holds(edges: Edges, keys: &[u32], p: usize) -> bool
     let mut sum = 0u32;
     for w in 0..Graph::ROW_WORDS {
         for k in Bits::of(edges.word(p, w)) {
-            let q = 64 * w + k;
+            let q = WORD_BITS * w + k;
             if !edges::is_mirrored(edges, p, q) {
                 return false;
             }

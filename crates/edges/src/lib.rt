@@ -6,7 +6,7 @@ ghost use Rattle.model.specs.Graph.{max_nodes, row_words};
 ghost use Rattle.symmetry.specs.Symmetry.{symmetric};
 ghost use Rattle.edges.specs.Edges.{edges_hold, loopless, mirrored, row_holds};
 
-use bits::Bits;
+use bits::{Bits, WORD_BITS};
 use lent::Edges;
 use rows::Graph;
 
@@ -31,7 +31,7 @@ fn is_row_mirrored(edges: Edges, p: usize) -> bool
 {
     for w in 0..Graph::ROW_WORDS {
         for k in Bits::of(edges.word(p, w)) {
-            if !is_mirrored(edges, p, 64 * w + k) {
+            if !is_mirrored(edges, p, WORD_BITS * w + k) {
                 return false;
             }
         }

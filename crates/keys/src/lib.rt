@@ -1,7 +1,7 @@
 // Keys: the cubes of neighbours added up, by a walk over the bits of a row, by a table of sums over eight bits, or told by a twin's.
 #![tactic(auto)]
 
-ghost use Rattle.std.specs.Prelude.{◌≡◌, ℕ, ◌+◌, ◌*◌, ◌/◌, ◌%◌, ◌^◌, ◌<◌, ◌≤◌, length, slice_index};
+ghost use Rattle.std.specs.Prelude.{◌≡◌, ℕ, ◌+◌, ◌*◌, ◌/◌, ◌%◌, ◌^◌, ◌<◌, ◌≤◌, length, replicate, slice_index};
 ghost use Rattle.model.specs.Graph.{max_nodes, row_words};
 ghost use Rattle.model.specs.Tables.{keys_of, graph_in};
 ghost use Rattle.search.specs.Search.{Within};
@@ -20,7 +20,7 @@ ghost use Rattle.keys.specs.KeySums.{
   words_for,
 };
 
-use bits::Bits;
+use bits::{Bits, WORD_BITS};
 use lent::Edges;
 use rows::Graph;
 
@@ -163,23 +163,22 @@ fn add_word(
     }
 }
 
-// The cubes of the neighbours of each node that leads: word by word, so that one small table of sums serves all rows.
-pub fn sum_leaders(edges: Edges, least: &[u16], stride: usize) -> [u32; Graph::NODES]
-    requires { (0 < stride) × (stride * edges.n ≤ length least.now) }
-    ensures { LeadersSummed edges.entry.n stride least.now edges.entry.words.now (words_for edges.entry.n) result }
+// The cubes of the neighbours of each node that leads: word by word, so that one small table of sums serves all rows. The totals are
+// lent: handed back by value they are copied once more.
+pub fn sum_leaders(edges: Edges, least: &[u16], stride: usize, totals: &mut [u32; Graph::NODES])
+    requires { (0 < stride) × (stride * edges.n ≤ length least.now) × (totals.old ≡ replicate max_nodes 0) }
+    ensures { LeadersSummed edges.entry.n stride least.now edges.entry.words.now (words_for edges.entry.n) totals.new }
 {
-    let mut totals = [0u32; Graph::NODES];
     let mut fours = [0u32; FOURS];
     let mut sums = [0u32; EIGHTS];
     for w in 0..rows::word_of(edges.n + 63) {
         fill_fours(&mut fours, w);
         widen(&fours, &mut sums, w);
-        add_word(edges, least, stride, &sums, &mut totals, w);
+        add_word(edges, least, stride, &sums, totals, w);
     }
-    totals
 }
 
-// The open key of a twin p of l, by the keys of l.
+// The open key of a twin p of l, by the keys of l. `closed` stays a bool: it is what `Edges::tied` answers and what the definition `twin_key` takes.
 pub fn twin_key(keys: &[u32], closed: bool, l: usize, p: usize) -> u32
     requires { (l < max_nodes) × (p < max_nodes) × (2 * l + 2 ≤ length keys.now) }
     ensures { result ≡ twin_key keys.now closed l p }
@@ -198,7 +197,7 @@ fn sum_row(edges: Edges, p: usize) -> u32
     let mut sum = 0u32;
     for w in 0..Graph::ROW_WORDS {
         for k in Bits::of(edges.word(p, w)) {
-            sum = sum.wrapping_add(rows::cube_of(64 * w + k));
+            sum = sum.wrapping_add(rows::cube_of(WORD_BITS * w + k));
         }
     }
     sum
@@ -244,15 +243,13 @@ pub fn put_keys(keys: &mut [u32], p: usize, sum: u32)
 }
 
 // Every node leads: its own number stands at its place.
-fn lead_all(n: usize) -> [u16; Graph::NODES]
+fn lead_all(least: &mut [u16; Graph::NODES], n: usize)
     requires { n ≤ max_nodes }
-    ensures { AllLead n result }
+    ensures { AllLead n least.new }
 {
-    let mut least = [0u16; Graph::NODES];
     for p in 0..n {
         least[p] = p as u16;
     }
-    least
 }
 
 // The keys that an edge table demands, eight bits at a time.
@@ -260,7 +257,10 @@ fn sum_dense(edges: Edges, keys: &mut [u32])
     requires { Within edges.n edges.words.now × (length keys.old ≡ 2 * edges.n) }
     ensures { keys.new ≡ keys_of (graph_in edges.entry.n edges.entry.words.now) }
 {
-    let totals = sum_leaders(edges, &lead_all(edges.n), 1);
+    let mut least = [0u16; Graph::NODES];
+    lead_all(&mut least, edges.n);
+    let mut totals = [0u32; Graph::NODES];
+    sum_leaders(edges, &least, 1, &mut totals);
     for p in 0..edges.n {
         put_keys(keys, p, totals[p]);
     }

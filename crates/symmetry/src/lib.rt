@@ -12,6 +12,7 @@ ghost use Rattle.symmetry.specs.Symmetry.{
   Even,
   Exchanged,
   Exchanging,
+  Gathered,
   HalvesCrossed,
   Inside,
   StripAt,
@@ -103,6 +104,7 @@ fn turn_bytes(a: &[u64], b: &mut [u64; STRIP], from: usize, to: usize)
 }
 
 // The rows 8 * k, 8 * k + 1, .. of a strip, words from..to.
+// It reads the words that it writes, so one body for it and `turn_bytes_at` takes a trait with two impls, which is no plainer.
 fn turn_bits_at(b: &mut [u64; STRIP], k: usize, from: usize, to: usize)
     requires { (k < 8) × (from ≤ to) × (to ≤ 8) }
     ensures { (prior : List ℕ) → Exchanging 64 8 0 from to prior prior (64 * k + from) b.old → Exchanging 64 8 0 from to prior prior (64 * k + to) b.new }
@@ -133,15 +135,13 @@ pub fn turn(strip: &[u64], b: &mut [u64; STRIP], from: usize, to: usize)
     turn_bits(b, u, v);
 }
 
-// The words from `at` on, before zeros.
-fn load(edges: &[u64], at: usize) -> [u64; STRIP]
-    requires { (at ≤ length edges.now) × (length edges.now ≤ at + 512) }
-    ensures { StripAt edges.now at result }
+// The words from `at` on, before zeros. The strip is lent: handed back by value it is copied once more.
+fn load(edges: &[u64], at: usize, strip: &mut [u64; STRIP])
+    requires { (at ≤ length edges.now) × (length edges.now ≤ at + 512) × (strip.old ≡ replicate 512 0) }
+    ensures { StripAt edges.now at strip.new }
 {
-    let mut strip = [0u64; STRIP];
     let rest = &edges[at..];
     strip[..rest.len()].copy_from_slice(rest);
-    strip
 }
 
 // The columns of words from i on in the rows of strip i, of which the last may be missing.
@@ -155,7 +155,9 @@ fn turn_strip(edges: Edges, i: usize, to: usize, b: &mut [u64; STRIP])
         turn(&words[a..a + STRIP], b, i, to);
         return;
     }
-    turn(&load(words, a), b, i, to);
+    let mut strip = [0u64; STRIP];
+    load(words, a, &mut strip);
+    turn(&strip, b, i, to);
 }
 
 // How many rows strip i has.
@@ -166,16 +168,26 @@ fn rows_of(n: usize, i: usize) -> usize
     (n - 64 * i).min(64)
 }
 
+// The bits that stand in any of m words. The loop is not left early.
+#[inline]
+fn united<F: Fn(usize) -> u64>(m: usize, word: F) -> u64
+    requires { (r : ℕ) → r < m → F.pre word r }
+    ensures { (f : ℕ → ℕ) → ((r y : ℕ) → r < m → F.post word r y → y ≡ f r) → (k : ℕ) → Gathered f k m result }
+{
+    let mut x = 0u64;
+    for r in 0..m {
+        x |= word(r);
+    }
+    x
+}
+
 // Whether the columns of word w in the rows of strip i are word i of the rows that they stand for.
 fn is_across(edges: Edges, i: usize, w: usize, b: &[u64; STRIP]) -> bool
     requires { (64 * w < edges.n) × (i ≤ w) × Across edges.words.now i w (w + 1) b.now }
     ensures { Tells (Even edges.entry.n edges.entry.words.now i w (w + 1)) edges.entry.words.now result }
 {
-    let mut x = 0u64;
-    for c in 0..rows_of(edges.n, w) {
-        x |= b[Graph::ROW_WORDS * c + w] ^ edges.word(64 * w + c, i);
-    }
-    x == 0
+    let m = rows_of(edges.n, w);
+    united(m, |c| b[Graph::ROW_WORDS * c + w] ^ edges.word(64 * w + c, i)) == 0
 }
 
 fn are_across(edges: Edges, i: usize, to: usize, b: &[u64; STRIP]) -> bool
@@ -205,16 +217,12 @@ fn are_strips_even(edges: Edges) -> bool
     true
 }
 
-// Whether word w of no row has a bit from bit k on. The loop is not left early.
+// Whether word w of no row has a bit from bit k on.
 fn is_word_below(edges: Edges, w: usize, k: usize) -> bool
     requires { (w < 8) × (k < 64) × (edges.n ≤ 64 * w + k) }
     ensures { Tells ((p c : ℕ) → p < edges.entry.n → k ≤ c → c < 64 → edge_bit edges.entry.words.now p (64 * w + c) ≡ false) edges.entry.words.now result }
 {
-    let mut x = 0u64;
-    for p in 0..edges.n {
-        x |= edges.word(p, w);
-    }
-    x >> k == 0
+    united(edges.n, |p| edges.word(p, w)) >> k == 0
 }
 
 // The first bit of word w that stands for no node: n's own in its word, the lowest after that.

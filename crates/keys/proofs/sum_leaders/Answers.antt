@@ -4,4 +4,4 @@ use Rattle.keys.specs.LeaderLaws.{leaders_none}
 use Rattle.keys.proofs.sum_leaders.Goals as goal
 
 pub loop-w-init : goal.loop-w-init
-loop-w-init c = leaders_none _ _ _ _ _ c.args.edges.small refl
+loop-w-init c = leaders_none _ _ _ _ _ c.args.edges.small c.requires.2
