@@ -1,7 +1,7 @@
 -- `reader::read_run` meets its contract.
 use mathlib.Core.Path.{◌∙◌, sym}
 use native.Mathlib.Omega.{arith}
-use Rattle.reader.specs.SuperedgeLaws.{no_position, not_after, run_more, run_none, run_other, run_over, run_start, superedge_next, superedge_room}
+use Rattle.reader.specs.SuperedgeLaws.{no_position, not_after, run_more, run_none, run_other, run_over, superedge_next, superedge_room}
 use Rattle.reader.proofs.read_run.Goals as goal
 
 pub returns-in_default-item : goal.returns-in_default-item
