@@ -177,6 +177,7 @@ fn join(joined: &mut [u64], sums: &mut [u32], p: usize, q: usize, few: bool)
 }
 
 // The superedges from a place on that go from group i to groups after it, ascending. The place after them.
+#[tactic(auto, using(crate::specs::SuperedgeLaws::run_start))]
 fn read_run(
     file: &[u8],
     from: usize,
@@ -211,6 +212,7 @@ fn read_run(
 }
 
 // The superedges of a file, run by run. The first place without one in order.
+#[tactic(auto, using(crate::specs::SuperedgeLaws::runs_start, crate::specs::SuperedgeLaws::runs_step))]
 fn read_superedges(
     file: &[u8],
     from: usize,
@@ -320,33 +322,6 @@ fn read_body(
     is_end(file, at, rest.left)
 }
 
-// How many nodes the graph of a file has whose head was just read, from what follows the head; none if the bytes are no release.
-fn graph_at(
-    file: &[u8],
-    at: usize,
-    head: Record,
-    groups: &mut Groups,
-    joined: &mut [u64],
-) -> Option<usize>
-    requires { AfterHead file.now at head × BlankGroups file.now groups.old joined.old }
-    ensures decodes { Decodes file.now groups.new.least groups.new.kinds groups.new.classes joined.new result }
-    ensures sums_kept { SumsKept file.now groups.new.least joined.new groups.new.sums }
-{
-    let Record::Head { n, m, g } = head else {
-        return None;
-    };
-    let nodes = usize::from(n);
-    let visible = usize::from(m);
-    let count = usize::from(g);
-    if !head_fits(nodes, visible, count) {
-        return None;
-    }
-    if !read_body(file, at, nodes, visible, count, groups, joined) {
-        return None;
-    }
-    Some(nodes)
-}
-
 // The lent file beside the next unread place.
 #[derive(Clone, Copy)]
 pub struct Reader<'a> {
@@ -385,7 +360,19 @@ impl<'a> Reader<'a> {
         ensures decodes { Decodes self.entry.file.now groups.new.least groups.new.kinds groups.new.classes joined.new result }
         ensures sums_kept { SumsKept self.entry.file.now groups.new.least joined.new groups.new.sums }
     {
-        graph_at(self.file, self.at, head, groups, joined)
+        let Record::Head { n, m, g } = head else {
+            return None;
+        };
+        let nodes = usize::from(n);
+        let visible = usize::from(m);
+        let count = usize::from(g);
+        if !head_fits(nodes, visible, count) {
+            return None;
+        }
+        if !read_body(self.file, self.at, nodes, visible, count, groups, joined) {
+            return None;
+        }
+        Some(nodes)
     }
 }
 

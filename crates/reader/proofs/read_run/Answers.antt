@@ -1,11 +1,8 @@
 -- `reader::read_run` meets its contract.
 use mathlib.Core.Path.{◌∙◌, sym}
 use native.Mathlib.Omega.{arith}
-use Rattle.reader.specs.SuperedgeLaws.{no_position, not_after, run_more, run_none, run_other, run_over, run_start, superedge_next, superedge_room}
+use Rattle.reader.specs.SuperedgeLaws.{no_position, not_after, run_more, run_none, run_other, run_over, superedge_next, superedge_room}
 use Rattle.reader.proofs.read_run.Goals as goal
-
-pub loop-read-init : goal.loop-read-init
-loop-read-init c = run_start _ _ _ _ _ _ _ _
 
 pub returns-in_default-item : goal.returns-in_default-item
 returns-in_default-item c = run_other _ _ _ _ _ _ _ _ _ _ _ _ c.loop-read.invariant _ c.in-Some.ensures c.in_default-item.not-Superedge
