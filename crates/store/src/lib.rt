@@ -31,6 +31,7 @@ fn named<'a>(n: usize, store: &'a [u64], name: &[u8]) -> Result<(Store<'a>, Name
 }
 
 // And if the words are a store.
+#[tactic(auto, using(crate::proofs::StoredLaws::store_none, crate::proofs::StoredLaws::store_held))]
 fn check<'a>(n: usize, store: &'a [u64], name: &[u8]) -> Result<(Store<'a>, Name), Refusal>
     ensures number { code result ≡ first_of (store_reasons n store.now name.now []) }
     ensures same { IfOk result (λ (s, m). Read n store.now name.now s m) }
@@ -63,6 +64,7 @@ fn write_place(tables: &Tables<'_>, name: Name, place: &mut [u64])
 }
 
 // Place i of a store.
+#[tactic(auto, using(places::specs::StepLaws::put_part))]
 fn write(tables: &Tables<'_>, name: Name, store: &mut [u64], i: usize)
     requires sized { SizedStore tables.now.n store.old }
     requires place { i < max_states }

@@ -34,6 +34,7 @@ fn place_holds(n: usize, place: &[u64]) -> bool
     }
 }
 
+#[tactic(auto, using(buffers::specs::AllLaws::all_pass_lem, crate::proofs::JudgeLaws::place_size))]
 fn places_hold(store: &Store<'_>) -> bool
     ensures { result ≡ all (nodes max_states) (λ i. place_holds store.now.n (words_at store.now.n store.now.words.now i)) }
 {
@@ -46,6 +47,7 @@ fn places_hold(store: &Store<'_>) -> bool
 }
 
 // Whether the words are a store for n nodes.
+#[tactic(auto, using(crate::proofs::JudgeLaws::count_wrong, crate::proofs::JudgeLaws::place_fails, crate::proofs::JudgeLaws::names_tell))]
 pub fn is_store(store: &Store<'_>) -> bool
     ensures { result ≡ is_store store.now.n store.now.words.now }
 {
