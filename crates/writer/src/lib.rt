@@ -1,7 +1,7 @@
 // The release file, written from the least members of the groups, the classes and the edges into a lent buffer.
 #![tactic(auto)]
 
-ghost use Rattle.std.specs.Prelude.{◌≡◌, [], ◌∷◌, ◌+◌, ◌*◌, ◌-◌, ◌≤◌, ◌<◌, length, get_or};
+ghost use Rattle.std.specs.Prelude.{◌≡◌, [], ◌∷◌, ◌+◌, ◌*◌, ◌-◌, ◌≤◌, ◌<◌, count_by, length, nat_lt, take};
 ghost use Rattle.std.specs.Int.Count.{ones};
 ghost use Rattle.model.specs.Graph.{max_nodes, row_words};
 ghost use Rattle.model.specs.Tables.{edge_bit};
@@ -256,16 +256,10 @@ impl<'a> Leaders<'a> {
 
 // The visible nodes.
 fn count_visible(least: &[u16], n: usize) -> usize
-    requires { (n ≤ max_nodes) × (n ≤ length least.now) }
-    ensures { result ≡ length (scan (in_group least.now n) n 0) }
+    requires { n ≤ length least.now }
+    ensures { result ≡ count_by (λ l. nat_lt l n) (take n least.now) }
 {
-    let mut m: usize = 0;
-    for p in 0..n {
-        if rows::wide(least[p]) < n {
-            m += 1;
-        }
-    }
-    m
+    least[..n].iter().filter(|l| rows::wide(**l) < n).count()
 }
 
 // The least members of the groups, ascending; how many.
