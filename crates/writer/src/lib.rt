@@ -282,14 +282,7 @@ fn leader_set(least: &[u16], n: usize) -> [u64; Graph::ROW_WORDS]
     requires { (n ≤ max_nodes) × (n ≤ length least.now) }
     ensures { LeaderSet (leaders_of n least.now) result }
 {
-    let mut set = [0u64; Graph::ROW_WORDS];
-    for p in 0..n {
-        if rows::wide(least[p]) == p {
-            let w = rows::word_of(p);
-            set[w] = set[w] ^ rows::mask(p);
-        }
-    }
-    set
+    layout::set_of(n, |p| rows::wide(least[p]) == p)
 }
 
 // The position of each leader.
