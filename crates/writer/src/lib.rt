@@ -230,6 +230,7 @@ impl<'a> Leaders<'a> {
     {
         let p = rows::wide(self.list[i]);
         let mut to = at;
+        // q goes from p + 1 to the first node of each later word, and no range counts that.
         let mut q = p + 1;
         while q < Graph::NODES {
             let w = rows::word_of(q);
