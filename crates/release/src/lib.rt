@@ -64,7 +64,7 @@ fn write_visible(tables: Tables<'_>, out: &mut [u8]) -> Result<Written, Refusal>
     writer::write(tables.n, &least, &classes, tables.edges, out)
 }
 
-// The release file of the visible part, and its m, g, s and length.
+// The release file of the visible part, and its m, g, s and length. Refused as WrongSize, NoGraph or ShortBuffer.
 pub fn release(
     n: usize,
     edges: &[u64],
@@ -79,6 +79,7 @@ pub fn release(
 }
 
 // What a call answers that is lent rows without a bit for the superedges between the groups of a file, few if its head tells few nodes.
+// The call is an FnMut, whose step says what it leaves in the buffers that it captures.
 #[tactic(auto, using(reader::specs::DecodingLaws::blank_rows))]
 fn with_rows<R, F: FnMut(&mut [u64]) -> R>(file: &[u8], call: &mut F) -> R
     requires { (rows : _) → BlankRows file.now rows.now → F.pre call.old rows }
@@ -119,6 +120,7 @@ fn read_with(
 }
 
 // A release read back into tables: hidden nodes are those missing, without edges and of class 0.
+// Refused as WrongSize, NoRelease or OtherSize.
 pub fn read(
     n: usize,
     edges: &mut [u64],
@@ -159,6 +161,7 @@ fn ask_with(file: &[u8], p: u16, out: &mut [u16], joined: &mut [u64]) -> Result<
 }
 
 // The neighbours of p, asked of a release, ascending, each followed by the least member of its group there, and their count.
+// Refused as NoRelease, NoNode (out of range or hidden) or ShortBuffer.
 pub fn file_neighbours(file: &[u8], p: u16, out: &mut [u16]) -> Result<u16, Refusal>
     ensures { listed (code result) (value_or 0 result) out.new ≡ file_neighbours_call file.now p out.old }
 {
@@ -180,6 +183,7 @@ fn measure_with(file: &[u8], p: u16, q: u16, joined: &mut [u64]) -> Result<u16, 
 }
 
 // How many edges separate p and q, asked of a release; 65,535 if no chain of edges does.
+// Refused as NoRelease or NoNode (out of range or hidden).
 pub fn file_distance(file: &[u8], p: u16, q: u16) -> Result<u16, Refusal>
     ensures { measured (code result) (value_or 0 result) ≡ file_distance_call file.now p q }
 {

@@ -1,7 +1,7 @@
 // The release file, written from the least members of the groups, the classes and the edges into a lent buffer.
 #![tactic(auto)]
 
-ghost use Rattle.std.specs.Prelude.{◌≡◌, [], ◌∷◌, ◌+◌, ◌*◌, ◌-◌, ◌≤◌, ◌<◌, length, get_or};
+ghost use Rattle.std.specs.Prelude.{◌≡◌, [], ◌∷◌, ◌+◌, ◌*◌, ◌-◌, ◌≤◌, ◌<◌, count_by, length, nat_lt, take};
 ghost use Rattle.std.specs.Int.Count.{ones};
 ghost use Rattle.model.specs.Graph.{max_nodes, row_words};
 ghost use Rattle.model.specs.Tables.{edge_bit};
@@ -230,6 +230,7 @@ impl<'a> Leaders<'a> {
     {
         let p = rows::wide(self.list[i]);
         let mut to = at;
+        // q goes from p + 1 to the first node of each later word, and no range counts that.
         let mut q = p + 1;
         while q < Graph::NODES {
             let w = rows::word_of(q);
@@ -256,16 +257,10 @@ impl<'a> Leaders<'a> {
 
 // The visible nodes.
 fn count_visible(least: &[u16], n: usize) -> usize
-    requires { (n ≤ max_nodes) × (n ≤ length least.now) }
-    ensures { result ≡ length (scan (in_group least.now n) n 0) }
+    requires { n ≤ length least.now }
+    ensures { result ≡ count_by (λ l. nat_lt l n) (take n least.now) }
 {
-    let mut m: usize = 0;
-    for p in 0..n {
-        if rows::wide(least[p]) < n {
-            m += 1;
-        }
-    }
-    m
+    least[..n].iter().filter(|l| rows::wide(**l) < n).count()
 }
 
 // The least members of the groups, ascending; how many.
@@ -288,14 +283,7 @@ fn leader_set(least: &[u16], n: usize) -> [u64; Graph::ROW_WORDS]
     requires { (n ≤ max_nodes) × (n ≤ length least.now) }
     ensures { LeaderSet (leaders_of n least.now) result }
 {
-    let mut set = [0u64; Graph::ROW_WORDS];
-    for p in 0..n {
-        if rows::wide(least[p]) == p {
-            let w = rows::word_of(p);
-            set[w] = set[w] ^ rows::mask(p);
-        }
-    }
-    set
+    layout::set_of(n, |p| rows::wide(least[p]) == p)
 }
 
 // The position of each leader.
