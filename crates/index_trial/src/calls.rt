@@ -1,5 +1,5 @@
 // Each call of the index, and a line that says what came back.
-use queries::Listed;
+use answers::{Refusal, code};
 use std::io;
 use trial::lent::{Tables, front};
 use trial::say;
@@ -7,7 +7,7 @@ use trial::script::{small, small_byte};
 
 pub fn open(rt: &impl Print, tables: &mut Tables, store: &mut [u64]) -> io::Result<()> {
     let r = index::open(tables.n, tables.edges, tables.nodes, tables.keys, store);
-    say::stored(rt, "open", r, tables, store)
+    say::stored(rt, "open", code(&r), tables, store)
 }
 
 // The bytes of the name that k stands for.
@@ -26,7 +26,7 @@ pub fn keep(rt: &impl Print, tables: &Tables, store: &mut [u64], name: &[u8]) ->
         store,
         name,
     );
-    say::stored(rt, "keep", r, tables, store)
+    say::stored(rt, "keep", code(&r), tables, store)
 }
 
 pub fn restore(rt: &impl Print, tables: &mut Tables, store: &[u64], name: &[u8]) -> io::Result<()> {
@@ -38,12 +38,12 @@ pub fn restore(rt: &impl Print, tables: &mut Tables, store: &[u64], name: &[u8])
         store,
         name,
     );
-    say::stored(rt, "restore", r, tables, store)
+    say::stored(rt, "restore", code(&r), tables, store)
 }
 
 pub fn drop(rt: &impl Print, tables: &Tables, store: &mut [u64], name: &[u8]) -> io::Result<()> {
     let r = store::drop(tables.n, store, name);
-    say::stored(rt, "drop", r, tables, store)
+    say::stored(rt, "drop", code(&r), tables, store)
 }
 
 // The batch, into a buffer of answers filled with 4660.
@@ -61,7 +61,7 @@ pub fn apply(
     tables.say(rt)
 }
 
-pub fn listed(tables: &Tables, p: u16, out: &mut [u16]) -> Listed {
+pub fn listed(tables: &Tables, p: u16, out: &mut [u16]) -> Result<u16, Refusal> {
     index::neighbours(tables.n, tables.edges, tables.nodes, tables.keys, p, out)
 }
 
@@ -76,18 +76,19 @@ pub fn neighbours(
     let mut buffer = [4660u16; 1100];
     let out = front(&mut buffer, room);
     let r = listed(tables, small(p), out);
-    say::listed(rt, r.result, r.count, out, shown)
+    say::listed(rt, code(&r), r.unwrap_or(0), out, shown)
 }
 
 pub fn tied(rt: &impl Print, tables: &Tables, p: u64, q: u64) -> io::Result<()> {
     let r = tables.tied(small(p), small(q));
-    println!(rt; "tied {} {}", r.result, say::yes_or_no(r.yes))
+    println!(rt; "tied {} {}", code(&r), say::yes_or_no(r.unwrap_or(false)))
 }
 
 pub fn group(rt: &impl Print, tables: &Tables, p: u64) -> io::Result<()> {
     let r = tables.group(small(p));
+    let g = r.unwrap_or_default();
     println!(rt;
         "group {} least {} kind {} size {}",
-        r.result, r.least, r.kind, r.size
+        code(&r), g.least, u16::from(g.kind), g.size
     )
 }

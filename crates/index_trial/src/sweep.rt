@@ -1,5 +1,6 @@
 // Many calls for one line: a walk through all graphs, and every query of a graph.
 use crate::calls;
+use answers::code;
 use std::io;
 use trial::digest::{fold, fold_numbers};
 use trial::lent::Tables;
@@ -31,7 +32,7 @@ fn pair_at(t: usize) -> (u16, u16) {
 fn walk_step(tables: &mut Tables, i: u64, h: u64) -> u64 {
     let (u, v) = pair_at(rows::lowest(i));
     let e = tables.tied(u, v);
-    let d = tables.fold_apply(h, &[1, u, v, u16::from(!e.yes)]);
+    let d = tables.fold_apply(h, &[1, u, v, u16::from(!e.unwrap_or(false))]);
     tables.fold(d)
 }
 
@@ -46,18 +47,19 @@ pub fn walk(rt: &impl Print, tables: &mut Tables, a: u64, b: u64) -> io::Result<
 
 fn fold_tied(h: u64, tables: &Tables, p: u16, q: u16) -> u64 {
     let e = tables.tied(p, q);
-    fold(fold(h, u64::from(e.result)), u64::from(e.yes))
+    fold(fold(h, u64::from(code(&e))), u64::from(e.unwrap_or(false)))
 }
 
 fn fold_group(h: u64, tables: &Tables, p: u16) -> u64 {
-    let g = tables.group(p);
-    fold_numbers(h, &[g.result, g.least, g.kind, g.size])
+    let r = tables.group(p);
+    let g = r.unwrap_or_default();
+    fold_numbers(h, &[code(&r), g.least, u16::from(g.kind), g.size])
 }
 
 fn fold_neighbours(h: u64, tables: &Tables, p: u16) -> u64 {
     let mut out = [4660u16; 1024];
     let l = calls::listed(tables, p, &mut out);
-    fold_numbers(fold_numbers(h, &[l.result, l.count]), &out)
+    fold_numbers(fold_numbers(h, &[code(&l), l.unwrap_or(0)]), &out)
 }
 
 // The group and the neighbours of p, and whether it is tied to each node below `limit`.

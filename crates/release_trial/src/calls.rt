@@ -1,4 +1,5 @@
 // Each call, and a line that says what came back.
+use answers::{Refusal, code};
 use std::io;
 use trial::digest::fold_numbers;
 use trial::lent::{Tables, front};
@@ -8,11 +9,11 @@ use writer::Written;
 
 pub fn read(rt: &impl Print, tables: &mut Tables, file: &[u8]) -> io::Result<()> {
     let r = release::read(tables.n, tables.edges, tables.nodes, tables.keys, file);
-    print!(rt; "read {r}")?;
+    print!(rt; "read {}", code(&r))?;
     tables.say(rt)
 }
 
-pub fn released(tables: &Tables, out: &mut [u8]) -> Written {
+pub fn released(tables: &Tables, out: &mut [u8]) -> Result<Written, Refusal> {
     release::release(tables.n, tables.edges, tables.nodes, tables.keys, out)
 }
 
@@ -21,19 +22,20 @@ pub fn write(rt: &impl Print, tables: &Tables, file: &[u8], room: u64) -> io::Re
     let mut buffer = [165u8; 65536];
     let out = front(&mut buffer, room);
     let r = released(tables, out);
-    written(rt, &r)?;
-    compared(rt, file, out, r.bytes)
+    print!(rt; "write {}", code(&r))?;
+    let sizes = r.unwrap_or_default();
+    written(rt, sizes)?;
+    compared(rt, file, out, sizes.bytes)
 }
 
-fn written(rt: &impl Print, r: &Written) -> io::Result<()> {
+fn written(rt: &impl Print, sizes: Written) -> io::Result<()> {
     let Written {
-        result,
         nodes,
         groups,
         superedges,
         bytes,
-    } = *r;
-    print!(rt; "write {result} nodes {nodes} groups {groups} superedges {superedges} bytes {bytes}")
+    } = sizes;
+    print!(rt; " nodes {nodes} groups {groups} superedges {superedges} bytes {bytes}")
 }
 
 // Whether the file is the first `count` bytes of a buffer, and the buffer's digest.
@@ -51,11 +53,11 @@ pub fn neighbours(rt: &impl Print, file: &[u8], p: u64, room: u64, shown: u64) -
     let mut buffer = [4660u16; 1100];
     let out = front(&mut buffer, room);
     let r = release::file_neighbours(file, small(p), out);
-    say::listed(rt, r.result, r.count, out, shown)
+    say::listed(rt, code(&r), r.unwrap_or(0), out, shown)
 }
 
 // The distance of p and q, asked of the file.
 pub fn hops(rt: &impl Print, file: &[u8], p: u64, q: u64) -> io::Result<()> {
     let r = release::file_distance(file, small(p), small(q));
-    println!(rt; "hops {} distance {}", r.result, r.distance)
+    println!(rt; "hops {} distance {}", code(&r), r.unwrap_or(0))
 }

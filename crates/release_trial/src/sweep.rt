@@ -1,5 +1,6 @@
 // Many calls for one line.
 use crate::calls;
+use answers::{Refusal, code};
 use rows::Graph;
 use std::io;
 use trial::digest::{fold, fold_numbers};
@@ -11,7 +12,7 @@ use writer::Written;
 // The neighbours of p, into a buffer.
 fn fold_asked(h: u64, file: &[u8], p: u16, out: &mut [u16]) -> u64 {
     let r = release::file_neighbours(file, p, out);
-    fold_numbers(fold_numbers(h, &[r.result, r.count]), out)
+    fold_numbers(fold_numbers(h, &[code(&r), r.unwrap_or(0)]), out)
 }
 
 // The neighbours of p, into a buffer of eight.
@@ -27,7 +28,7 @@ fn fold_all(h: u64, file: &[u8], p: u16) -> u64 {
 // The distance of p and q.
 fn fold_hops(h: u64, file: &[u8], p: u16, q: u16) -> u64 {
     let r = release::file_distance(file, p, q);
-    fold_numbers(h, &[r.result, r.distance])
+    fold_numbers(h, &[code(&r), r.unwrap_or(0)])
 }
 
 // The neighbours of p, into a buffer of eight, and its distance from node 0.
@@ -86,9 +87,9 @@ impl Tally {
             nodes: &mut nodes,
             keys: &mut keys,
         };
-        let d = tables.fold(fold(self.digest, u64::from(r)));
+        let d = tables.fold(fold(self.digest, u64::from(code(&r))));
         self.digest = fold_asked_twice(d, file, p);
-        if r == 0 {
+        if r.is_ok() {
             self.read = self.read.wrapping_add(1);
         }
     }
@@ -125,9 +126,10 @@ pub fn damage(rt: &impl Print, file: &mut [u8], a: u64, b: u64) -> io::Result<()
     t.tell(rt, "damage")
 }
 
-fn fold_written(h: u64, r: &Written) -> u64 {
-    let d = fold_numbers(h, &[r.result, r.nodes, r.groups]);
-    fold_numbers(d, &[r.superedges, r.bytes])
+fn fold_written(h: u64, r: &Result<Written, Refusal>) -> u64 {
+    let sizes = r.unwrap_or_default();
+    let d = fold_numbers(h, &[code(r), sizes.nodes, sizes.groups]);
+    fold_numbers(d, &[sizes.superedges, sizes.bytes])
 }
 
 // The release, into a buffer of 512 bytes, asked for the neighbours of p and its distance from node 0.
@@ -135,7 +137,7 @@ fn fold_release(h: u64, tables: &Tables, p: u16) -> u64 {
     let mut out = [165u8; 512];
     let r = calls::released(tables, &mut out);
     let d = fold_numbers(fold_written(h, &r), &out);
-    fold_asked_twice(d, front(&mut out, u64::from(r.bytes)), p)
+    fold_asked_twice(d, front(&mut out, u64::from(r.unwrap_or_default().bytes)), p)
 }
 
 // Updates drawn from a seed, of nodes below `span`, and the release after each.

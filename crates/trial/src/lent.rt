@@ -4,7 +4,8 @@ use crate::draws::Drawn;
 use crate::say;
 use crate::script::{small, within};
 use crate::sizes::Sizes;
-use index::{Grouped, IsTied};
+use answers::{Refusal, code};
+use index::Grouped;
 use rows::Graph;
 use std::io;
 
@@ -52,14 +53,16 @@ impl<'a> Tables<'a> {
     }
 
     pub fn apply(&mut self, batch: &[u16], answers: &mut [i16]) -> u16 {
-        index::apply(self.n, self.edges, self.nodes, self.keys, batch, answers)
+        code(&index::apply(
+            self.n, self.edges, self.nodes, self.keys, batch, answers,
+        ))
     }
 
-    pub fn tied(&self, p: u16, q: u16) -> IsTied {
+    pub fn tied(&self, p: u16, q: u16) -> Result<bool, Refusal> {
         index::tied(self.n, self.edges, self.nodes, self.keys, p, q)
     }
 
-    pub fn group(&self, p: u16) -> Grouped {
+    pub fn group(&self, p: u16) -> Result<Grouped, Refusal> {
         index::group(self.n, self.edges, self.nodes, self.keys, p)
     }
 

@@ -379,7 +379,7 @@ fn measure(n: usize, least: &[u16], edges: &[u64], leaders: &mut [u16]) -> Sizes
 }
 
 // What a release returns: document 01's m, g and s, and the length.
-#[derive(Clone, Copy, Debug, PartialEq, Eq)]
+#[derive(Clone, Copy, Debug, Default, PartialEq, Eq)]
 pub struct Written {
     pub nodes: u16,
     pub groups: u16,
