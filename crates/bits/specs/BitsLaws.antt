@@ -27,7 +27,7 @@ bits_none x e = sym (counted_from_zero x) ∙ from_none 0 x e
 pub bits_lowest : (x : ℕ) → x < 2 ^ 64 → (x ≡ 0 → ⊥) → bits_of x ≡ count_trailing_zeros 64 x ∷ bits_of (bit_and x (x - 1))
 bits_lowest x h some =
     let e : 0 + count_trailing_zeros 64 x ≡ count_trailing_zeros 64 x = omega arith in
-    sym (counted_from_zero x) ∙ from_lowest 0 x (count_trailing_zeros 64 x) h some refl ∙ rw (e, counted_from_zero (bit_and x (x - 1))) 
+    sym (counted_from_zero x) ∙ from_lowest 0 x (count_trailing_zeros 64 x) h some refl ∙ rw (e, counted_from_zero (bit_and x (x - 1)))
 
 -- a word is told by its bits
 member_told : (x k : ℕ) → k < 64 → bit_at x k ≡ true → k ∈ bits_of x

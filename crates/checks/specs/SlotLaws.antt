@@ -57,9 +57,6 @@ unfolding node_number
 class_place table u = refl
 
 module _ {table keys : List ℕ} {k : ℕ} where
-  pub seen_none : {slots : List ℕ} → length slots ≡ slot_words → Seen table keys k 0 slots
-  seen_none size = record { size = size; taken = λ q l. absurd (omega arith) }
-
   module _ {u : ℕ} {slots : List ℕ} (s : Seen table keys k u slots) where
     pub seen_member : (node_number table u 0 ≢ u) → Seen table keys k (u + 1) slots
     seen_member d = record { size = s.size; taken = λ q l e. s.taken q (below q l e (ℕ_discrete q u)) e }

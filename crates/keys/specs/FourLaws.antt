@@ -19,9 +19,6 @@ use Rattle.keys.specs.KeySums.{FoursFilled, Widened, eight_cubes, four_cubes, ro
 pub chosen : (v x : ℕ) → v % 2 ≡ 1 → x ≡ v % 2 * x
 chosen v x e = let z : x ≡ 1 * x = omega arith in rw e z
 
-pub unchosen : (v x : ℕ) → (v % 2 ≢ 1) → 0 ≡ v % 2 * x
-unchosen v x d = let e : v % 2 ≡ 0 = omega arith in let z : 0 ≡ 0 * x = omega arith in rw e z
-
 digit_cond : (d x : ℕ) → d < 2 → d * x ≡ cond (d == 1) x 0
 digit_cond zero x h = omega arith
 digit_cond (suc zero) x h = omega arith
@@ -67,10 +64,6 @@ each_of_four h₀ h₁ h₂ h₃ (suc (suc zero)) l = h₂
 each_of_four h₀ h₁ h₂ h₃ (suc (suc (suc zero))) l = h₃
 each_of_four h₀ h₁ h₂ h₃ (suc (suc (suc (suc k)))) l = absurd (omega arith)
 
--- the table of sums
-pub fours_none : (w : ℕ) (sums : List ℕ) → length sums ≡ 256 → FoursFilled w 0 sums
-fours_none w sums e = record { size = e; entries = λ k l. absurd (omega arith) }
-
 pub filled_start : {w m k : ℕ} {sums : List ℕ} → FoursFilled w m sums → k ≡ m → FoursFilled w k sums
 filled_start {w} {m} {k} {sums} h e = subst (λ i. FoursFilled w i sums) (sym e) h
 
@@ -103,10 +96,6 @@ four_le {w} {sums} e h hw l =
     let v = e % 16 in
     omega (arith, h.entries e l, digit_le (v % 2) (cube (4 * b)) (omega arith), digit_le (v / 2 % 2) (cube (4 * b + 1)) (omega arith), digit_le (v / 4 % 2) (cube (4 * b + 2)) (omega arith), digit_le (v / 8 % 2) (cube (4 * b + 3)) (omega arith), cube-le (4 * b + 1) (omega arith), cube-le (4 * b + 1 + 1) (omega arith), cube-le (4 * b + 2 + 1) (omega arith), cube-le (4 * b + 3 + 1) (omega arith))
 
--- the table of wider sums
-pub widened_none : (w : ℕ) (sums : List ℕ) → length sums ≡ 2048 → Widened w 0 sums
-widened_none w sums e = record { size = e; entries = λ k l. absurd (omega arith) }
-
 pub widened_start : {w m k : ℕ} {sums : List ℕ} → Widened w m sums → k ≡ m → Widened w k sums
 widened_start {w} {m} {k} {sums} h e = subst (λ i. Widened w i sums) (sym e) h
 
@@ -138,12 +127,6 @@ widened_more {w} {i} {h} {l} {fours} {sums} t f hi hh hl =
         let d₁ : 16 * w + (32 * i + 16 + h) / 16 ≡ 2 * (8 * w + i) + 1 = omega arith in
         let v₁ : (32 * i + 16 + h) % 16 ≡ h = omega arith in
         rw (d, v, u) (ap₂ ◌+◌ (rw (d₀, v₀) at (f.entries (32 * i + l) (omega arith))) (rw (d₁, v₁) at (f.entries (32 * i + 16 + h) (omega arith))))
-
-pub entry_at : {sums : List ℕ} (w i v : ℕ) → Widened w 2048 sums → i < 8 → v < 256 → slice_index sums (256 * i + v) ≡ eight_cubes (8 * w + i) v
-entry_at {sums} w i v h hi hv =
-    let x : (256 * i + v) / 256 ≡ i = omega arith in
-    let y : (256 * i + v) % 256 ≡ v = omega arith in
-    rw (x, y) at (h.entries (256 * i + v) (omega arith))
 
 -- a word, eight bits after the other, wrapping
 pub words_none : (w x : ℕ) → 0 ≡ word_cubes w x 0 % 2 ^ 32
@@ -180,9 +163,6 @@ eight_more w x i =
 
 pub word_more : (w x i t s r : ℕ) → t ≡ word_cubes w x (8 * i) % 2 ^ 32 → s ≡ eight_cubes (8 * w + i) (x / 2 ^ (8 * i) % 256) → r ≡ (t + s) % 2 ^ 32 → r ≡ word_cubes w x (8 * (i + 1)) % 2 ^ 32
 word_more w x i t s r e f g = omega (arith, eight_more w x i)
-
-pub word_done : (w x i t : ℕ) → t ≡ word_cubes w x (8 * i) % 2 ^ 32 → i ≡ 8 → t ≡ word_cubes w x 64 % 2 ^ 32
-word_done w x i t e f = e ∙ ap (λ (k : ℕ). word_cubes w x (8 * k) % 2 ^ 32) f
 
 module _ (edges : List ℕ) (p : ℕ) where
   word-cubes : (w m : ℕ) → m ≤ 64 → word_cubes w (slice_index edges (8 * p + w)) m ≡ sum_cubes (filter (edge_bit edges p) (from (64 * w) m))

@@ -17,9 +17,6 @@ use Rattle.keys.specs.FourLaws.{dense_key}
 pub summed_none : (g : Graph) (t : List ℕ) → Summed g 0 t t
 summed_none g t = record { size = refl; keys = λ p k h l. absurd (omega arith) }
 
-pub keys_put : (p sum : ℕ) (t : List ℕ) {y r : ℕ} → y ≡ cube p → r ≡ (sum + y) % 2 ^ 32 → KeysPut p sum t (slice_set (slice_set t (2 * p) sum) (2 * p + 1) r)
-keys_put p sum t e f = record { put = ap (set (slice_set t (2 * p) sum) (2 * p + 1)) (f ∙ ap (λ (z : ℕ). (sum + z) % 2 ^ 32) e) }
-
 pub put_length : {p sum : ℕ} {t after : List ℕ} → KeysPut p sum t after → length after ≡ length t
 put_length {p} {sum} {t} h = ap length h.put ∙ length-set (slice_set t (2 * p) sum) (2 * p + 1) ((sum + cube p) % 2 ^ 32) ∙ length-set t (2 * p) sum
 

@@ -7,27 +7,11 @@ use Rattle.model.specs.Graph.{max_nodes}
 use Rattle.buffers.specs.StoreLaws.{stored, stored-size}
 use Rattle.keys.specs.KeySums.{AllLead, LeadersSummed, WordAdded, row_cubes, word_cubes}
 
--- the place of a node's leader
-pub stride_room : (stride p n : ℕ) → 0 < stride → p < n → stride * p < stride * n
-stride_room stride p n h l = omega (arith, mul-le-mul_left stride l)
-
--- one word of one row
-module _ (stride : ℕ) (lst edges : List ℕ) (w p : ℕ) (t : List ℕ) where
-  pub word_added : {s r : ℕ} → p < length t → s ≡ word_cubes w (slice_index edges (8 * p + w)) 64 % 2 ^ 32 → r ≡ (slice_index t p + s) % 2 ^ 32 → WordAdded stride lst edges w p t (slice_set t p r)
-  word_added {s} {r} l e f = record {
-    size = length-set t p r;
-    own = λ h. get_or-set_same t p r 0 l ∙ omega arith;
-    others = λ q d. get_or-set_other t p q r 0 d;
-  }
-
 -- amid word w: the totals of the nodes below p have it, those of the others lack it
 pub record Amid (n stride : ℕ) (lst edges : List ℕ) (w p : ℕ) (totals : List ℕ) : Type 0 where
   pub size : length totals ≡ max_nodes
   pub ahead : (q : ℕ) → q < p → slice_index lst (stride * q) ≡ q → slice_index totals q ≡ row_cubes edges q (w + 1) % 2 ^ 32
   pub behind : (q : ℕ) → p ≤ q → q < n → slice_index lst (stride * q) ≡ q → slice_index totals q ≡ row_cubes edges q w % 2 ^ 32
-
-pub amid_none : {n stride w : ℕ} {lst edges t : List ℕ} → LeadersSummed n stride lst edges w t → Amid n stride lst edges w 0 t
-amid_none h = record { size = h.size; ahead = λ q l e. absurd (omega arith); behind = λ q z l e. h.sums q l e }
 
 row_more : (edges : List ℕ) (p w t r : ℕ) → t ≡ row_cubes edges p w % 2 ^ 32 → r ≡ (t + word_cubes w (slice_index edges (8 * p + w)) 64) % 2 ^ 32 → r ≡ row_cubes edges p (w + 1) % 2 ^ 32
 unfolding row_cubes
@@ -44,9 +28,6 @@ amid_more {n} {stride} {w} {p} {lst} {edges} {t} {after} h hp a = record {
     step q l e (yes z) = rw z (row_more edges p w (slice_index t p) (slice_index after p) (h.behind p (omega arith) hp (rw z at e)) (a.own (rw z at e)))
     step q l e (no d) = a.others q d ∙ h.ahead q (omega arith) e
 
-pub amid_all : {n stride w p : ℕ} {lst edges t : List ℕ} → Amid n stride lst edges w p t → n ≤ p → LeadersSummed n stride lst edges (w + 1) t
-amid_all h l = record { size = h.size; sums = λ q m e. h.ahead q (omega arith) e }
-
 -- no word yet
 pub zeros_length : {t : List ℕ} → t ≡ replicate max_nodes 0 → length t ≡ max_nodes
 zeros_length e = ap length e ∙ length-replicate {A = ℕ} 512 0
@@ -57,22 +38,6 @@ leaders_none n stride lst edges totals m e = record {
   size = zeros_length e;
   sums = λ p l h. ap (λ (s : List ℕ). slice_index s p) e ∙ get_or-replicate 512 p 0 0 (omega arith);
 }
-
-pub leaders_start : {n stride w k : ℕ} {lst edges t : List ℕ} → LeadersSummed n stride lst edges w t → k ≡ w → LeadersSummed n stride lst edges k t
-leaders_start {n} {stride} {w} {k} {lst} {edges} {t} h e = subst (λ i. LeadersSummed n stride lst edges i t) (sym e) h
-
--- every node leads
-pub lead_none : (lst : List ℕ) → length lst ≡ max_nodes → AllLead 0 lst
-lead_none lst e = record { size = e; own = λ p l. absurd (omega arith) }
-
-pub lead_more : {p : ℕ} {lst : List ℕ} → AllLead p lst → p < max_nodes → AllLead (p + 1) (slice_set lst p p)
-lead_more {p} {lst} h l = record { size = stored-size lst p p fits h.size; own = stored lst p p fits (λ q x. x ≡ q) h.own refl }
-  where
-    fits : p < length lst
-    fits = omega (arith, h.size)
-
-pub lead_start : {m n : ℕ} {lst : List ℕ} → AllLead m lst → n ≤ m → AllLead n lst
-lead_start h l = record { size = h.size; own = λ p k. h.own p (omega arith) }
 
 pub total_of : {n p w : ℕ} {lst edges t : List ℕ} → LeadersSummed n 1 lst edges w t → AllLead n lst → p < n → slice_index t p ≡ row_cubes edges p w % 2 ^ 32
 total_of {n} {p} h a l = let e : 1 * p ≡ p = omega arith in h.sums p l (rw e (a.own p l))

@@ -33,10 +33,6 @@ visible_is n edges marks classes p = once (ltb p n) (eqb (get_or marks p 0) 1)
     once true w = refl
     once false w = refl
 
--- the words of a row, one after the other
-pub masked_none : (p : ℕ) (word : ℕ → ℕ) (t : List ℕ) → RowPut p 0 word t t
-masked_none p word t = record { size = refl; words = λ w h. absurd (omega arith); earlier = λ i h. refl }
-
 pub masked_more : {p w x : ℕ} {word : ℕ → ℕ} {t t₁ : List ℕ} → RowPut p w word t t₁ → 8 * p + w < length t → x ≡ word w → RowPut p (w + 1) word t (set t₁ (8 * p + w) x)
 masked_more {p} {w} {x} {word} {t} {t₁} r l e = record {
   size = length-set t₁ (8 * p + w) x ∙ r.size;
@@ -52,9 +48,6 @@ masked_more {p} {w} {x} {word} {t} {t₁} r l e = record {
 
 pub row_cut : (edges kept : List ℕ) {p w : ℕ} {t t₁ : List ℕ} → RowPut p w (cut_word edges kept p) t t₁ → 8 * p + w < length t → RowPut p (w + 1) (cut_word edges kept p) t (set t₁ (8 * p + w) (bit_and (get_or edges (8 * p + w) 0) (get_or kept w 0)))
 row_cut edges kept r l = masked_more r l (unfold cut_word in refl)
-
-pub row-whole : {p k : ℕ} {word : ℕ → ℕ} {t after : List ℕ} → RowPut p k word t after → 8 ≤ k → RowPut p 8 word t after
-row-whole r l = record { size = r.size; words = λ w h. r.words w (omega arith); earlier = r.earlier }
 
 row_same : {p k : ℕ} {word other : ℕ → ℕ} {t after : List ℕ} → ((w : ℕ) → w < k → word w ≡ other w) → RowPut p k word t after → RowPut p k other t after
 row_same h r = record { size = r.size; words = λ w l. r.words w l ∙ h w l; earlier = r.earlier }
@@ -72,18 +65,6 @@ row_hidden edges mask marks p b e t = row_same (λ w l. rw (sym e ∙ t) (ap (bi
 pub record Masking (edges mask marks : List ℕ) (i : ℕ) (t after : List ℕ) : Type 0 where
   pub size : length after ≡ length t
   pub words : (p w : ℕ) → p < i → w < 8 → get_or after (8 * p + w) 0 ≡ masked_word edges mask marks p w
-
-pub masking_start : (edges mask marks t : List ℕ) → Masking edges mask marks 0 t t
-masking_start edges mask marks t = record { size = refl; words = λ p w h. absurd (omega arith) }
-
-pub masking_more : {edges mask marks : List ℕ} {i : ℕ} {t t₁ t₂ : List ℕ} → Masking edges mask marks i t t₁ → RowPut i 8 (masked_word edges mask marks i) t₁ t₂ → Masking edges mask marks (i + 1) t t₂
-masking_more {edges} {mask} {marks} {i} {t} {t₁} {t₂} m r = record { size = r.size ∙ m.size; words = λ p w h l. step p w h l (decide (eqb p i)) }
-  where
-    step : (p w : ℕ) → p < i + 1 → w < 8 → (eqb p i ≡ true) ⊎ (eqb p i ≡ false) → get_or t₂ (8 * p + w) 0 ≡ masked_word edges mask marks p w
-    step p w h l (inl s) = rw (eqb-true p i s) (r.words w l)
-    step p w h l (inr s) =
-        let d : p ≡ i → ⊥ = eqb-false p i s in
-        r.earlier (8 * p + w) (omega arith) ∙ m.words p w (omega arith) l
 
 kept_lt : (mask marks : List ℕ) (p w : ℕ) → ((i : ℕ) → get_or mask i 0 < 2 ^ 64) → kept_word mask marks p w < 2 ^ 64
 unfolding kept_word

@@ -44,7 +44,13 @@ fn mask_row(edges: &[u64], set: &[u64; Graph::ROW_WORDS], p: usize, masked: &mut
 }
 
 // A visible node keeps its edges to visible nodes, a hidden one none.
-fn mask_node(edges: &[u64], hidden: &[u16], set: &[u64; Graph::ROW_WORDS], p: usize, masked: &mut [u64])
+fn mask_node(
+    edges: &[u64],
+    hidden: &[u16],
+    set: &[u64; Graph::ROW_WORDS],
+    p: usize,
+    masked: &mut [u64],
+)
     requires { (p < max_nodes) × (p < length hidden.now) × (row_words * p + row_words ≤ length edges.now) × (row_words * p + row_words ≤ length masked.old) }
     ensures { RowPut p row_words (masked_word edges.now set.now hidden.now p) masked.old masked.new }
 {

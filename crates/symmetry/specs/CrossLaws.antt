@@ -181,14 +181,6 @@ exchanged s {x} {y} {z} {r} h p q o = record { size = o.size; bits = bits }
         ∙ p.bits (row_before (s + 1) (row_before s e c) (column_before s e c)) (column_before (s + 1) (row_before s e c) (column_before s e c)) (ltb-true _ 8 (and_fst (ltb (row_before (s + 1) (row_before s e c) (column_before s e c)) 8) _ t₂)) (ltb-true _ 64 (and_fst (ltb (column_before (s + 1) (row_before s e c) (column_before s e c)) 64) _ t₃))
         ∙ ap₂ (λ (i m : ℕ). bit_at (get_or x i 0) m) (eqb-true _ (c / 2 ^ s % 8) (and_fst (eqb (row_before (s + 2) (row_before (s + 1) (row_before s e c) (column_before s e c)) (column_before (s + 1) (row_before s e c) (column_before s e c))) (c / 2 ^ s % 8)) _ t₄)) (eqb-true _ (with_digits s c e) (and_snd (eqb (row_before (s + 2) (row_before (s + 1) (row_before s e c) (column_before s e c)) (column_before (s + 1) (row_before s e c) (column_before s e c))) (c / 2 ^ s % 8)) _ t₄))
 
-pub exchanged_bits : {x y z r : List ℕ} → HalvesCrossed 2 x y → HalvesCrossed 1 y z → HalvesCrossed 0 z r → Exchanged 0 x r
-unfolding all nodes from traced
-exchanged_bits p q o = exchanged 0 refl p q o
-
-pub exchanged_bytes : {x y z r : List ℕ} → HalvesCrossed 5 x y → HalvesCrossed 4 y z → HalvesCrossed 3 z r → Exchanged 3 x r
-unfolding all nodes from traced
-exchanged_bytes p q o = exchanged 3 refl p q o
-
 -- a mask, tried at each place
 pub zeros_by : (k mask : ℕ) → all (nodes 64) (λ c. beq (bit_at mask c) (eqb (c / 2 ^ k % 2) 0)) ≡ true → Zeros k mask
 zeros_by k mask h = λ c l. beq_eq (bit_at mask c) (eqb (c / 2 ^ k % 2) 0) (all_elim (nodes 64) (λ c. beq (bit_at mask c) (eqb (c / 2 ^ k % 2) 0)) h c (nodes_in_lem 64 c l))

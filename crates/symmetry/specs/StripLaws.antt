@@ -57,14 +57,6 @@ row_start : {every step : ℕ} → Stepping every step → (from to k : ℕ) →
 row_start bytes from to k small = omega arith
 row_start bits from to k small = omega arith
 
-row_last : {every step : ℕ} → Stepping every step → (k w : ℕ) → k < 8 → w < 8 → every * k + w < every * 8
-row_last bytes k w hk hw = omega arith
-row_last bits k w hk hw = omega arith
-
--- a pass, eight rows after eight rows
-pub exchanging_none : (every step s from to : ℕ) (a b : List ℕ) → length b ≡ 512 → Exchanging every step s from to a b from b
-exchanging_none every step s from to a b e = record { size = e; done = λ k w d c hk l u t. absurd (omega arith); rest = λ k w d hk hw t hd. refl }
-
 module _ {every step s from to : ℕ} (stepping : Stepping every step) (small : to ≤ 8) {a prior b : List ℕ} where
   pub exchanging_more : (k w : ℕ) {t : ℕ} {x y after : List ℕ} → k < 8 → w < to → t ≡ every * k + w → Exchanging every step s from to a prior t b
       → ((d : ℕ) → d < 8 → get_or x d 0 ≡ get_or a (t + step * d) 0) → Exchanged s x y → EightPut t step 8 y b after → Exchanging every step s from to a prior (t + 1) after
@@ -93,13 +85,6 @@ module _ {every step s from to : ℕ} (stepping : Stepping every step) (small : 
     size = h.size;
     done = λ k' w' d c hk l u t. h.done k' w' d c hk l u (omega (arith, row_after stepping from to k k' w' small l u (omega arith)));
     rest = λ k' w' d hk hw t hd. h.rest k' w' d hk hw (omega (arith, row_start stepping from to k small)) hd;
-  }
-
-  pub exchanging_all : {t : ℕ} → every * 8 ≤ t → Exchanging every step s from to a prior t b → Exchanging every step s from to a prior (every * 8) b
-  exchanging_all l h = record {
-    size = h.size;
-    done = λ k w d c hk f u t. h.done k w d c hk f u (omega arith);
-    rest = λ k w d hk hw t hd. absurd (omega (arith, row_last stepping k w hk hw));
   }
 
 -- in place
@@ -211,17 +196,3 @@ module _ {n : ℕ} {edges b : List ℕ} {i w : ℕ} (h : Across edges i w (w + 1
       equal t r l =
           words_eq _ _ (small_b (row_words * r + w)) (small-e (row_words * (64 * w + r) + i))
           (λ c hc. h.bits w r c (omega arith) (omega arith) (omega arith) hc ∙ symmetric-all edges t (64 * i + c) (64 * w + r) (omega arith) (omega arith) ∙ word-bit edges (64 * w + r) i c hc)
-
--- words of a strip, one after the other
-pub even_none : (n : ℕ) (edges : List ℕ) (i : ℕ) → Even n edges i i i
-even_none n edges i p q hp hq f l u = absurd (omega arith)
-
-pub even_more : (n : ℕ) (edges : List ℕ) (i w : ℕ) → Even n edges i i w → Even n edges i w (w + 1) → Even n edges i i (w + 1)
-even_more n edges i w x y p q hp hq f l u = step (decide (ltb (q / 64) w))
-  where
-    step : (ltb (q / 64) w ≡ true) ⊎ (ltb (q / 64) w ≡ false) → edge_bit edges p q ≡ edge_bit edges q p
-    step (inl t) = x p q hp hq f l (ltb-true (q / 64) w t)
-    step (inr t) = y p q hp hq f (ltb-false (q / 64) w t) u
-
-pub across_at : {edges : List ℕ} {i to : ℕ} {b : List ℕ} (w : ℕ) → Across edges i i to b → i ≤ w → w < to → Across edges i w (w + 1) b
-across_at w h l u = record { size = h.size; bits = λ v r c f t hr hc. h.bits v r c (omega arith) (omega arith) hr hc }

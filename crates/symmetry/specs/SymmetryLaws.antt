@@ -127,9 +127,6 @@ inside_more n edges w k before from word p q hp u l = step (decide (ltb q (64 * 
 union_none : (x y : ℕ) → bit_or x y ≡ 0 → (x ≡ 0) × (y ≡ 0)
 union_none x y e = (omega (arith, or_add_and x y, and_le_r x y), omega (arith, or_add_and x y, and_le_l x y))
 
-pub gathered_none : (f : ℕ → ℕ) (k : ℕ) → Gathered f k 0 0
-gathered_none f k = record { each = λ e r l. absurd (omega arith); none = λ h. zero-div (2 ^ k) }
-
 pub gathered_more : {f : ℕ → ℕ} {k m x : ℕ} → Gathered f k m x → Gathered f k (m + 1) (bit_or x (f m))
 gathered_more {f} {k} {m} {x} h = record {
   each = λ e.
@@ -140,10 +137,3 @@ gathered_more {f} {k} {m} {x} h = record {
 
 pub gathered_all : {f : ℕ → ℕ} {k m n x : ℕ} → Gathered f k m x → m ≡ n → Gathered f k n x
 gathered_all {f} {k} {x = x} h e = subst (λ (i : ℕ). Gathered f k i x) e h
-
--- what a test tells
-pub tells_yes : {Fact : Type 0} {edges : List ℕ} → Fact → Tells Fact edges true
-tells_yes h = record { holds = λ e. h; fails = λ e. differ refl e }
-
-pub tells_no : {Fact : Type 0} {edges : List ℕ} → symmetric edges ≡ false → Tells Fact edges false
-tells_no h = record { holds = λ e. differ e refl; fails = λ e. h }

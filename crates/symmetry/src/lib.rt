@@ -187,7 +187,10 @@ fn is_across(edges: Edges, i: usize, w: usize, b: &[u64; STRIP]) -> bool
     ensures { Tells (Even edges.entry.n edges.entry.words.now i w (w + 1)) edges.entry.words.now result }
 {
     let m = rows_of(edges.n, w);
-    united(m, |c| b[Graph::ROW_WORDS * c + w] ^ edges.word(64 * w + c, i)) == 0
+    united(
+        m,
+        |c| b[Graph::ROW_WORDS * c + w] ^ edges.word(64 * w + c, i),
+    ) == 0
 }
 
 fn are_across(edges: Edges, i: usize, to: usize, b: &[u64; STRIP]) -> bool
