@@ -118,6 +118,7 @@ pub extern "C" fn tegmulos_tied(
 }
 
 // The group of p: least member, kind (0 singleton, 1 independent, 2 clique), size.
+#[tactic(auto, unfolding(model::specs::Queries::kind_number))]
 #[unsafe(no_mangle)]
 pub extern "C" fn tegmulos_group(
     n: usize,

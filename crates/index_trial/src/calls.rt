@@ -89,6 +89,9 @@ pub fn group(rt: &impl Print, tables: &Tables, p: u64) -> io::Result<()> {
     let g = r.unwrap_or_default();
     println!(rt;
         "group {} least {} kind {} size {}",
-        code(&r), g.least, u16::from(g.kind), g.size
+        code(&r),
+        g.least,
+        u16::from(g.kind),
+        g.size
     )
 }

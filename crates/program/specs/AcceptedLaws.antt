@@ -23,8 +23,6 @@ use Rattle.rows.specs.Rows.{lent}
 use Rattle.index.specs.Index.{applied, opened}
 use Rattle.print.specs.Lines.{file_text}
 use Rattle.print.specs.ReleaseTextLaws.{accepted-text}
-use Rattle.writer.specs.Written.{released_by}
-use Rattle.writer.specs.declared.Written.{Written}
 use Rattle.program.specs.Accepted.{Done, Lent, WithinLimits, graph_after}
 
 few_updates : {n : ℕ} (xs : List ℕ) → WithinLimits n xs → length (updates_in xs) ≤ max_updates
@@ -76,9 +74,9 @@ module _ {n : ℕ} {t : Tables} {s xs : List ℕ} {out : List ℤ} {file : List 
       (rw e at k.0.tables, ap (λ (o : Outcome). o.answers) (rw e at k.1))
 
   -- opened, applied, released
-  pub done : {r₁ : ℕ} {t₁ : Tables} {s₁ : List ℕ} {r₂ : ℕ} {t₂ : Tables} {out₂ : List ℤ} {w : Written} {file₂ : List ℕ} → opened r₁ t₁ s₁ ≡ open_call n t s → applied r₂ t₂ out₂ ≡ apply_call n t₁ xs out → released_by w file₂ ≡ release_call n t₂ file → Done n xs out out₂ file file₂ w.bytes
+  pub done : {r₁ : ℕ} {t₁ : Tables} {s₁ : List ℕ} {r₂ : ℕ} {t₂ : Tables} {out₂ : List ℤ} {rel : Released} → opened r₁ t₁ s₁ ≡ open_call n t s → applied r₂ t₂ out₂ ≡ apply_call n t₁ xs out → rel ≡ release_call n t₂ file → Done n xs out out₂ file rel.out rel.bytes
   unfolding released
-  done {r₁} {t₁} {s₁} {r₂} {t₂} {out₂} {w} {file₂} a b c = record {
+  done {r₁} {t₁} {s₁} {r₂} {t₂} {out₂} {rel} a b c = record {
     answered = ap (λ (o : Applied). o.answers) applied-is ∙ applied-told.1;
     written = ap (λ (o : Released). o.out) file_is;
     bytes = ap (λ (o : Released). o.bytes) file_is;
@@ -93,7 +91,7 @@ module _ {n : ℕ} {t : Tables} {s xs : List ℕ} {out : List ℤ} {file : List 
       count : n ≡ (graph_after n xs).node_count
       count = sym ((proper_batch (updates_in xs) (empty_graph n) (proper_empty n h.small.nodes)).1 ∙ unfold empty_graph in refl)
 
-      file_is : released_by w file₂ ≡ released (graph_after n xs) file
+      file_is : rel ≡ released (graph_after n xs) file
       file_is =
           c
           ∙ ap (λ (m : ℕ). release_call m t₂ file) count

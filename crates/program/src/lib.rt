@@ -44,8 +44,10 @@ fn release_after(
 {
     let _ = index::open(n, edges, nodes, keys, store);
     let _ = index::apply(n, edges, nodes, keys, batch, answers);
-    let written = release::release(n, edges, nodes, keys, file);
-    written.unwrap_or_default().bytes as usize
+    match release::release(n, edges, nodes, keys, file) {
+        Ok(written) => written.bytes as usize,
+        Err(_) => 0,
+    }
 }
 
 // What is printed for n and a batch of changes.

@@ -137,7 +137,11 @@ fn fold_release(h: u64, tables: &Tables, p: u16) -> u64 {
     let mut out = [165u8; 512];
     let r = calls::released(tables, &mut out);
     let d = fold_numbers(fold_written(h, &r), &out);
-    fold_asked_twice(d, front(&mut out, u64::from(r.unwrap_or_default().bytes)), p)
+    fold_asked_twice(
+        d,
+        front(&mut out, u64::from(r.unwrap_or_default().bytes)),
+        p,
+    )
 }
 
 // Updates drawn from a seed, of nodes below `span`, and the release after each.

@@ -53,9 +53,7 @@ impl<'a> Tables<'a> {
     }
 
     pub fn apply(&mut self, batch: &[u16], answers: &mut [i16]) -> u16 {
-        code(&index::apply(
-            self.n, self.edges, self.nodes, self.keys, batch, answers,
-        ))
+        code(&index::apply(self.n, self.edges, self.nodes, self.keys, batch, answers))
     }
 
     pub fn tied(&self, p: u16, q: u16) -> Result<bool, Refusal> {
