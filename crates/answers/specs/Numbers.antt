@@ -3,7 +3,7 @@ use Rattle.std.specs.Prelude.{ℕ, Result, Ok, Err}
 use Rattle.model.specs.Grouping.{singleton, independent, clique}
 use Rattle.model.specs.Grouping as model
 use Rattle.answers.specs.declared.Refusal.{Refusal}
-use Rattle.answers.specs.declared.Refusal.TheVariants.{WrongSize, NoGraph, UnknownKind, NoNode, BadArgument, HeldAlready, ShortBuffer, NoRelease, OtherSize, NotKept, KeptAlready, StoreFull, Frozen}
+use Rattle.answers.specs.declared.Refusal.TheVariants.{WrongSize, NoGraph, NoKind, NoNode, WrongValue, AlreadyHolds, ShortBuffer, NoRelease, OtherSize, NotKept, AlreadyKept, StoreFull, Frozen}
 use Rattle.answers.specs.declared.Kind.{Kind}
 use Rattle.answers.specs.declared.Kind.TheVariants.{Singleton, Independent, Clique}
 
@@ -11,15 +11,15 @@ use Rattle.answers.specs.declared.Kind.TheVariants.{Singleton, Independent, Cliq
 abbrev pub number : Refusal → ℕ
 number WrongSize = 11
 number NoGraph = 12
-number UnknownKind = 13
+number NoKind = 13
 number NoNode = 14
-number BadArgument = 15
-number HeldAlready = 16
+number WrongValue = 15
+number AlreadyHolds = 16
 number ShortBuffer = 18
 number NoRelease = 19
 number OtherSize = 20
 number NotKept = 21
-number KeptAlready = 22
+number AlreadyKept = 22
 number StoreFull = 23
 number Frozen = 24
 

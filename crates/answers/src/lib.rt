@@ -11,15 +11,15 @@ ghost use Rattle.answers.specs.Numbers.{code, kind_told, number};
 pub enum Refusal {
     WrongSize = 11,
     NoGraph = 12,
-    UnknownKind = 13,
+    NoKind = 13,
     NoNode = 14,
-    BadArgument = 15,
-    HeldAlready = 16,
+    WrongValue = 15,
+    AlreadyHolds = 16,
     ShortBuffer = 18,
     NoRelease = 19,
     OtherSize = 20,
     NotKept = 21,
-    KeptAlready = 22,
+    AlreadyKept = 22,
     StoreFull = 23,
     Frozen = 24,
 }
@@ -53,7 +53,7 @@ pub fn check_pair(n: usize, u: usize, v: usize) -> Result<(), Refusal>
         return Err(Refusal::NoNode);
     }
     if u == v {
-        return Err(Refusal::BadArgument);
+        return Err(Refusal::WrongValue);
     }
     Ok(())
 }

@@ -92,7 +92,7 @@ pub fn keep(
         return Err(Refusal::NoGraph);
     }
     if kept.find(name, 0).is_some() {
-        return Err(Refusal::KeptAlready);
+        return Err(Refusal::AlreadyKept);
     }
     let i = kept.find_free().ok_or(Refusal::StoreFull)?;
     write(&tables, name, store, i);

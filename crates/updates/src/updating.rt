@@ -29,7 +29,7 @@ fn edge(n: usize, u: usize, v: usize, wanted: u16) -> Result<Update, Refusal>
 {
     check_pair(n, u, v)?;
     if wanted > 1 {
-        return Err(Refusal::BadArgument);
+        return Err(Refusal::WrongValue);
     }
     Ok(Update::Edge { u, v, wanted })
 }
@@ -42,7 +42,7 @@ fn mark(n: usize, u: usize, v: usize, wanted: u16) -> Result<Update, Refusal>
         return Err(Refusal::NoNode);
     }
     if v != 0 || wanted > 1 {
-        return Err(Refusal::BadArgument);
+        return Err(Refusal::WrongValue);
     }
     Ok(Update::Mark { u, wanted })
 }
@@ -55,7 +55,7 @@ fn class(n: usize, u: usize, class: usize, wanted: u16) -> Result<Update, Refusa
         return Err(Refusal::NoNode);
     }
     if class >= Graph::CLASSES || wanted != 0 {
-        return Err(Refusal::BadArgument);
+        return Err(Refusal::WrongValue);
     }
     Ok(Update::Class { u, class })
 }
@@ -65,7 +65,7 @@ fn check_new(wanted: u16, there: bool) -> Result<(), Refusal>
     ensures { code result ≡ first_of (held_reasons wanted there) }
 {
     if there as u16 == wanted {
-        return Err(Refusal::HeldAlready);
+        return Err(Refusal::AlreadyHolds);
     }
     Ok(())
 }
@@ -100,7 +100,7 @@ impl Update {
             1 => edge(n, u, v, wanted),
             2 => mark(n, u, v, wanted),
             3 => class(n, u, v, wanted),
-            _ => Err(Refusal::UnknownKind),
+            _ => Err(Refusal::NoKind),
         }
     }
 
@@ -120,7 +120,7 @@ impl Update {
             Update::Mark { u, wanted } => check_new(wanted, is_hidden(tables, u)),
             Update::Class { u, class } => {
                 if groups::number(tables.nodes, u, groups::CLASS) == class {
-                    return Err(Refusal::HeldAlready);
+                    return Err(Refusal::AlreadyHolds);
                 }
                 Ok(())
             }
