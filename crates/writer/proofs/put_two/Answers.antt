@@ -1,13 +1,22 @@
--- What stands in a part is what is written from its start on.
-use Rattle.std.specs.Prelude.{◌≡◌, List, ℕ, ◌+◌, ◌++◌, ◌≤◌, length, take, drop}
-use Rattle.std.proofs.Common.{arith, append_assoc}
-use Rattle.std.proofs.lemmas.List.Edits.{sets-eq}
-use Rattle.std.proofs.lemmas.List.{drop-drop}
+-- Two stores, one after the other.
+use Rattle.std.specs.Prelude.{◌≡◌, refl, List, [], ◌∷◌, ℕ, length}
+use Rattle.std.proofs.Common.{arith, sym, subst, length-set}
+use Rattle.std.proofs.Math.ListN.{get_or}
 use Rattle.buffers.specs.Wrote.{Wrote}
+use Rattle.layout.specs.FileLaws.{wrote_two}
 use Rattle.writer.proofs.put_two.Goals as goal
 
-wrote_part : (s bs r : List ℕ) (at k next : ℕ) → k ≡ length bs → next ≡ at + length bs → at + length bs ≤ length s → r ≡ bs → Wrote s at bs (take at s ++ (r ++ drop k (drop at s))) next
-wrote_part s bs r at k next e f h q = record { bytes = rw (q, e, drop-drop, sets-eq bs s at h, append_assoc); place = f }
+both : (bs : List ℕ) → length bs ≡ 2 → get_or bs 0 0 ∷ get_or bs 1 0 ∷ [] ≡ bs
+both (a ∷ (b ∷ [])) e = refl
+both [] e = absurd (omega (arith, e))
+both (a ∷ []) e = absurd (omega (arith, e))
+both (a ∷ (b ∷ (c ∷ d))) e = absurd (omega (arith, e))
+
+pub bounds-out-at-2 : goal.bounds-out-at-2
+bounds-out-at-2 c = simp length-set (omega arith)
+
+as-bytes : {s bs cs t : List ℕ} {at next : ℕ} → bs ≡ cs → Wrote s at bs t next → Wrote s at cs t next
+as-bytes {s} {t = t} {at} {next} e h = subst (λ (x : List ℕ). Wrote s at x t next) e h
 
 pub returns : goal.returns
-returns c = wrote_part _ _ _ _ _ _ (omega (arith, c.told-bytes)) (omega (arith, c.told-bytes)) (omega (arith, c.told-bytes)) c.copy_from_slice.ensures.after
+returns c = as-bytes (both c.args.bytes.now (omega (arith, c.told-bytes))) (wrote_two _ _ _ _)
