@@ -1,7 +1,7 @@
 // Each call of the index, and a line that says what came back.
 use answers::{Refusal, code};
 use std::io;
-use trial::lent::{Tables, front};
+use trial::memory::{Tables, front};
 use trial::say;
 use trial::script::{small, small_byte};
 

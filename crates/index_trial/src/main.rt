@@ -8,7 +8,7 @@ mod sweep;
 use rows::Graph;
 use std::io;
 use trial::batch;
-use trial::lent::{self, Tables};
+use trial::memory::{self, Tables};
 use trial::script::{Line, within};
 use trial::sizes::Sizes;
 

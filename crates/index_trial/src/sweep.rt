@@ -3,7 +3,7 @@ use crate::calls;
 use answers::code;
 use std::io;
 use trial::digest::{fold, fold_numbers};
-use trial::lent::Tables;
+use trial::memory::Tables;
 use trial::script::small;
 
 // The pair at place t of 0 1, 0 2, 1 2, 0 3, and so on: its lesser and its greater node.

@@ -2,7 +2,7 @@
 use answers::{Refusal, code};
 use std::io;
 use trial::digest::fold_numbers;
-use trial::lent::{Tables, front};
+use trial::memory::{Tables, front};
 use trial::say;
 use trial::script::small;
 use writer::Written;

@@ -9,7 +9,7 @@ mod sweep;
 use rows::Graph;
 use std::io;
 use std::rt::Files;
-use trial::lent::{Tables, front};
+use trial::memory::{Tables, front};
 use trial::script::{Line, small, within};
 use trial::sizes::Sizes;
 

@@ -5,7 +5,7 @@ use rows::Graph;
 use std::io;
 use trial::digest::{fold, fold_numbers};
 use trial::draws;
-use trial::lent::{Tables, batch_of, front};
+use trial::memory::{Tables, batch_of, front};
 use trial::script::{small, within};
 use writer::Written;
 

@@ -4,7 +4,7 @@
 pub mod batch;
 pub mod digest;
 pub mod draws;
-pub mod lent;
+pub mod memory;
 pub mod say;
 pub mod script;
 pub mod sizes;

@@ -1,6 +1,6 @@
 // Words and numbers on standard output.
 use crate::digest::{code_of, fold_answers, fold_numbers, fold_words};
-use crate::lent::Tables;
+use crate::memory::Tables;
 use crate::script::within;
 use std::io;
 
