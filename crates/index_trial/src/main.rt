@@ -45,7 +45,7 @@ fn poke(line: &Line, tables: &mut Tables, store: &mut [u64]) {
         b'f' => tables.flip(a, b),
         b'p' => tables.put_number(a, b),
         b'k' => tables.put_key(a, b),
-        b'P' => lent::put_word(store, a, b),
+        b'P' => memory::put_word(store, a, b),
         _ => {}
     }
 }
@@ -59,7 +59,7 @@ fn execute(
     store: &mut [u64],
     batch: &mut [u16],
 ) -> io::Result<()> {
-    let store = lent::front(store, sizes.store);
+    let store = memory::front(store, sizes.store);
     let name = calls::name_of(line.numbers[1]);
     let end = within(sizes.name, name.len());
     let count = within(sizes.own, batch.len());
