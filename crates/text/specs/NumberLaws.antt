@@ -48,12 +48,13 @@ number_shapeless s h = no-number s (rw (is_number_lem s, h))
 
 -- after i digits the value is v, and the digits from i on decide the rest
 pub record Digits (s : List ℕ) (v i : ℕ) : Type 0 where
+  pub within : i ≤ length s
   pub small : v ≤ 65535
   pub value : value_of v (drop i s) ≡ value_of 0 s
   pub digits : all (drop i s) is_digit ≡ all s is_digit
 
 pub digits_start : (s : List ℕ) → Digits s 0 0
-digits_start s = record { small = omega arith; value = refl; digits = refl }
+digits_start s = record { within = omega arith; small = omega arith; value = refl; digits = refl }
 
 value_cons : (s : List ℕ) (v i : ℕ) → i < length s → value_of v (drop i s) ≡ value_of (10 * v + (get_or s i 0 - 0x30)) (drop (i + 1) s)
 unfolding value_of
@@ -88,6 +89,7 @@ module _ {s : List ℕ} {v i : ℕ} (x : Digits s v i) (h : i < length s) where
 
     pub digits_step : {w : ℕ} → w ≡ 10 * v + d → w ≤ 65535 → Digits s w (i + 1)
     digits_step l small = record {
+      within = omega arith;
       small = small;
       value = rw l value_next;
       digits = sym (all_cons s i h ∙ rw e.0) ∙ x.digits;

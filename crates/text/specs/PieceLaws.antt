@@ -17,7 +17,7 @@ pieces_one sep [] f = refl
 pieces_one sep (b ∷ bs) f = rw (ne_eqb b sep (f 0 (omega arith)), pieces_one sep bs (λ k h. f (suc k) (omega arith)))
 
 -- a separator ends the first piece and begins the next
-pieces_more : (sep : ℕ) (s : List ℕ) (i : ℕ) → i < length s → get_or s i 0 ≡ sep → ((k : ℕ) → k < i → get_or s k 0 ≢ sep) → pieces sep s ≡ take i s ∷ pieces sep (drop (suc i) s)
+pub pieces_more : (sep : ℕ) (s : List ℕ) (i : ℕ) → i < length s → get_or s i 0 ≡ sep → ((k : ℕ) → k < i → get_or s k 0 ≢ sep) → pieces sep s ≡ take i s ∷ pieces sep (drop (suc i) s)
 unfolding pieces before
 pieces_more sep [] i h e f = absurd (omega arith)
 pieces_more sep (b ∷ bs) zero h e f = rw (eq-eqb b sep e)
