@@ -49,7 +49,7 @@ groups_next (suc j) p s h = let e : suc j - 1 ≡ j = omega arith in rw (e, ← 
 groups_at : (k i p : ℕ) (s : List ℕ) → i < k → group_texts (k - i) (drop p s) ≡ group_text (drop p s) ++ group_texts (k - (i + 1)) (drop (next_group s p) s)
 groups_at k i p s h = let e : k - i - 1 ≡ k - (i + 1) = omega arith in rw (← e) (groups_next (k - i) p s (omega arith))
 
-after_next : (k p : ℕ) (s : List ℕ) → 0 < k → after_groups k (drop p s) ≡ after_groups (k - 1) (drop (next_group s p) s)
+pub after_next : (k p : ℕ) (s : List ℕ) → 0 < k → after_groups k (drop p s) ≡ after_groups (k - 1) (drop (next_group s p) s)
 unfolding after_groups
 after_next zero p s h = absurd (omega arith)
 after_next (suc j) p s h = let e : suc j - 1 ≡ j = omega arith in rw (e, ← after_group p s)
