@@ -1,7 +1,7 @@
 -- Further laws of these definitions, which no proof here cites.
 use Rattle.std.specs.Prelude.{◌≡◌, List, ℕ, ◌^◌, ltb, take, refl, zero, suc, ◌+◌, ◌≤◌, ◌<◌, length, get_or, replicate, Bool, true, false, ◌&&◌, [], ◌∷◌}
 use Rattle.model.specs.Lists.{all}
-use Rattle.std.proofs.Common.{sym, ◌∙◌, arith, get_or-take, length-take-le, ap, subst, pow_pos, take_all, lt-ltb, ltb-true}
+use Rattle.std.proofs.Common.{sym, ◌∙◌, arith, ap, subst, pow_pos, take_all, lt-ltb, ltb-true}
 use Rattle.std.proofs.lemmas.List.{get_or-replicate, length-replicate}
 use Rattle.buffers.specs.Filled.{Filled}
 use Rattle.buffers.specs.FilledLaws.{filled_is}
@@ -12,9 +12,6 @@ use Rattle.model.proofs.TestLaws.{and_fst, and_snd, and_true, iff_eq}
 -- u is the union of the first i words, as far as powers of two tell
 pub record United (s : List ℕ) (i u : ℕ) : Type 0 where
   pub below : (k : ℕ) → ltb u (2 ^ k) ≡ all (take i s) (λ x. ltb x (2 ^ k))
-
-pub copied : (from : List ℕ) {i : ℕ} {t t₁ : List ℕ} → Filled (λ j. get_or from j 0) i t t₁ → length t ≤ i → length t ≤ length from → t₁ ≡ take (length t) from
-copied from {i} {t} a h l = filled_is (take (length t) from) a h (length-take-le (length t) from l) (λ j k. get_or-take (length t) from j 0 k)
 
 pub cleared : {i : ℕ} {t t₁ : List ℕ} → Filled (λ j. 0) i t t₁ → length t ≤ i → t₁ ≡ replicate (length t) 0
 cleared {i} {t} a h = filled_is (replicate (length t) 0) a h (length-replicate (length t) 0) (λ j k. get_or-replicate (length t) j 0 0 k)

@@ -1,6 +1,6 @@
 -- The loops that fill a list from the front, and the lists that they leave.
-use Rattle.std.specs.Prelude.{◌≡◌, refl, List, ℕ, zero, suc, ◌+◌, ◌≤◌, ◌<◌, length, get_or, replicate, set}
-use Rattle.std.proofs.Common.{sym, ◌∙◌, arith, length-set, ext_get_or}
+use Rattle.std.specs.Prelude.{◌≡◌, refl, List, ℕ, zero, suc, ◌+◌, ◌≤◌, ◌<◌, length, get_or, replicate, set, take}
+use Rattle.std.proofs.Common.{sym, ◌∙◌, arith, length-set, ext_get_or, get_or-take, length-take-le}
 use Rattle.buffers.specs.Filled.{Filled}
 use Rattle.buffers.specs.StoreLaws.{stored}
 
@@ -16,6 +16,9 @@ filled-all a h = record { size = a.size; numbers = λ j l. a.numbers j (omega ar
 -- filled to its end, it is the list of that length with those numbers
 pub filled_is : {f : ℕ → ℕ} {i : ℕ} {t t₁ : List ℕ} (s : List ℕ) → Filled f i t t₁ → length t ≤ i → length s ≡ length t → ((j : ℕ) → j < length t → get_or s j 0 ≡ f j) → t₁ ≡ s
 filled_is {f} {i} {t} {t₁} s a h l e = ext_get_or 0 t₁ s (a.size ∙ sym l) (λ j k. a.numbers j (omega (arith, a.size)) ∙ sym (e j (omega (arith, a.size))))
+
+pub copied : (from : List ℕ) {i : ℕ} {t t₁ : List ℕ} → Filled (λ j. get_or from j 0) i t t₁ → length t ≤ i → length t ≤ length from → t₁ ≡ take (length t) from
+copied from {i} {t} a h l = filled_is (take (length t) from) a h (length-take-le (length t) from l) (λ j k. get_or-take (length t) from j 0 k)
 
 -- a cleared list has no other number
 pub get_d_zeros : (k i : ℕ) → ◌≡◌ {A = ℕ} (get_or (replicate k 0) i 0) 0
