@@ -132,7 +132,11 @@ fn copy_row(edges: &mut [u64], l: usize, p: usize)
     ensures { RowCopied l p edges.old edges.new }
 {
     let a = Graph::ROW_WORDS * l;
-    edges.copy_within(a..a + Graph::ROW_WORDS, Graph::ROW_WORDS * p);
+    let b = Graph::ROW_WORDS * p;
+    // Word by word: `copy_within` asks the linker for one function more.
+    for w in 0..Graph::ROW_WORDS {
+        edges[b + w] = edges[a + w];
+    }
 }
 
 // The row of p by that of its first member l: in a clique their own bits differ.
