@@ -130,6 +130,27 @@ module _ {n : ℕ} {edges : List ℕ} {p : ℕ} where
     pub walk-sum : w ≡ 8 → n ≤ 512 → sum ≡ row_key n edges p
     walk-sum e l = adding_done h.adding e l
 
+-- a walk that judges the bits of a word together: those passed are mirrored, or the row does not pass
+abbrev pub Judging : ℕ → List ℕ → ℕ → ℕ → ℕ → Bool → Type 0
+Judging n edges p w x held = ((held ≡ true) × ((sum : ℕ) × Walking n edges p w x sum)) ⊎ ((held ≡ false) × (false ≡ row_holds n edges p))
+
+module _ {n : ℕ} {edges : List ℕ} {p w x : ℕ} {held : Bool} where
+  pub judge_on : {t y : ℕ} → Judging n edges p w x held → Cleared x t y → w < 8 → (b : Bool) → b ≡ mirrored n edges p (64 * w + t) → Judging n edges p w y (held && b)
+  judge_on {t} {y} (inl (e, (sum, h))) cut l b m = step (decide b)
+    where
+      step : (b ≡ true) ⊎ (b ≡ false) → Judging n edges p w y (held && b)
+      step (inl z) = inl (rw (e, z), (_, walk_on h cut b m (ap not z) refl refl))
+      step (inr z) = inr (rw (e, z), walk_fails h cut b l m (ap not z))
+  judge_on (inr (e, f)) cut l b m = inr (rw e, f)
+
+  pub judged_well : Judging n edges p w x held → held ≡ true → (sum : ℕ) × Walking n edges p w x sum
+  judged_well (inl (e, h)) t = h
+  judged_well (inr (e, f)) t = differ t e
+
+  pub judged_ill : Judging n edges p w x held → held ≡ false → false ≡ row_holds n edges p
+  judged_ill (inl (e, h)) t = differ e t
+  judged_ill (inr (e, f)) t = f
+
 pub same_of : {a b : List ℕ} → a ≡ b → same_list a b ≡ true
 same_of {a} {b} e = subst (λ x. same_list a x ≡ true) e (same_refl a)
 
