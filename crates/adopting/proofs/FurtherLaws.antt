@@ -1,12 +1,17 @@
 -- Further laws of these definitions, which no proof here cites.
-use Rattle.std.specs.Prelude.{◌≡◌, refl, Bool, true, false, cond, List, ◌⊎◌, ℕ, ◌+◌, ◌≤◌, ◌<◌, eqb, get_or, length, set}
+use Rattle.std.specs.Prelude.{◌≡◌, refl, Bool, true, false, cond, List, ◌⊎◌, ℕ, ◌+◌, ◌≤◌, ◌<◌, eqb, get_or, length, set, Some, None}
 use Rattle.std.proofs.Common.{sym, ◌∙◌, inl, inr, arith, length-set, get_or-set_other, get_or-set_same, eqb-true, eq-eqb, ne_eqb}
 use Rattle.std.proofs.lemmas.Bool.{eqb-false}
 use Rattle.model.proofs.TestLaws.{decide}
 use Rattle.rows.specs.Rows.{leads}
-use Rattle.adopting.specs.Adopting.{NumbersRenamed, is_bare, is_hidden, is_isolated}
+use Rattle.adopting.specs.Adopting.{First, NumbersRenamed, is_bare, is_hidden, is_isolated}
 
 -- the first that passes
+pub first_is : {P : ℕ → Bool} {n p : ℕ} → p < n → ((k : ℕ) → k < p → P k ≡ false) → P p ≡ true → First P n (Some p)
+first_is l h e = (l, e, h)
+
+pub first_no : {P : ℕ → Bool} {n p : ℕ} → n ≤ p → ((k : ℕ) → k < p → P k ≡ false) → First P n None
+first_no l h = λ k a. h k (omega arith)
 
 pub hidden_not : (first : List ℕ) (p : ℕ) → (get_or first p 0 ≡ 65535 → ⊥) → is_hidden first p ≡ false
 unfolding is_hidden

@@ -1,1 +1,3 @@
+pub mod DiffLaws
+pub mod FurtherLaws
 pub mod WalkLaws

@@ -8,7 +8,8 @@ use Rattle.std.proofs.Math.Decide.{ℕ_discrete}
 use Rattle.std.proofs.Math.ListN.{length, get_or, length-set}
 use Rattle.std.proofs.Math.Seq.{get_or-set_same, get_or-set_other}
 use Rattle.model.specs.Grouping.{cube}
-use Rattle.opening.specs.Open.{ring_next, ring_prev, NodesFilled, KeysFilled}
+use Rattle.model.specs.Tables.{node_number}
+use Rattle.opening.specs.Open.{ring_next, ring_prev, NodePut, NodesFilled, KeysFilled}
 
 -- five stores at node p
 module _ (t : List ℕ) (p x y : ℕ) (fits : node_numbers * p + node_numbers ≤ length t) where
@@ -17,6 +18,20 @@ module _ (t : List ℕ) (p x y : ℕ) (fits : node_numbers * p + node_numbers �
 
 pub filled_none : (n : ℕ) (t : List ℕ) → NodesFilled n 0 t t
 filled_none n t = record { size = refl; least = λ p h. absurd (omega arith); next = λ p h. absurd (omega arith); prev = λ p h. absurd (omega arith); mark = λ p h. absurd (omega arith); class = λ p h. absurd (omega arith) }
+
+pub filled_more : {n i x y : ℕ} {t t₁ t₂ : List ℕ} → NodesFilled n i t t₁ → x ≡ ring_next n i → y ≡ ring_prev n i → NodePut i x y t₁ t₂ → NodesFilled n (i + 1) t t₂
+filled_more {n} {i} {x} {y} {t} {t₁} {t₂} a ex ey b = record {
+  size = b.size ∙ a.size;
+  least = λ p h. one 0 p (omega arith) (λ q. 0) b.least_at (a.least p) h (ℕ_discrete p i);
+  next = λ p h. one 1 p (omega arith) (ring_next n) (b.next_at ∙ ex) (a.next p) h (ℕ_discrete p i);
+  prev = λ p h. one 2 p (omega arith) (ring_prev n) (b.prev_at ∙ ey) (a.prev p) h (ℕ_discrete p i);
+  mark = λ p h. one 3 p (omega arith) (λ q. 0) b.mark_at_lem (a.mark p) h (ℕ_discrete p i);
+  class = λ p h. one 4 p (omega arith) (λ q. 0) b.class_at_lem (a.class p) h (ℕ_discrete p i);
+}
+  where
+    one : (k p : ℕ) → k < node_numbers → (f : ℕ → ℕ) → node_number t₂ i k ≡ f i → (p < i → node_number t₁ p k ≡ f p) → p < i + 1 → Dec (p ≡ i) → node_number t₂ p k ≡ f p
+    one k p hk f at old h (yes d) = rw d at
+    one k p hk f at old h (no d) = b.off p k d hk ∙ old (omega arith)
 
 pub keys_none : (t : List ℕ) → KeysFilled 0 t t
 keys_none t = record { size = refl; opened = λ p h. absurd (omega arith); closed = λ p h. absurd (omega arith) }

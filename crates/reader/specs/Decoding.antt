@@ -138,11 +138,12 @@ pub record GroupsHeld (n g : ℕ) (s : List ℕ) (from next : ℕ) (least firsts
   pub ascend : FirstsAscend n g firsts
   pub rest : drop next s ≡ bytes_after s from g
 
-pub record GroupsRead (n g : ℕ) (c : Counts) (s : List ℕ) (from : ℕ) (least firsts kinds classes : List ℕ) (r : Option Rest) : Type 0 where
+pub record GroupsRead (n g : ℕ) (c : Counts) (s : List ℕ) (from : ℕ) (least firsts₀ firsts kinds classes : List ℕ) (r : Option Rest) : Type 0 where
   pub result : r ≡ groups_read n g (λ p. false) 0 c s from
   pub nodes : length least ≡ max_nodes
   pub groups : length kinds ≡ max_nodes
   pub labels : length classes ≡ max_nodes
+  pub size : length firsts ≡ length firsts₀
   pub held : (a : Rest) → r ≡ Some a → GroupsHeld n g s from a.next least firsts kinds classes
 
 -- the first place, among at most k records, without a superedge in order, and the superedges before it

@@ -114,10 +114,10 @@ groups_count s at k = count k (drop at s)
     count (suc k) t = ap suc (count k (drop (2 * u16_at t 2) (drop 6 t)))
 
 -- the body
-module _ (s : List ℕ) (from n m g : ℕ) (least₀ least firsts kinds₀ kinds classes₀ classes joined₀ : List ℕ) (r : Option Rest) (eight : from ≡ 8) (count : length firsts ≡ g) (blank : Blank s least₀ kinds₀ classes₀ joined₀)
-    (room : StripsFor n (length joined₀)) (read : GroupsRead n (length firsts) (record { members = m; groups = g }) s from least firsts kinds classes r) where
-  groups : GroupsRead n g (record { members = m; groups = g }) s 8 least firsts kinds classes r
-  groups = subst (λ (x : ℕ). GroupsRead n g (record { members = m; groups = g }) s x least firsts kinds classes r) eight (subst (λ (x : ℕ). GroupsRead n x (record { members = m; groups = g }) s from least firsts kinds classes r) count read)
+module _ (s : List ℕ) (from n m g : ℕ) (least₀ least firsts₀ firsts kinds₀ kinds classes₀ classes joined₀ : List ℕ) (r : Option Rest) (eight : from ≡ 8) (blank : Blank s least₀ kinds₀ classes₀ joined₀)
+    (room : StripsFor n (length joined₀)) (read : GroupsRead n g (record { members = m; groups = g }) s from least firsts₀ firsts kinds classes r) where
+  groups : GroupsRead n g (record { members = m; groups = g }) s 8 least firsts₀ firsts kinds classes r
+  groups = subst (λ (x : ℕ). GroupsRead n g (record { members = m; groups = g }) s x least firsts₀ firsts kinds classes r) eight read
 
   pub body_broken : {sums₀ : List ℕ} → sums₀ ≡ replicate (2 * max_nodes) 0 → r ≡ None → BodyRead s n m g least kinds classes joined₀ sums₀ false
   body_broken {sums₀} none e = record {
@@ -136,16 +136,16 @@ module _ (s : List ℕ) (from n m g : ℕ) (least₀ least firsts kinds₀ kinds
     held : GroupsHeld n g s 8 after.next least firsts kinds classes
     held = groups.held after is
 
-    pub body_placed : n ≤ max_nodes → g ≤ max_nodes → FirstsPlaced (length firsts) (length joined₀) firsts
-    body_placed nodes few = record {
-      few = omega arith;
-      size = omega arith;
-      small = λ i h. omega (arith, held.ascend.small i (omega arith));
-      rows = λ i h. omega (arith, held.ascend.small i (omega arith), room.enough);
+    pub body_placed : n ≤ max_nodes → g ≤ max_nodes → g ≤ length firsts₀ → FirstsPlaced g (length joined₀) firsts
+    body_placed nodes few l = record {
+      few = few;
+      size = let e = groups.size in omega arith;
+      small = λ i h. omega (arith, held.ascend.small i h);
+      rows = λ i h. omega (arith, held.ascend.small i h, room.enough);
     }
 
-    pub body_ascend : FirstsAscend n (length firsts) firsts
-    body_ascend = subst (λ (x : ℕ). FirstsAscend n x firsts) (sym count) held.ascend
+    pub body_ascend : FirstsAscend n g firsts
+    body_ascend = held.ascend
 
     -- each first member is a node
     pub body_nodes : n ≤ max_nodes → FirstsAreNodes n least
@@ -172,8 +172,8 @@ module _ (s : List ℕ) (from n m g : ℕ) (least₀ least firsts kinds₀ kinds
                 let k = ltb-false (place p) g u in
                 absurd (eqb-false (get_or least p 0) no_node led (held.first p here ∙ first_member_none (groups_from s 8 g) p (omega (arith, k, groups_count s 8 g))))
 
-    pub body_read : (joined sums : List ℕ) (at : ℕ) (b : Bool) → JoinedRead n (length firsts) s after.next least firsts joined₀ joined sums at → b ≡ ends_at after.left s at → BodyRead s n m g least kinds classes joined sums b
-    body_read joined sums at b told e = record {
+    pub body_read : (joined sums : List ℕ) (at : ℕ) (b : Bool) → JoinedRead n g s after.next least firsts joined₀ joined sums at → b ≡ ends_at after.left s at → BodyRead s n m g least kinds classes joined sums b
+    body_read joined sums at b x e = record {
       result = e ∙ ap (ends_at after.left s) x.place ∙ sym (unfold body_fits in rw (← groups.result, is));
       nodes = groups.nodes;
       groups = groups.groups;
@@ -194,9 +194,6 @@ module _ (s : List ℕ) (from n m g : ℕ) (least₀ least firsts kinds₀ kinds
       summed = λ t. x.summed;
     }
       where
-        x : JoinedRead n g s after.next least firsts joined₀ joined sums at
-        x = subst (λ (k : ℕ). JoinedRead n k s after.next least firsts joined₀ joined sums at) count told
-
         pairs : b ≡ true → pairs_to g s 0 (length s) after.next ≡ superedges_at (length s) (bytes_after s 8 g)
         pairs t = pairs-told g s (length s) 0 after.next (is_end after.left s (stop_at g s 0 (length s) after.next) (ap (ends_at after.left s) (sym x.place) ∙ sym e ∙ t)) ∙ ap (superedges_at (length s)) held.rest
 

@@ -645,15 +645,16 @@ module _ (n g : ℕ) (c : Counts) (s : List ℕ) (from : ℕ) where
           passed k h (inr e) = rw (get_or-set_other firsts i k took.first 0 (eqb-false k i e)) (omega (arith, before.passed k (omega (arith, eqb-false k i e)), told.from))
 
   -- what the function hands back: all groups, or none
-  pub groups_none : (least firsts kinds classes : List ℕ) → length least ≡ max_nodes → length kinds ≡ max_nodes → length classes ≡ max_nodes → None ≡ groups_read n g (λ p. false) 0 c s from → GroupsRead n g c s from least firsts kinds classes None
-  groups_none least firsts kinds classes a b v e = record { result = e; nodes = a; groups = b; labels = v; held = λ a f. absurd (none-some a f) }
+  pub groups_none : (least firsts₀ firsts kinds classes : List ℕ) → length least ≡ max_nodes → length kinds ≡ max_nodes → length classes ≡ max_nodes → length firsts ≡ length firsts₀ → None ≡ groups_read n g (λ p. false) 0 c s from → GroupsRead n g c s from least firsts₀ firsts kinds classes None
+  groups_none least firsts₀ firsts kinds classes a b v h e = record { result = e; nodes = a; groups = b; labels = v; size = h; held = λ a f. absurd (none-some a f) }
 
-  pub groups_all : (i low : ℕ) (left : Counts) (at : ℕ) (least firsts kinds classes : List ℕ) → i ≡ g → GroupsLeft n g c s from i low left at least firsts kinds classes → GroupsRead n g c s from least firsts kinds classes (Some (record { next = at; left = left }))
-  groups_all i low left at least firsts kinds classes last x = record {
+  pub groups_all : (i low : ℕ) (left : Counts) (at : ℕ) (least firsts₀ firsts kinds classes : List ℕ) → i ≡ g → length firsts ≡ length firsts₀ → GroupsLeft n g c s from i low left at least firsts kinds classes → GroupsRead n g c s from least firsts₀ firsts kinds classes (Some (record { next = at; left = left }))
+  groups_all i low left at least firsts₀ firsts kinds classes last a x = record {
     result = sym (if_whole (g - i) none) ∙ x.result;
     nodes = x.nodes;
     groups = x.kind.size;
     labels = x.class.size;
+    size = a;
     held =
         λ a e.
         let f : a.next ≡ at = sym (ap (λ (x : Rest). x.next) (same_Some (record { next = at; left = left }) a e)) in

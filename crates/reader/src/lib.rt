@@ -144,7 +144,7 @@ fn read_groups(
     firsts: &mut [u16],
 ) -> Option<Rest>
     requires { (n ≤ max_nodes) × (length firsts.old ≤ max_nodes) × (groups.old.least ≡ replicate max_nodes no_node) × (groups.old.kinds ≡ replicate max_nodes single) × (groups.old.classes ≡ replicate max_nodes 0) }
-    ensures read { GroupsRead n (length firsts.new) counts file.now from groups.new.least firsts.new groups.new.kinds groups.new.classes result }
+    ensures read { GroupsRead n (length firsts.new) counts file.now from groups.new.least firsts.old firsts.new groups.new.kinds groups.new.classes result }
     ensures sums { groups.new.sums ≡ groups.old.sums }
 {
     let mut at = from;
@@ -322,6 +322,33 @@ fn read_body(
     is_end(file, at, rest.left)
 }
 
+// The graph of a file whose head was just read, from what follows the head: how many nodes it has, or none if the bytes are no release.
+fn graph_at(
+    file: &[u8],
+    at: usize,
+    head: Record,
+    groups: &mut Groups,
+    joined: &mut [u64],
+) -> Option<usize>
+    requires { AfterHead file.now at head × BlankGroups file.now groups.old joined.old }
+    ensures decodes { Decodes file.now groups.new.least groups.new.kinds groups.new.classes joined.new result }
+    ensures sums_kept { SumsKept file.now groups.new.least joined.new groups.new.sums }
+{
+    let Record::Head { n, m, g } = head else {
+        return None;
+    };
+    let nodes = usize::from(n);
+    let visible = usize::from(m);
+    let count = usize::from(g);
+    if !head_fits(nodes, visible, count) {
+        return None;
+    }
+    if !read_body(file, at, nodes, visible, count, groups, joined) {
+        return None;
+    }
+    Some(nodes)
+}
+
 // The lent file beside the next unread place.
 #[derive(Clone, Copy)]
 pub struct Reader<'a> {
@@ -360,19 +387,7 @@ impl<'a> Reader<'a> {
         ensures decodes { Decodes self.entry.file.now groups.new.least groups.new.kinds groups.new.classes joined.new result }
         ensures sums_kept { SumsKept self.entry.file.now groups.new.least joined.new groups.new.sums }
     {
-        let Record::Head { n, m, g } = head else {
-            return None;
-        };
-        let nodes = usize::from(n);
-        let visible = usize::from(m);
-        let count = usize::from(g);
-        if !head_fits(nodes, visible, count) {
-            return None;
-        }
-        if !read_body(self.file, self.at, nodes, visible, count, groups, joined) {
-            return None;
-        }
-        Some(nodes)
+        graph_at(self.file, self.at, head, groups, joined)
     }
 }
 

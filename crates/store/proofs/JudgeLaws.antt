@@ -277,10 +277,10 @@ module _ (n : ℕ) (w : List ℕ) (size : length w ≡ place_words n) {x y : Lis
   rest_part : take (length w - 3) (drop 3 w) ≡ drop 3 w
   rest_part = take_all (length w - 3) (drop 3 w) (omega (arith, length-drop 3 w))
 
-  edges_part : x ≡ take (row_words * n) (drop 3 w)
+  pub edges_part : x ≡ take (row_words * n) (drop 3 w)
   edges_part = edges ∙ ap (take (row_words * n)) rest_part
 
-  nodes_part : y ≡ drop (3 + row_words * n) w
+  pub nodes_part : y ≡ drop (3 + row_words * n) w
   nodes_part = nodes ∙ ap (drop (row_words * n)) rest_part ∙ drop-drop (row_words * n) 3 w
 
   module _ (h : place_holds n w ≡ true) (small : n ≤ max_nodes) (words : Words w) (used : get_or w 0 0 ≡ 1) where

@@ -1,2 +1,3 @@
+pub mod FurtherLaws
 pub mod JudgeLaws
 pub mod StoredLaws

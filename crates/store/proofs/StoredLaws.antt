@@ -35,7 +35,7 @@ use Rattle.store.proofs.JudgeLaws.{passed, place_size, readable}
 use Rattle.store.specs.Stored.{Judged, Put, Read, Written, fill_reasons, name_reasons, kept_reasons, store_reasons, stored}
 
 -- a name is lent as bytes
-bytes_all : (s : List ℕ) → ((i : ℕ) → get_or s i 0 < 256) → all s (λ b. ltb b 256) ≡ true
+pub bytes_all : (s : List ℕ) → ((i : ℕ) → get_or s i 0 < 256) → all s (λ b. ltb b 256) ≡ true
 unfolding all
 bytes_all [] h = refl
 bytes_all (x ∷ xs) h = and_true (lt-ltb x 256 (h 0)) (bytes_all xs (λ i. h (suc i)))

@@ -11,7 +11,7 @@ ghost use Rattle.tables.specs.Lent.{Sized, filled};
 ghost use Rattle.answers.specs.Numbers.{code};
 ghost use Rattle.places.specs.Places.{SizedStore};
 ghost use Rattle.store.specs.Judging.{place_holds};
-ghost use Rattle.store.specs.Stored.{Put, Read, Written, name_reasons, store_reasons, stored};
+ghost use Rattle.store.specs.Stored.{Put, Read, Written, fill_reasons, kept_reasons, name_reasons, store_reasons, stored};
 
 use answers::Refusal;
 use places::{Name, STATE, Store};
@@ -41,6 +41,45 @@ fn check<'a>(n: usize, store: &'a [u64], name: &[u8]) -> Result<(Store<'a>, Name
         return Err(Refusal::NoGraph);
     }
     Ok((kept, name))
+}
+
+// The same, where tables are lent too, whatever they hold.
+fn restorable<'a>(
+    n: usize,
+    edges: &[u64],
+    nodes: &[u16],
+    keys: &[u32],
+    store: &'a [u64],
+    name: &[u8],
+) -> Result<(Store<'a>, Name), Refusal>
+    ensures number { code result ≡ first_of (fill_reasons n (lent edges.now nodes.now keys.now) store.now name.now []) }
+    ensures same { IfOk result (λ (s, m). Read n store.now name.now s m) }
+{
+    if !tables::right_size(n, edges, nodes, keys) {
+        return Err(Refusal::WrongSize);
+    }
+    check(n, store, name)
+}
+
+// And where they must hold a graph.
+fn keepable<'a, 'b>(
+    n: usize,
+    edges: &'a [u64],
+    nodes: &'a [u16],
+    keys: &'a [u32],
+    store: &'b [u64],
+    name: &[u8],
+) -> Result<(Tables<'a>, Store<'b>, Name), Refusal>
+    ensures number { code result ≡ first_of (kept_reasons n (lent edges.now nodes.now keys.now) store.now name.now []) }
+    ensures tables { IfOk result (λ (t, s, m). (t.n ≡ n) × (t.edges ≡ edges.entry) × (t.nodes ≡ nodes.entry) × (t.keys ≡ keys.entry)) }
+    ensures same { IfOk result (λ (t, s, m). Read n store.now name.now s m) }
+{
+    let (kept, name) = named(n, store, name)?;
+    let tables = tables::check(n, edges, nodes, keys)?;
+    if !soundness::is_store(&kept) {
+        return Err(Refusal::NoGraph);
+    }
+    Ok((tables, kept, name))
 }
 
 // The first words of a used place.
@@ -86,11 +125,7 @@ pub fn keep(
 ) -> Result<(), Refusal>
     ensures { stored (code result) store.new ≡ keep_call n (lent edges.now nodes.now keys.now) store.old name.now }
 {
-    let (kept, name) = named(n, store, name)?;
-    let tables = tables::check(n, edges, nodes, keys)?;
-    if !soundness::is_store(&kept) {
-        return Err(Refusal::NoGraph);
-    }
+    let (tables, kept, name) = keepable(n, edges, nodes, keys, store, name)?;
     if kept.find(name, 0).is_some() {
         return Err(Refusal::AlreadyKept);
     }
@@ -119,10 +154,7 @@ pub fn restore(
 ) -> Result<(), Refusal>
     ensures { filled (code result) (lent edges.new nodes.new keys.new) ≡ restore_call n (lent edges.old nodes.old keys.old) store.now name.now }
 {
-    if !tables::right_size(n, edges, nodes, keys) {
-        return Err(Refusal::WrongSize);
-    }
-    let (kept, name) = check(n, store, name)?;
+    let (kept, name) = restorable(n, edges, nodes, keys, store, name)?;
     let i = kept.find(name, 0).ok_or(Refusal::NotKept)?;
     fill(n, kept.place(i), edges, nodes, keys);
     Ok(())

@@ -14,7 +14,7 @@ returns-in_err-group c =
     record {
       read =
           simp (length-set, c.loop-first.auto.first-items, c.from_residual.ensures)
-          (groups_none _ _ _ _ _ _ _ _ _ (c.take_group.ensures.taken.size ∙ before.nodes) before.kind.size before.class.size
+          (groups_none _ _ _ _ _ _ _ _ _ _ (c.take_group.ensures.taken.size ∙ before.nodes) before.kind.size before.class.size (simp length-set c.loop-first.auto.first-items)
           (groups_broken _ _ _ _ _ _ _ _ _ _ _ _ _ (omega arith) before _ _ c.take_group.ensures.taken c.in_err-group.was));
       sums = c.loop-first.invariant.sums;
     }
@@ -26,4 +26,4 @@ loop-first-preserved c = record {
 }
 
 pub returns : goal.returns
-returns c = record { read = rw c.loop-first.auto.first-items (groups_all _ _ _ _ _ _ _ _ _ _ _ _ _ (omega arith) c.loop-first.invariant.read); sums = c.loop-first.invariant.sums }
+returns c = record { read = rw c.loop-first.auto.first-items (groups_all _ _ _ _ _ _ _ _ _ _ _ _ _ _ (omega arith) c.loop-first.auto.first-items c.loop-first.invariant.read); sums = c.loop-first.invariant.sums }

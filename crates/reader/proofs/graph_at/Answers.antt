@@ -1,9 +1,9 @@
--- `reader::Reader::graph` meets its contract.
+-- `reader::graph_at` meets its contract.
 use mathlib.Core.Path.{◌≡◌, ◌∙◌, sym}
 use Rattle.records.specs.declared.Record.TheVariants.{Head}
 use Rattle.reader.specs.DecodingLaws.{after_head, decode-graph, head_room, no_head, sized_g, sized_n, wrong_body, wrong_size_lem}
-use Rattle.reader.proofs.Reader.graph.Goals as goal
-use Rattle.reader.proofs.Reader.graph.Goals.{After-from-count}
+use Rattle.reader.proofs.graph_at.Goals as goal
+use Rattle.reader.proofs.graph_at.Goals.{After-from-count}
 
 -- the head's numbers, as they are compared
 numbers : (c : After-from-count) → c.args.head ≡ Head c.from-nodes.result c.from-visible.result c.from-count.result
