@@ -349,7 +349,7 @@ fn write_file(
 
 // What is known of a file before its first byte: document 01's m, g and s, the length, and the least members as a set of bits.
 #[derive(Clone, Copy)]
-struct Sizes {
+pub struct Sizes {
     pub nodes: usize,
     pub groups: usize,
     pub superedges: usize,
