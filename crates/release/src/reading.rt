@@ -44,6 +44,7 @@ fn fill_keys(n: usize, few: bool, groups: &mut Groups, edges: &[u64], keys: &mut
 }
 
 // The tables of a graph held by its groups, whose sums were kept if superedges are few. Their first members become those of all nodes.
+#[inline(never)]
 pub fn fill(
     n: usize,
     few: bool,
