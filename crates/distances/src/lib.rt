@@ -93,6 +93,7 @@ fn search(joined: &[u64], n: usize, i: usize, j: usize) -> Option<u16>
 }
 
 // The distance of two nodes: that of their groups, or by the kind and the superedges of the one that they share.
+// Not inlined, so that its caller keeps the groups of a file where they are made and copies none of them.
 #[inline(never)]
 pub fn distance(least: &[u16], kinds: &[u16], joined: &[u64], n: usize, p: usize, q: usize) -> u16
     requires { Compressed n least.now kinds.now joined.now × (placed n least.now p ≡ true) × (placed n least.now q ≡ true) }

@@ -44,6 +44,7 @@ fn fill_keys(n: usize, few: bool, groups: &mut Groups, edges: &[u64], keys: &mut
 }
 
 // The tables of a graph held by its groups, whose sums were kept if superedges are few. Their first members become those of all nodes.
+// Not inlined, so that its caller keeps the groups of a file where they are made and copies none of them.
 #[inline(never)]
 pub fn fill(
     n: usize,
