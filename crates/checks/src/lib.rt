@@ -234,7 +234,8 @@ fn nodes_hold(nodes: &[u16], n: usize) -> bool
     true
 }
 
-// Whether the tables hold a graph of n nodes.
+// Whether the tables hold a graph of n nodes. Not inlined, so that `tables::check` can be.
+#[inline(never)]
 pub fn hold(edges: &[u64], nodes: &[u16], keys: &[u32], n: usize) -> bool
     requires { (n ≤ max_nodes) × (length edges.now ≡ row_words * n) × (length nodes.now ≡ node_numbers * n) × (length keys.now ≡ 2 * n) }
     ensures { result ≡ holds n (lent edges.now nodes.now keys.now) }

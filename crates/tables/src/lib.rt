@@ -27,7 +27,8 @@ pub fn right_size(n: usize, edges: &[u64], nodes: &[u16], keys: &[u32]) -> bool
     Graph::empty(n).fits(edges, nodes, keys)
 }
 
-// The tables, if they hold a graph of n nodes.
+// The tables, if they hold a graph of n nodes. Inlined, so that they are handed back without being stored.
+#[inline(always)]
 pub fn check<'a>(
     n: usize,
     edges: &'a [u64],
