@@ -30,7 +30,7 @@ fn is_row_mirrored(edges: Edges, p: usize) -> bool
     ensures { result ≡ row_holds edges.entry.n edges.entry.words.now p }
 {
     for w in 0..Graph::ROW_WORDS {
-        // Judged together: with a return at each bit the walk takes up to twice the time, from one place of its code to another.
+        // Judged together: with a return at each bit the walk takes up to two and a half times as long, from one place of its code to another.
         let mut held = true;
         for k in Bits::of(edges.word(p, w)) {
             held &= is_mirrored(edges, p, WORD_BITS * w + k);

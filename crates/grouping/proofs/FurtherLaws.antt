@@ -1,7 +1,7 @@
 -- Further laws of chains and of slots, which no proof here cites.
-use Rattle.std.specs.Prelude.{◌≡◌, ℕ, suc, ◌+◌, ◌*◌, ◌<◌, ◌≤◌, Bool, true, false, not, ◌⊎◌, List, length, ◌==◌, ◌≢◌, nat_lt, slice_index, slice_index_or, slice_set, Option, None, Some, unwrap_or}
+use Rattle.std.specs.Prelude.{◌≡◌, ℕ, suc, ◌+◌, ◌*◌, ◌<◌, ◌≤◌, Bool, true, false, not, ◌⊎◌, List, length, ◌==◌, ◌≢◌, slice_index, slice_index_or, slice_set, Option, None, Some, unwrap_or}
 use Rattle.std.proofs.Math.Path.{refl, sym, ap, ap₂}
-use Rattle.std.proofs.Common.{◌∙◌, inl, inr, add-one, arith, eqb-true, eq-eqb, get_or-set_other, get_or-set_same, length-set, ltb-true, ltb-false, ne_eqb}
+use Rattle.std.proofs.Common.{◌∙◌, inl, inr, add-one, arith, eqb-true, eq-eqb, get_or-set_other, get_or-set_same, length-set, ne_eqb}
 use Rattle.std.specs.Int.Bits.{bit_xor, xor_zero_r}
 use Rattle.std.proofs.lemmas.Bool.{eqb-false, not-false, not-true}
 use Rattle.model.proofs.TestLaws.{decide, differ}
@@ -9,7 +9,7 @@ use Rattle.masking.specs.Masking.{Apart, drawn, shown}
 use Rattle.grouping.specs.declared.Leaders.{Leaders}
 use Rattle.grouping.specs.Least.{leading, least_visible}
 use Rattle.grouping.specs.Chains.{Chains, Entered, Links, Met, SlotsTell, Sought, class_alike, classed_slot, hash_of, row_word, slot_in, slot_in_class}
-use Rattle.grouping.specs.ChainLaws.{chains_keep, classed_slot_lem, links_keep, met_miss, seeking_start}
+use Rattle.grouping.specs.ChainLaws.{below, chains_keep, classed_slot_lem, links_keep, met_miss, seeking_start}
 use Rattle.grouping.specs.LeastLaws.{least-closed, least_fits, least-met_by, sought_more}
 use Rattle.grouping.specs.Keyed.{KeysTold, key_slot, nobody}
 use Rattle.grouping.specs.KeyedLaws.{keys_tell, nobody_hidden, shown-all}
@@ -22,13 +22,6 @@ hash_more rotate edges p w e g = rw (add-one w) (g ∙ ap₂ (λ (a b : ℕ). bi
 
 pub hash_done : (rotate : ℕ → ℕ) (edges : List ℕ) (p : ℕ) {w h : ℕ} → h ≡ hash_of rotate edges false p w → w ≡ 8 → h ≡ hash_of rotate edges false p 8
 hash_done rotate edges p e f = e ∙ ap (hash_of rotate edges false p) f
-
-below : (q u : ℕ) → q < u + 1 → (q < u) ⊎ (q ≡ u)
-below q u h = step (decide (nat_lt q u))
-  where
-    step : (nat_lt q u ≡ true) ⊎ (nat_lt q u ≡ false) → (q < u) ⊎ (q ≡ u)
-    step (inl t) = inl (ltb-true q u t)
-    step (inr t) = inr (omega (arith, ltb-false q u t))
 
 -- u leads, and is put in
 module _ {u s : ℕ} {t : Leaders} (l : Links u t) (hu : u < 512) (hs : s < 1024) where

@@ -161,7 +161,7 @@ chains_none slot leads l = record {
 pub links_keep : {u : ℕ} {t : Leaders} → Links u t → Links (u + 1) t
 links_keep l = record { last_size = l.last_size; earlier_size = l.earlier_size; below = λ s h. omega (arith, l.below s h); falls = l.falls }
 
-below : (q u : ℕ) → q < u + 1 → (q < u) ⊎ (q ≡ u)
+pub below : (q u : ℕ) → q < u + 1 → (q < u) ⊎ (q ≡ u)
 below q u h = step (decide (nat_lt q u))
   where
     step : (nat_lt q u ≡ true) ⊎ (nat_lt q u ≡ false) → (q < u) ⊎ (q ≡ u)

@@ -3,11 +3,12 @@ use Rattle.std.specs.Prelude.{◌≡◌, cond, List, [], ◌++◌, ℕ, suc, zer
 use Rattle.std.proofs.Math.Path.{refl, sym, ap, ap₂}
 use Rattle.std.proofs.Common.{subst, ◌∙◌, append-nil, drop_of_length-le, length-append, length-drop, length-take, ext_get_or, length-take-le, take_all, take_at, lt-ltb}
 use native.Mathlib.Omega.{arith}
+use Rattle.std.proofs.lemmas.List.{nil_from_length}
 use Rattle.std.proofs.Math.ListN.{get_or}
 use Rattle.model.specs.Graph.{Graph, node_numbers, row_words}
 use Rattle.model.specs.Tables.{Tables, edges_of, graph_in, graph_of, keys_of, tables_of}
 use Rattle.model.specs.Store.{node_word, node_words, state_graph}
-use Rattle.model.proofs.TableLaws.{class_at_lem, length_edges, mark_at_lem}
+use Rattle.model.proofs.TableLaws.{class_at_lem, length_edges, length_keys, length-nodes_of, mark_at_lem}
 use Rattle.model.proofs.StoreLaws.{length_words, word_at}
 use Rattle.buffers.specs.Filled.{Filled}
 use Rattle.buffers.specs.FilledLaws.{filled_is}
@@ -17,7 +18,7 @@ use Rattle.rings.specs.Steps.{Built, LabelsPut, Leading}
 use Rattle.groups.specs.FillLaws.{filled-leading, filled_proper, filled_tables, filled_within}
 use Rattle.keys.specs.KeySums.{LeastTold}
 use Rattle.grouping.specs.Keyed.{KeysTold}
-use Rattle.tables.specs.Lent.{Held}
+use Rattle.tables.specs.Lent.{Held, Sized}
 use Rattle.tables.specs.LentLaws.{held_sized}
 use Rattle.states.specs.States.{State, WordsFit, word_in}
 
@@ -80,6 +81,20 @@ module _ {n : ℕ} {t : Tables} (h : Held n t) where
     saved f =
         ap₂ (λ (x y : List ℕ). x ++ (ws ++ y)) (take_at es (drop (8 * n) to) (8 * n) front ∙ edges-copied ∙ held-edges) (drop-rest (8 * n) (es ++ drop (8 * n) to))
         ∙ ap (λ (y : List ℕ). edges_of (graph_of n t) ++ y) (append-nil ws ∙ saved-words (simp (length-take, length-drop) (omega (arith, whole_length))) f)
+
+-- where there is nobody, their lengths alone tell tables
+empty : {xs ys : List ℕ} → length xs ≡ 0 → length ys ≡ 0 → xs ≡ ys
+empty {xs} {ys} a b = nil_from_length xs a ∙ sym (nil_from_length ys b)
+
+pub empty_restored : (from words : List ℕ) {n : ℕ} {t : Tables} → n ≡ 0 → Sized n t → t ≡ tables_of (state_graph n from words)
+unfolding tables_of
+empty_restored from words {n} none sized =
+    let g = state_graph n from words in
+    let c : g.node_count ≡ n = unfold state_graph in refl in
+    let e = empty (omega (arith, sized.edges)) (omega (arith, length_edges g, c)) in
+    let d = empty (omega (arith, sized.nodes)) (omega (arith, length-nodes_of g, c)) in
+    let k = empty (omega (arith, sized.keys)) (omega (arith, length_keys g, c)) in
+    λ i. record { edges = e i; nodes = d i; keys = k i }
 
 -- what is restored
 module _ {n : ℕ} {edges words : List ℕ} (s : State n edges words) where

@@ -4,8 +4,11 @@ use Rattle.model.specs.Tables.{tables_of}
 use Rattle.model.specs.Store.{state_graph}
 use Rattle.buffers.specs.FilledLaws.{filled-all}
 use Rattle.rings.specs.LabelLaws.{put_all}
-use Rattle.states.specs.StateLaws.{copied_edges, copied_state, restored, state_edges, state_keys, state_leading, state_within, words_fit}
+use Rattle.states.specs.StateLaws.{copied_edges, copied_state, empty_restored, restored, state_edges, state_keys, state_leading, state_within, words_fit}
 use Rattle.states.proofs.restore.Goals as goal
+
+pub returns-then-n-eq0 : goal.returns-then-n-eq0
+returns-then-n-eq0 c = empty_restored _ _ c.if-n-eq0.true c.requires.0
 
 pub copy_words-requires : goal.copy_words-requires
 copy_words-requires c = let pre = c.requires in omega (arith, state_edges pre.1, pre.0.edges)
